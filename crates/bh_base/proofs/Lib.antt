@@ -1,0 +1,13 @@
+mod TextLemmas
+pub mod RowWords
+mod RowsAdmission
+mod RowsCircuit
+mod RowsHealth
+mod RowsTimeouts
+mod RowsCache
+mod RowsFallback
+pub mod Windows
+pub mod Tables
+pub mod Kept
+pub mod Views
+pub mod Rising

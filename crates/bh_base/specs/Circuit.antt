@@ -1,0 +1,93 @@
+-- The circuit of a group: what it says of a submit, and what a test's ending does to it.
+use Rattle.std.specs.Prelude.{ℕ, ◌-◌, ◌≤◌, Bool, true, false, ◌&&◌, not, ◌==◌, nat_le, Option, Some, None, if◌then◌else◌}
+use Rattle.bh_base.specs.declared.props.GroupProps.{GroupProps}
+use Rattle.bh_base.specs.declared.circuit.CircuitState.{CircuitState}
+use Rattle.bh_base.specs.declared.circuit.CircuitState.TheVariants as state
+use Rattle.bh_base.specs.declared.circuit.Snapshot.{Snapshot}
+use Rattle.bh_base.specs.declared.event.Health.{Health}
+use Rattle.bh_base.specs.declared.circuit.Admit.{Admit}
+use Rattle.bh_base.specs.declared.circuit.Admit.TheVariants as admit
+use Rattle.bh_base.specs.declared.circuit.End.{End}
+use Rattle.bh_base.specs.declared.circuit.End.TheVariants as end
+use Rattle.bh_base.specs.History.{percent}
+
+pub record Circuit : Type 0 where
+  pub state : CircuitState
+  pub snapshot : Option Snapshot
+
+abbrev pub new_circuit : Circuit
+new_circuit = record { state = state.Closed; snapshot = None }
+
+-- asked: what it says, and what it is then
+pub record Asked : Type 0 where
+  pub says : Admit
+  pub circuit : Circuit
+
+abbrev pub unchanged : Admit → Circuit → Asked
+unchanged says c = record { says = says; circuit = c }
+
+-- the snapshot that is kept, or one that is taken now
+abbrev pub snapshot_at : GroupProps → ℕ → Health → Option Snapshot → Snapshot
+snapshot_at props now health None = record { taken = now; health = health }
+snapshot_at props now health (Some s) =
+    if nat_le props.health_ms (now - s.taken) then record { taken = now; health = health } else s
+
+abbrev pub is_unhealthy : GroupProps → Health → Bool
+is_unhealthy props h = nat_le props.volume h.total && nat_le props.percent (percent h)
+
+abbrev pub asked_closed : GroupProps → ℕ → Snapshot → Asked
+asked_closed props now s =
+    if is_unhealthy props s.health
+    then record { says = admit.Short; circuit = record { state = state.Open now; snapshot = Some s } }
+    else record { says = admit.Pass; circuit = record { state = state.Closed; snapshot = Some s } }
+
+abbrev pub asked_at : CircuitState → GroupProps → ℕ → Health → ℕ → Circuit → Asked
+asked_at state.Closed props now health serial c = asked_closed props now (snapshot_at props now health c.snapshot)
+asked_at (state.Open opened) props now health serial c =
+    if nat_le props.sleep_ms (now - opened)
+    then record { says = admit.Test; circuit = record c { state = state.HalfOpen opened serial } }
+    else unchanged admit.Short c
+asked_at (state.HalfOpen opened test) props now health serial c = unchanged admit.Short c
+
+-- asked for the ticket of the serial, the first case that holds
+abbrev pub asked : GroupProps → ℕ → Health → ℕ → Circuit → Asked
+asked props now health serial c =
+    if not props.circuit_on then unchanged admit.Pass c else
+    if props.force_open then unchanged admit.Short c else
+    if props.force_closed then unchanged admit.Pass c else
+    asked_at c.state props now health serial c
+
+abbrev pub is_test : ℕ → CircuitState → Bool
+is_test serial (state.HalfOpen opened test) = serial == test
+is_test serial _ = false
+
+abbrev pub test_ended : End → ℕ → ℕ → Circuit → Circuit
+test_ended end.Success opened now c = new_circuit
+test_ended end.Error opened now c = record c { state = state.Open now }
+test_ended end.BadRequest opened now c = record c { state = state.Open opened }
+
+abbrev pub ended_at : CircuitState → ℕ → End → ℕ → Circuit → Circuit
+ended_at (state.HalfOpen opened test) serial end now c = if serial == test then test_ended end opened now c else c
+ended_at _ serial end now c = c
+
+-- the ticket of the serial has ended: this moves the circuit only where it is the test
+abbrev pub ended : ℕ → End → ℕ → Circuit → Circuit
+ended serial end now c = ended_at c.state serial end now c
+
+abbrev pub closes : ℕ → End → CircuitState → Bool
+closes serial end.Success s = is_test serial s
+closes serial _ s = false
+
+abbrev pub opened_by : CircuitState → ℕ → Type 0
+opened_by state.Closed now = Unit {0}
+opened_by (state.Open opened) now = opened ≤ now
+opened_by (state.HalfOpen opened test) now = opened ≤ now
+
+abbrev pub taken_by : Option Snapshot → ℕ → Type 0
+taken_by None now = Unit {0}
+taken_by (Some s) now = (s.taken ≤ now) × (s.health.errors ≤ s.health.total)
+
+-- no moment that the circuit keeps is later than now, and its snapshot is one of health
+pub record AreBefore (now : ℕ) (c : Circuit) : Type 0 where
+  pub opened : opened_by c.state now
+  pub taken : taken_by c.snapshot now

@@ -1,0 +1,262 @@
+-- One group alone: what each step answers, and what it leaves.
+use Rattle.std.specs.Prelude.{ℕ, ◌+◌, ◌-◌, Bool, true, false, ◌&&◌, ◌||◌, not, ◌==◌, nat_lt, nat_le, max, min, List, [], ◌∷◌, ◌++◌, map, filter, find, count_by, length, replicate, Option, Some, None, is_some, if◌then◌else◌}
+use Rattle.bh_base.specs.declared.props.GroupProps.{GroupProps}
+use Rattle.bh_base.specs.declared.props.Strategy.{Strategy}
+use Rattle.bh_base.specs.declared.props.Strategy.TheVariants as strategy
+use Rattle.bh_base.specs.declared.ticket.Ticket.{Ticket}
+use Rattle.bh_base.specs.declared.ticket.TicketState.{TicketState}
+use Rattle.bh_base.specs.declared.ticket.TicketState.TheVariants as ticket
+use Rattle.bh_base.specs.declared.step.Request.{Request}
+use Rattle.bh_base.specs.declared.step.Op.{Op}
+use Rattle.bh_base.specs.declared.step.Op.TheVariants as op
+use Rattle.bh_base.specs.declared.reply.Reply.{Reply}
+use Rattle.bh_base.specs.declared.reply.Reply.TheVariants as reply
+use Rattle.bh_base.specs.declared.reply.Answer.{Answer}
+use Rattle.bh_base.specs.declared.reply.Answer.TheVariants as answer
+use Rattle.bh_base.specs.declared.reply.Cause.{Cause}
+use Rattle.bh_base.specs.declared.reply.Cause.TheVariants as cause
+use Rattle.bh_base.specs.declared.step.FallbackEnd.{FallbackEnd}
+use Rattle.bh_base.specs.declared.step.FallbackEnd.TheVariants as fallback
+use Rattle.bh_base.specs.declared.reply.FallbackFault.{FallbackFault}
+use Rattle.bh_base.specs.declared.reply.FallbackFault.TheVariants as fault
+use Rattle.bh_base.specs.declared.circuit.Admit.{Admit}
+use Rattle.bh_base.specs.declared.circuit.Admit.TheVariants as admit
+use Rattle.bh_base.specs.declared.circuit.End.{End}
+use Rattle.bh_base.specs.declared.circuit.End.TheVariants as end
+use Rattle.bh_base.specs.declared.circuit.CircuitState.{CircuitState}
+use Rattle.bh_base.specs.declared.circuit.CircuitState.TheVariants as state
+use Rattle.bh_base.specs.declared.event.EventKind.{EventKind}
+use Rattle.bh_base.specs.declared.event.EventKind.TheVariants as kind
+use Rattle.bh_base.specs.declared.event.Rolling.{Rolling}
+use Rattle.bh_base.specs.History.{percent}
+use Rattle.bh_base.specs.Circuit.{Circuit, Asked, asked, ended, closes, is_test}
+use Rattle.bh_base.specs.Tickets.{is_queued, is_running, is_in_fallback, is_busy_at, is_held_at, is_in_fallback_at, is_cached_as, is_cached_in, changed_first, in_state}
+
+-- all that a group has beside its history
+pub record Present : Type 0 where
+  pub props : GroupProps
+  pub limit : ℕ
+  pub steps : ℕ
+  pub latest : ℕ
+  -- the next ticket's
+  pub serial : ℕ
+  -- by rising serial
+  pub tickets : List Ticket
+  pub circuit : Circuit
+
+-- what a step does: its reply, what it leaves, the kinds of the events that it records, and whether the circuit closed
+pub record Outcome : Type 0 where
+  pub reply : Reply
+  pub present : Present
+  pub events : List EventKind
+  pub closed : Bool
+
+abbrev pub answers : Reply → List EventKind → Present → Outcome
+answers r events g = record { reply = r; present = g; events = events; closed = false }
+
+abbrev pub busy_count : Present → ℕ
+busy_count g = count_by (λ t. t.busy) g.tickets
+
+abbrev pub queued_count : Present → ℕ
+queued_count g = count_by is_queued g.tickets
+
+abbrev pub in_fallback_count : Present → ℕ
+in_fallback_count g = count_by is_in_fallback g.tickets
+
+abbrev pub free_count : Present → ℕ
+free_count g = g.props.slots - length g.tickets
+
+abbrev pub changed : (Ticket → Bool) → (Ticket → Ticket) → Present → Present
+changed p f g = record g { tickets = changed_first p f g.tickets }
+
+abbrev pub ended_in : Present → ℕ → End → Present
+ended_in g serial e = record g { circuit = ended serial e g.latest g.circuit }
+
+-- Submit
+
+abbrev pub cached_as : Option (ℕ × List ℕ) → Present → Option Ticket
+cached_as None g = None
+cached_as (Some name) g = if g.props.cache_on then find (is_cached_as name) g.tickets else None
+
+-- how many may wait for a worker
+abbrev pub queue_limit : Option ℕ → ℕ → ℕ
+queue_limit None threshold = 0
+queue_limit (Some most) threshold = min most threshold
+
+abbrev pub pool_admits : ℕ → ℕ → ℕ → Option ℕ → ℕ → Bool
+pool_admits busy queued core max_queue threshold = nat_lt (busy + queued) (core + queue_limit max_queue threshold)
+
+abbrev pub is_admitted : Present → Strategy → Bool
+is_admitted g strategy.Semaphore = nat_lt (busy_count g) g.props.semaphore
+is_admitted g strategy.Thread = pool_admits (busy_count g) (queued_count g) g.props.core g.props.max_queue g.props.queue_threshold
+
+-- with a ticket of the next serial
+abbrev pub with_ticket : Request → TicketState → Bool → Bool → Present → Present
+with_ticket request state busy test g = record g {
+  serial = g.serial + 1;
+  tickets = g.tickets ++ record {
+    serial = g.serial;
+    arg = request.arg;
+    cache = request.cache;
+    submitted = g.latest;
+    state = state;
+    busy = busy;
+    holders = 1;
+    cached = g.props.cache_on && is_some request.cache;
+    test = test;
+  } ∷ [];
+}
+
+abbrev pub due_fallback : Cause → EventKind → Request → Bool → Present → Outcome
+due_fallback cause event request test g =
+    answers (reply.FallbackDue g.serial cause) (event ∷ []) (with_ticket request (ticket.NeedsFallback cause) false test g)
+
+-- a test that is rejected has failed
+abbrev pub rejected : Strategy → Request → Bool → Present → Outcome
+rejected strategy.Semaphore request test g =
+    due_fallback cause.SemaphoreRejected kind.SemaphoreRejected request test (ended_in g g.serial end.Error)
+rejected strategy.Thread request test g =
+    due_fallback cause.PoolRejected kind.ThreadPoolRejected request test (ended_in g g.serial end.Error)
+
+abbrev pub admitted : Strategy → Request → Bool → Present → Outcome
+admitted strategy.Semaphore request test g = answers (reply.Inline g.serial) [] (with_ticket request ticket.Running true test g)
+admitted strategy.Thread request test g = answers (reply.Queued g.serial) [] (with_ticket request ticket.Queued false test g)
+
+abbrev pub placed : Request → Bool → Present → Outcome
+placed request test g =
+    if is_admitted g g.props.strategy then admitted g.props.strategy request test g else rejected g.props.strategy request test g
+
+abbrev pub circuit_said : Admit → Request → Present → Outcome
+circuit_said admit.Short request g = due_fallback cause.ShortCircuited kind.ShortCircuited request false g
+circuit_said admit.Test request g = placed request true g
+circuit_said admit.Pass request g = placed request false g
+
+abbrev pub circuit_asked : Asked → Request → Present → Outcome
+circuit_asked a request g = circuit_said a.says request (record g { circuit = a.circuit })
+
+abbrev pub submitted : Option Ticket → Request → Rolling → Present → Outcome
+submitted (Some t) request rolling g =
+    answers (reply.Joined t.serial) (kind.ResponseFromCache ∷ []) (changed (λ u. u.serial == t.serial) (λ u. record u { holders = u.holders + 1 }) g)
+submitted None request rolling g =
+    if free_count g == 0
+    then answers reply.GroupFull [] g
+    else circuit_asked (asked g.props g.latest rolling.health g.serial g.circuit) request g
+
+-- Start
+
+abbrev pub started : Option Ticket → Present → Outcome
+started None g = answers reply.Idle [] g
+started (Some t) g =
+    answers (reply.Assigned t.serial t.arg) [] (changed is_queued (λ t. record t { state = ticket.Running; busy = true }) g)
+
+-- Finish and Fail
+
+-- the run of the ticket has ended, and it goes on to the state
+abbrev pub run_ended : Option Ticket → ℕ → TicketState → End → EventKind → Present → Outcome
+run_ended None serial state e event g = answers reply.NotRunning [] g
+run_ended (Some t) serial state e event g =
+    if is_running t
+    then record {
+      reply = reply.Done;
+      present = ended_in (changed (is_busy_at serial) (λ t. record t { state = state; busy = false }) g) serial e;
+      events = event ∷ [];
+      closed = closes serial e g.circuit.state;
+    }
+    else answers reply.Late [] (changed (is_busy_at serial) (λ t. record t { busy = false }) g)
+
+-- Expire
+
+abbrev pub is_due : Present → Ticket → Bool
+is_due g t = g.props.timeout_on && (is_queued t || is_running t) && nat_le g.props.timeout_ms (g.latest - t.submitted)
+
+abbrev pub test_timed_out : Option Ticket → Present → Circuit
+test_timed_out None g = g.circuit
+test_timed_out (Some t) g = ended t.serial end.Error g.latest g.circuit
+
+abbrev pub expired : List Ticket → Present → Outcome
+expired due g = answers (reply.Expired (length due)) (replicate (length due) kind.Timeout) (record g {
+  tickets = map (λ t. if is_due g t then in_state (ticket.NeedsFallback cause.Timeout) t else t) g.tickets;
+  circuit = test_timed_out (find (λ t. is_test t.serial g.circuit.state) due) g;
+})
+
+-- Collect
+
+abbrev pub released_by_one : Ticket → Ticket
+released_by_one t = record t { holders = t.holders - 1 }
+
+-- the fallback may not run: the ticket is answered, and this holder has collected
+abbrev pub without_fallback : ℕ → Cause → FallbackFault → List EventKind → Present → Outcome
+without_fallback serial cause fault events g =
+    let a : Answer = answer.Error cause fault in
+    answers (reply.Answered a) events (changed (is_held_at serial) (λ t. released_by_one (in_state (ticket.Answered a) t)) g)
+
+abbrev pub collected_in : TicketState → ℕ → Present → Outcome
+collected_in (ticket.Answered a) serial g = answers (reply.Answered a) [] (changed (is_held_at serial) released_by_one g)
+collected_in (ticket.NeedsFallback cause) serial g =
+    if not g.props.fallback_on then without_fallback serial cause fault.Disabled (kind.ExceptionThrown ∷ []) g else
+    if nat_le g.props.fallback_permits (in_fallback_count g) then without_fallback serial cause fault.Rejected (kind.FallbackRejection ∷ kind.ExceptionThrown ∷ []) g else
+    answers (reply.RunFallback cause) [] (changed (is_held_at serial) (in_state (ticket.InFallback cause)) g)
+collected_in _ serial g = answers reply.Pending [] g
+
+abbrev pub collected : Option Ticket → ℕ → Present → Outcome
+collected None serial g = answers reply.NoTicket [] g
+collected (Some t) serial g = collected_in t.state serial g
+
+-- FallbackDone
+
+abbrev pub fallback_answer : FallbackEnd → Cause → Answer
+fallback_answer (fallback.Success body) cause = answer.FallbackValue cause body
+fallback_answer fallback.Failure cause = answer.Error cause fault.Failed
+fallback_answer fallback.Missing cause = answer.Error cause fault.Missing
+
+abbrev pub fallback_events : FallbackEnd → List EventKind
+fallback_events (fallback.Success body) = kind.FallbackSuccess ∷ []
+fallback_events fallback.Failure = kind.FallbackFailure ∷ kind.ExceptionThrown ∷ []
+fallback_events fallback.Missing = kind.FallbackMissing ∷ kind.ExceptionThrown ∷ []
+
+abbrev pub fallback_done_in : TicketState → ℕ → FallbackEnd → Present → Outcome
+fallback_done_in (ticket.InFallback cause) serial e g =
+    answers reply.Done (fallback_events e) (changed (is_in_fallback_at serial) (in_state (ticket.Answered (fallback_answer e cause))) g)
+fallback_done_in _ serial e g = answers reply.NotInFallback [] g
+
+abbrev pub fallback_done : Option Ticket → ℕ → FallbackEnd → Present → Outcome
+fallback_done None serial e g = answers reply.NotInFallback [] g
+fallback_done (Some t) serial e g = fallback_done_in t.state serial e g
+
+-- Close
+
+abbrev pub context_closed : ℕ → Present → Outcome
+context_closed context g = answers (reply.Closed (count_by (is_cached_in context) g.tickets)) [] (record g {
+  tickets = map (λ t. if is_cached_in context t then record t { cached = false } else t) g.tickets;
+})
+
+-- Read
+
+abbrev pub metrics : Rolling → Present → Reply
+metrics rolling g = reply.Metrics (record {
+  circuit = g.circuit.state;
+  counts = rolling.counts;
+  errors = rolling.health.errors;
+  total = rolling.health.total;
+  percent = percent rolling.health;
+  busy = busy_count g;
+  queued = queued_count g;
+  free = free_count g;
+})
+
+-- the case of each op; the latest moment is the step's
+
+abbrev pub outcome : Op → Rolling → Present → Outcome
+outcome (op.Submit request) rolling g = submitted (cached_as request.cache g) request rolling g
+outcome op.Start rolling g = started (if nat_lt (busy_count g) g.props.core then find is_queued g.tickets else None) g
+outcome (op.Finish serial body) rolling g =
+    run_ended (find (is_busy_at serial) g.tickets) serial (ticket.Answered (answer.Value body)) end.Success kind.Success g
+outcome (op.Fail serial true) rolling g =
+    run_ended (find (is_busy_at serial) g.tickets) serial (ticket.Answered answer.BadRequest) end.BadRequest kind.BadRequest g
+outcome (op.Fail serial false) rolling g =
+    run_ended (find (is_busy_at serial) g.tickets) serial (ticket.NeedsFallback cause.Failure) end.Error kind.Failure g
+outcome op.Expire rolling g = expired (filter (is_due g) g.tickets) g
+outcome (op.Collect serial) rolling g = collected (find (is_held_at serial) g.tickets) serial g
+outcome (op.FallbackDone serial e) rolling g = fallback_done (find (is_in_fallback_at serial) g.tickets) serial e g
+outcome (op.Close context) rolling g = context_closed context g
+outcome op.Read rolling g = answers (metrics rolling g) [] g

@@ -1,0 +1,114 @@
+-- Whole runs of one group's machine, and what can be seen of its state.
+use Rattle.std.specs.Prelude.{◌≡◌, ℕ, ◌+◌, ◌-◌, ◌*◌, ◌<◌, ◌≤◌, ◌==◌, Bool, true, false, max, List, [], ◌∷◌, ◌++◌, map, filter, length, Option, Some, None, if◌then◌else◌}
+use Rattle.std.specs.List.{AllByRecursion}
+use Rattle.bh_base.specs.declared.props.GroupProps.{GroupProps}
+use Rattle.bh_base.specs.declared.step.Op.{Op}
+use Rattle.bh_base.specs.declared.step.Step.{Step}
+use Rattle.bh_base.specs.declared.reply.Reply.{Reply}
+use Rattle.bh_base.specs.declared.reply.Reply.TheVariants as reply
+use Rattle.bh_base.specs.declared.event.Event.{Event}
+use Rattle.bh_base.specs.declared.event.EventKind.{EventKind}
+use Rattle.bh_base.specs.declared.event.Counts.{Counts}
+use Rattle.bh_base.specs.History.{window_of, rolling, table, health_events}
+use Rattle.bh_base.specs.Circuit.{new_circuit}
+use Rattle.bh_base.specs.Tickets.{is_kept}
+use Rattle.bh_base.specs.Machine.{Present, Outcome, outcome}
+
+-- a group: what it has now, and the list of all its events
+pub record State : Type 0 where
+  pub present : Present
+  pub history : List Event
+  -- the place in the history where the events of health begin
+  pub health_from : ℕ
+
+-- a new group
+abbrev pub opened : GroupProps → ℕ → State
+opened props limit = record {
+  present = record { props = props; limit = limit; steps = 0; latest = 0; serial = 1; tickets = []; circuit = new_circuit };
+  history = [];
+  health_from = 0;
+}
+
+-- a state that a group can be in
+pub record IsSound (s : State) : Type 0 where
+  pub past : AllByRecursion (λ event. event.moment ≤ s.present.latest) s.history
+  pub from : s.health_from ≤ length s.history
+
+-- the step's number and moment
+abbrev pub begun : ℕ → Present → Present
+begun now g = record g { steps = g.steps + 1; latest = max g.latest now }
+
+-- tickets that no one needs are gone
+abbrev pub released : Present → Present
+released g = record g { tickets = filter is_kept g.tickets }
+
+abbrev pub events_at : ℕ → List EventKind → List Event
+events_at moment kinds = map (λ k. record { moment = moment; kind = k }) kinds
+
+-- what the op does in a group that looks so at the step's moment
+abbrev pub outcome_in : State → Op → ℕ → Outcome
+outcome_in s op now =
+    let g = begun now s.present in
+    outcome op (rolling (window_of g.props) s.history s.health_from g.latest) g
+
+abbrev pub left_by : State → Outcome → State
+left_by s out =
+    let history = s.history ++ events_at out.present.latest out.events in
+    record {
+      present = released out.present;
+      history = history;
+      health_from = (if out.closed then length history else s.health_from);
+    }
+
+pub record Stepped : Type 0 where
+  pub reply : Reply
+  pub state : State
+
+-- a group that has done its limit of steps is worn, and changes no more
+abbrev pub stepped : Bool → State → Outcome → Stepped
+stepped true s out = record { reply = reply.Worn; state = s }
+stepped false s out = record { reply = out.reply; state = left_by s out }
+
+abbrev pub is_worn : Present → Bool
+is_worn g = g.steps == g.limit
+
+abbrev pub step : State → Op → ℕ → Stepped
+step s op now = stepped (is_worn s.present) s (outcome_in s op now)
+
+-- what can be seen of a state: its events are counted by buckets
+pub record View : Type 0 where
+  pub present : Present
+  pub table : List Counts
+  pub health : List Counts
+
+abbrev pub view : State → View
+view s = record {
+  present = s.present;
+  table = table (window_of s.present.props) s.history s.present.latest;
+  health = table (window_of s.present.props) (health_events s.health_from s.history) s.present.latest;
+}
+
+-- whole runs
+
+abbrev pub replies : State → List Step → List Reply
+replies s [] = []
+replies s (x ∷ xs) = (step s x.op x.now).reply ∷ replies (step s x.op x.now).state xs
+
+abbrev pub state_after : State → List Step → State
+state_after s [] = s
+state_after s (x ∷ xs) = state_after (step s x.op x.now).state xs
+
+-- the steps of one group, in order
+abbrev pub own : ℕ → List Step → List Step
+own group steps = filter (λ x. x.group.0 == group) steps
+
+-- two states with equal views give equal replies to every step, and equal views after it
+abbrev pub ViewLaw : Type 0
+ViewLaw =
+    (s t : State) (op : Op) (now : ℕ) → IsSound s → IsSound t → view s ≡ view t
+    → ((step s op now).reply ≡ (step t op now).reply) × (view (step s op now).state ≡ view (step t op now).state)
+
+-- a new group is sound, and each step keeps it so
+pub record StaysSound : Type 0 where
+  pub opened : (props : GroupProps) (limit : ℕ) → IsSound (opened props limit)
+  pub stepped : (s : State) (op : Op) (now : ℕ) → IsSound s → IsSound (step s op now).state

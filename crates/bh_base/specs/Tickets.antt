@@ -1,0 +1,43 @@
+-- The tickets of a group: what each is, and which one a serial or a name means.
+use Rattle.std.specs.Prelude.{ℕ, Bool, true, false, ◌&&◌, ◌||◌, ◌==◌, nat_lt, nat_eq, List, [], ◌∷◌, Option, Some, None, if◌then◌else◌}
+use Rattle.std.specs.Cmp.Lexicographic.{pointwise}
+use Rattle.bh_base.specs.declared.ticket.Ticket.{Ticket}
+use Rattle.bh_base.specs.declared.ticket.TicketState.{TicketState}
+use Rattle.bh_base.specs.declared.ticket.TicketState.TheVariants as ticket
+
+abbrev pub is_queued : Ticket → Bool
+is_queued t = elim t.state [ ticket.Queued ↦ true | _ ↦ false ]
+
+abbrev pub is_running : Ticket → Bool
+is_running t = elim t.state [ ticket.Running ↦ true | _ ↦ false ]
+
+abbrev pub is_in_fallback : Ticket → Bool
+is_in_fallback t = elim t.state [ ticket.InFallback _ ↦ true | _ ↦ false ]
+
+abbrev pub is_kept : Ticket → Bool
+is_kept t = t.busy || nat_lt 0 t.holders || t.cached
+
+-- the tickets that a serial means to a step
+abbrev pub is_busy_at : ℕ → Ticket → Bool
+is_busy_at serial t = t.serial == serial && t.busy
+
+abbrev pub is_held_at : ℕ → Ticket → Bool
+is_held_at serial t = t.serial == serial && nat_lt 0 t.holders
+
+abbrev pub is_in_fallback_at : ℕ → Ticket → Bool
+is_in_fallback_at serial t = t.serial == serial && is_in_fallback t
+
+-- cached under the context and key
+abbrev pub is_cached_as : ℕ × List ℕ → Ticket → Bool
+is_cached_as name t = t.cached && elim t.cache [ None ↦ false | Some given ↦ (given.0 == name.0) && pointwise nat_eq given.1 name.1 ]
+
+abbrev pub is_cached_in : ℕ → Ticket → Bool
+is_cached_in context t = t.cached && elim t.cache [ None ↦ false | Some given ↦ given.0 == context ]
+
+-- the first ticket that passes the test is changed
+abbrev pub changed_first : (Ticket → Bool) → (Ticket → Ticket) → List Ticket → List Ticket
+changed_first p f [] = []
+changed_first p f (t ∷ ts) = if p t then f t ∷ ts else t ∷ changed_first p f ts
+
+abbrev pub in_state : TicketState → Ticket → Ticket
+in_state s t = record t { state = s }

@@ -1,0 +1,20 @@
+//! The types of the command service, and the definition of the machine that one group is.
+#![tactic(auto)]
+
+pub mod circuit;
+pub mod event;
+pub mod laws;
+pub mod props;
+pub mod reply;
+pub mod step;
+pub mod text;
+pub mod ticket;
+
+pub use circuit::{Admit, CircuitState, End, Snapshot};
+pub use event::{Counts, Event, EventKind, Health, Rolling};
+pub use laws::{serials_rise, states_stay_sound, view_law};
+pub use props::{GroupProps, Strategy};
+pub use reply::{Answer, CallError, Cause, FallbackFault, Metrics, Reply};
+pub use step::{FallbackEnd, GroupId, Moment, Op, Request, RunEnd, Serial, Step};
+pub use text::{Text, TooLong};
+pub use ticket::{Ticket, TicketState};

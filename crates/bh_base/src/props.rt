@@ -1,0 +1,54 @@
+//! The properties of a group (Hystrix wiki, "Configuration").
+
+/// Who runs the dependency (`execution.isolation.strategy`).
+#[derive(Clone, Copy, Debug, PartialEq, Eq)]
+pub enum Strategy {
+    /// A worker of the group's thread pool.
+    Thread,
+    /// The caller, under one of the group's permits.
+    Semaphore,
+}
+
+/// The properties of a group. The range of a number without one of its own is 0 to 4,294,967,295.
+#[derive(Clone, Copy, Debug, PartialEq, Eq)]
+pub struct GroupProps {
+    /// Tickets at a time, 1 to 4,096 (this service's own).
+    pub slots: u64,
+    pub strategy: Strategy,
+    /// `execution.isolation.thread.timeoutInMilliseconds`.
+    pub timeout_ms: u64,
+    /// `execution.timeout.enabled`.
+    pub timeout_on: bool,
+    /// `execution.isolation.semaphore.maxConcurrentRequests`: permits for runs by the caller.
+    pub semaphore: u64,
+    /// `fallback.isolation.semaphore.maxConcurrentRequests`.
+    pub fallback_permits: u64,
+    /// `fallback.enabled`.
+    pub fallback_on: bool,
+    /// `circuitBreaker.enabled`.
+    pub circuit_on: bool,
+    /// `circuitBreaker.requestVolumeThreshold`: with fewer runs in the window the circuit stays closed.
+    pub volume: u64,
+    /// `circuitBreaker.sleepWindowInMilliseconds`: from opening until a test call may pass.
+    pub sleep_ms: u64,
+    /// `circuitBreaker.errorThresholdPercentage`.
+    pub percent: u64,
+    /// `circuitBreaker.forceOpen`.
+    pub force_open: bool,
+    /// `circuitBreaker.forceClosed`.
+    pub force_closed: bool,
+    /// `metrics.rollingStats.timeInMilliseconds`: 1 to 3,600,000, a multiple of the buckets.
+    pub window_ms: u64,
+    /// `metrics.rollingStats.numBuckets`: 1 to 60.
+    pub buckets: u64,
+    /// `metrics.healthSnapshot.intervalInMilliseconds`.
+    pub health_ms: u64,
+    /// `requestCache.enabled`.
+    pub cache_on: bool,
+    /// `coreSize`: workers, 1 to 64.
+    pub core: u64,
+    /// `maxQueueSize`: above 0, or None, which stands for -1, no queue.
+    pub max_queue: Option<u64>,
+    /// `queueSizeRejectionThreshold`: as many may wait, if the queue is longer.
+    pub queue_threshold: u64,
+}
