@@ -11,3 +11,4 @@ pub mod Tables
 pub mod Kept
 pub mod Views
 pub mod Rising
+pub mod Answering

@@ -10,6 +10,7 @@ use Rattle.bh_base.specs.declared.event.EventKind.TheVariants as kind
 use Rattle.bh_base.specs.declared.event.Event.{Event}
 use Rattle.bh_base.specs.declared.event.Counts.{Counts}
 use Rattle.bh_base.specs.History.{Window, is_kind, count_in, counts_by, counts_at, bucket_of, table}
+use Rattle.bh_base.specs.Tables.{no_counts, row_at, new_at, later_table}
 use Rattle.bh_base.specs.Runs.{events_at}
 use Rattle.bh_base.proofs.Windows.{one, div_mono, sum_by-same, sum_by-none, count_in-counts_by}
 
@@ -35,22 +36,6 @@ map_same : {X : Type 0} (f g : ℕ → X) (n : ℕ) → X → ((a : ℕ) → a <
 map_same f g n d h =
     fill_by_all g (map f (range_with_len 0 n)) n d (length-map-range_with_len f 0 n)
     (λ a lt. get_or-map-range_with_len f 0 n a a d lt (omega arith) ∙ h a lt)
-
-abbrev pub none : Counts
-none = counts_by (λ k. 0)
-
--- the counts of a bucket that is `shift` buckets newer
-abbrev pub row_at : List Counts → ℕ → ℕ → EventKind → ℕ
-row_at rows shift age k = if nat_lt age shift then 0 else count_in (get_or rows (age - shift) none) k
-
--- how many of the kinds are new in the bucket
-abbrev pub new_at : List EventKind → ℕ → EventKind → ℕ
-new_at kinds age k = if age == 0 then count_by (λ l. is_kind l k) kinds else 0
-
--- the table at the moment, with events of these kinds added then
-abbrev pub later_table : Window → ℕ → List Counts → ℕ → List EventKind → List Counts
-later_table props latest rows moment kinds =
-    map (λ age. counts_by (λ k. row_at rows (bucket_of props moment - bucket_of props latest) age k + new_at kinds age k)) (range_with_len 0 props.buckets)
 
 bucket_too_old : (x : Bool) (b last end age : ℕ) → b ≤ last → last ≤ end → age < end - last → one (x && (b + age == end)) ≡ 0
 bucket_too_old true b last end age old le young = grind (arith, nat_tests)
@@ -91,7 +76,7 @@ count_old props history latest moment age k past later inside =
     let along : last ≤ end = div_mono latest moment props.width later in
     old_at (nat_lt age (end - last)) refl along
   where
-    old_at : (young : Bool) → nat_lt age (bucket_of props moment - bucket_of props latest) ≡ young → bucket_of props latest ≤ bucket_of props moment → count_by (λ e. is_kind e.kind k && (bucket_of props e.moment + age == bucket_of props moment)) history ≡ (if young then 0 else count_in (get_or (table props history latest) (age - (bucket_of props moment - bucket_of props latest)) none) k)
+    old_at : (young : Bool) → nat_lt age (bucket_of props moment - bucket_of props latest) ≡ young → bucket_of props latest ≤ bucket_of props moment → count_by (λ e. is_kind e.kind k && (bucket_of props e.moment + age == bucket_of props moment)) history ≡ (if young then 0 else count_in (get_or (table props history latest) (age - (bucket_of props moment - bucket_of props latest)) no_counts) k)
     old_at true is along =
         let young : age < bucket_of props moment - bucket_of props latest = grind (arith, nat_tests) in
         sum_by-same (λ e. e.moment ≤ latest) _ (λ e. 0) (λ e before. bucket_too_old (is_kind e.kind k) (bucket_of props e.moment) (bucket_of props latest) (bucket_of props moment) age (div_mono e.moment latest props.width before) along young) history past
@@ -101,10 +86,10 @@ count_old props history latest moment age k past later inside =
         let shifted = age - (bucket_of props moment - bucket_of props latest) in
         sum_by-same (λ e. e.moment ≤ latest) _ _ (λ e before. bucket_shifted (is_kind e.kind k) (bucket_of props e.moment) (bucket_of props latest) (bucket_of props moment) age along old) history past
         ∙ sym (count_in-counts_by (λ l. count_by (λ e. is_kind e.kind l && (bucket_of props e.moment + shifted == bucket_of props latest)) history) k)
-        ∙ sym (ap (λ c. count_in c k) (get_or-map-range_with_len (counts_at props history (bucket_of props latest)) 0 props.buckets shifted shifted none (omega arith) (omega arith)))
+        ∙ sym (ap (λ c. count_in c k) (get_or-map-range_with_len (counts_at props history (bucket_of props latest)) 0 props.buckets shifted shifted no_counts (omega arith) (omega arith)))
 
 pub table_later : (props : Window) (history : List Event) (latest moment : ℕ) (kinds : List EventKind) → AllByRecursion (λ e. e.moment ≤ latest) history → latest ≤ moment → table props (history ++ events_at moment kinds) moment ≡ later_table props latest (table props history latest) moment kinds
 table_later props history latest moment kinds past later =
-    map_same _ _ props.buckets none (λ age inside. counts_by_same _ _ (λ k.
+    map_same _ _ props.buckets no_counts (λ age inside. counts_by_same _ _ (λ k.
     sum_by-append (λ e. one (is_kind e.kind k && (bucket_of props e.moment + age == bucket_of props moment))) history (events_at moment kinds)
     ∙ cong_add (count_old props history latest moment age k past later inside) (count_new props moment age k kinds)))

@@ -16,8 +16,10 @@ use Rattle.bh_base.specs.declared.event.Rolling.{Rolling}
 use Rattle.bh_base.specs.History.{Window, window_of, rolling, rolling_by, health_by, counts_by, count, table, health_events, is_of_health}
 use Rattle.bh_base.specs.Machine.{Present, Outcome, outcome}
 use Rattle.bh_base.specs.Runs.{State, Stepped, View, IsSound, StaysSound, opened, view, step, stepped, left_by, outcome_in, events_at, begun, released, is_worn}
-use Rattle.bh_base.proofs.Windows.{sum_in, count_from_table}
-use Rattle.bh_base.proofs.Tables.{counts_by_same, later_table, table_later, none}
+use Rattle.bh_base.specs.Tables.{no_counts, no_rows, sum_in, later_table}
+use Rattle.bh_base.specs.Seen.{view_rolling, view_outcome, view_recorded, view_reply, view_after}
+use Rattle.bh_base.proofs.Windows.{count_from_table}
+use Rattle.bh_base.proofs.Tables.{counts_by_same, table_later}
 use Rattle.bh_base.proofs.Kept.{Keeps, outcome_keeps}
 
 rolling_by_same : (f g p q : EventKind → ℕ) → ((k : EventKind) → f k ≡ g k) → ((k : EventKind) → p k ≡ q k) → rolling_by f p ≡ rolling_by g q
@@ -31,11 +33,6 @@ rolling_by_same f g p q h l = λ i. record {
 
     errors_same : (health_by p).errors ≡ (health_by q).errors
     errors_same = omega (arith, l kind.Failure, l kind.Timeout, l kind.ThreadPoolRejected, l kind.SemaphoreRejected)
-
--- what the view says of the history at a later moment
-abbrev pub view_rolling : View → ℕ → Rolling
-view_rolling v moment =
-    rolling_by (sum_in (window_of v.present.props) v.present.latest v.table moment) (sum_in (window_of v.present.props) v.present.latest v.health moment)
 
 abbrev AllPast : ℕ → List Event → Type 0
 AllPast latest history = AllByRecursion (λ e. e.moment ≤ latest) history
@@ -66,25 +63,9 @@ rolling_seen s moment sound later =
     (λ k. count_from_table (window_of s.present.props) s.history s.present.latest moment k sound.past later)
     (λ k. count_from_table (window_of s.present.props) (health_events s.health_from s.history) s.present.latest moment k (past_health _ _ _ sound.past) later)
 
--- what a step does, by the view
-abbrev pub view_outcome : View → Op → ℕ → Outcome
-view_outcome v o now =
-    let g = begun now v.present in
-    outcome o (view_rolling v g.latest) g
-
 outcome_seen : (s : State) (o : Op) (now : ℕ) → IsSound s → view_outcome (view s) o now ≡ outcome_in s o now
 outcome_seen s o now sound =
     ap (λ t. outcome o t (begun now s.present)) (rolling_seen s (max s.present.latest now) sound (omega arith))
-
-abbrev no_rows : Window → List Counts
-no_rows w = map (λ age. none) (range_with_len 0 w.buckets)
-
-abbrev pub view_recorded : View → Outcome → View
-view_recorded v out = record {
-  present = released out.present;
-  table = later_table (window_of v.present.props) v.present.latest v.table out.present.latest out.events;
-  health = (if out.closed then no_rows (window_of v.present.props) else later_table (window_of v.present.props) v.present.latest v.health out.present.latest (filter is_of_health out.events));
-}
 
 filter_events : (moment : ℕ) (kinds : List EventKind) → filter (λ e. is_of_health e.kind) (events_at moment kinds) ≡ events_at moment (filter is_of_health kinds)
 filter_events moment [] = refl
@@ -118,13 +99,6 @@ recorded_seen s out sound kept later = λ i. record {
   health = (ap (λ p. table (window_of p) (health_events (if out.closed then length (s.history ++ events_at out.present.latest out.events) else s.health_from) (s.history ++ events_at out.present.latest out.events)) out.present.latest) kept
       ∙ health_at out.closed (window_of s.present.props) s.history s.health_from s.present.latest out.present.latest out.events sound.past sound.from later) i;
 }
-
--- the step, by the view
-abbrev pub view_reply : View → Op → ℕ → Reply
-view_reply v o now = if is_worn v.present then reply.Worn else (view_outcome v o now).reply
-
-abbrev pub view_after : View → Op → ℕ → View
-view_after v o now = if is_worn v.present then v else view_recorded v (view_outcome v o now)
 
 pub reply_seen : (s : State) (o : Op) (now : ℕ) → IsSound s → (step s o now).reply ≡ view_reply (view s) o now
 reply_seen s o now sound = at (is_worn s.present) (outcome_seen s o now sound)

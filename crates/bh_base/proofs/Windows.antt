@@ -11,6 +11,7 @@ use Rattle.bh_base.specs.declared.event.EventKind.{EventKind}
 use Rattle.bh_base.specs.declared.event.EventKind.TheVariants as kind
 use Rattle.bh_base.specs.declared.event.Event.{Event}
 use Rattle.bh_base.specs.declared.event.Counts.{Counts}
+use Rattle.bh_base.specs.Tables.{sum_in}
 use Rattle.bh_base.specs.History.{Window, is_kind, count_in, counts_by, counts_at, bucket_of, is_in_window, count, table}
 
 sum_by-both : {X : Type 0} (p q r : X → ℕ) → ((x : X) → p x + q x ≡ r x) → (xs : List X) → sum_by p xs + sum_by q xs ≡ sum_by r xs
@@ -80,11 +81,6 @@ ages props history last k (suc n) = subst (AgesAreWindow props history last k) (
 pub div_mono : (m n k : ℕ) → m ≤ n → m / k ≤ n / k
 div_mono m n zero h = omega arith
 div_mono m n (suc k) h = le-div (m / suc k) n (suc k) (omega arith) (omega (arith, div-mul-le_self m (suc k)))
-
--- what the table at the moment `latest` says of the window at a later moment
-abbrev pub sum_in : Window → ℕ → List Counts → ℕ → EventKind → ℕ
-sum_in props latest rows moment k =
-    sum_by (λ c. count_in c k) (take (props.buckets - (bucket_of props moment - bucket_of props latest)) rows)
 
 pub count_from_table : (props : Window) (history : List Event) (latest moment : ℕ) (k : EventKind) → AllByRecursion (λ e. e.moment ≤ latest) history → latest ≤ moment → sum_in props latest (table props history latest) moment k ≡ count props history moment k
 count_from_table props history latest moment k past later =

@@ -1,0 +1,29 @@
+-- The ranges of a group's properties.
+use Rattle.std.specs.Prelude.{◌≡◌, ℕ, ◌*◌, ◌/◌, ◌<◌, ◌≤◌, ◌^◌, Option, Some, None}
+use Rattle.bh_base.specs.declared.props.GroupProps.{GroupProps}
+
+-- no queue, or one of 1 to 4,294,967,295
+abbrev pub IsQueueLength : Option ℕ → Type 0
+IsQueueLength None = Unit {0}
+IsQueueLength (Some most) = (1 ≤ most) × (most < 2 ^ 32)
+
+-- each number is in its range, and the window is so many whole buckets
+pub record IsInRange (props : GroupProps) : Type 0 where
+  pub some_slots : 1 ≤ props.slots
+  pub few_slots : props.slots ≤ 4096
+  pub timeout : props.timeout_ms < 2 ^ 32
+  pub semaphore : props.semaphore < 2 ^ 32
+  pub fallback_permits : props.fallback_permits < 2 ^ 32
+  pub volume : props.volume < 2 ^ 32
+  pub sleep : props.sleep_ms < 2 ^ 32
+  pub percent : props.percent < 2 ^ 32
+  pub some_window : 1 ≤ props.window_ms
+  pub short_window : props.window_ms ≤ 3_600_000
+  pub some_buckets : 1 ≤ props.buckets
+  pub few_buckets : props.buckets ≤ 60
+  pub whole_buckets : props.buckets * (props.window_ms / props.buckets) ≡ props.window_ms
+  pub health : props.health_ms < 2 ^ 32
+  pub some_core : 1 ≤ props.core
+  pub small_core : props.core ≤ 64
+  pub queue : IsQueueLength props.max_queue
+  pub queue_threshold : props.queue_threshold < 2 ^ 32

@@ -1,0 +1,38 @@
+-- A step, by the view of the state alone. It is what the layers that keep no history are held to.
+use Rattle.std.specs.Prelude.{ℕ, Bool, true, false, filter, if◌then◌else◌}
+use Rattle.bh_base.specs.declared.event.Rolling.{Rolling}
+use Rattle.bh_base.specs.declared.step.Op.{Op}
+use Rattle.bh_base.specs.declared.reply.Reply.{Reply}
+use Rattle.bh_base.specs.declared.reply.Reply.TheVariants as reply
+use Rattle.bh_base.specs.History.{window_of, rolling_by, is_of_health}
+use Rattle.bh_base.specs.Tables.{no_rows, sum_in, later_table}
+use Rattle.bh_base.specs.Machine.{Outcome, outcome}
+use Rattle.bh_base.specs.Runs.{View, begun, released, is_worn}
+
+-- what the view says of the history at a later moment
+abbrev pub view_rolling : View → ℕ → Rolling
+view_rolling v moment =
+    rolling_by (sum_in (window_of v.present.props) v.present.latest v.table moment) (sum_in (window_of v.present.props) v.present.latest v.health moment)
+
+-- what a step does, by the view
+abbrev pub view_outcome : View → Op → ℕ → Outcome
+view_outcome v o now =
+    let g = begun now v.present in
+    outcome o (view_rolling v g.latest) g
+
+-- the view after a step that has begun
+abbrev pub view_recorded : View → Outcome → View
+view_recorded v out = record {
+  present = released out.present;
+  table = later_table (window_of v.present.props) v.present.latest v.table out.present.latest out.events;
+  health = (if out.closed then no_rows (window_of v.present.props) else later_table (window_of v.present.props) v.present.latest v.health out.present.latest (filter is_of_health out.events));
+}
+
+-- the step, by the view
+abbrev pub view_reply : View → Op → ℕ → Reply
+view_reply v o now = if is_worn v.present then reply.Worn else (view_outcome v o now).reply
+
+-- and the view after it
+abbrev pub view_after : View → Op → ℕ → View
+view_after v o now = if is_worn v.present then v else view_recorded v (view_outcome v o now)
+
