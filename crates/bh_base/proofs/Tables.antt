@@ -9,7 +9,8 @@ use Rattle.bh_base.specs.declared.event.EventKind.{EventKind}
 use Rattle.bh_base.specs.declared.event.EventKind.TheVariants as kind
 use Rattle.bh_base.specs.declared.event.Event.{Event}
 use Rattle.bh_base.specs.declared.event.Counts.{Counts}
-use Rattle.bh_base.specs.History.{Window, is_kind, count_in, counts_by, counts_at, bucket_of, table}
+use Rattle.bh_base.specs.declared.event.Window.{Window}
+use Rattle.bh_base.specs.History.{is_kind, count_in, counts_by, counts_at, bucket_of, table}
 use Rattle.bh_base.specs.Tables.{no_counts, row_at, new_at, later_table}
 use Rattle.bh_base.specs.Runs.{events_at}
 use Rattle.bh_base.proofs.Windows.{one, div_mono, sum_by-same, sum_by-none, count_in-counts_by}
@@ -93,3 +94,36 @@ table_later props history latest moment kinds past later =
     map_same _ _ props.buckets no_counts (λ age inside. counts_by_same _ _ (λ k.
     sum_by-append (λ e. one (is_kind e.kind k && (bucket_of props e.moment + age == bucket_of props moment))) history (events_at moment kinds)
     ∙ cong_add (count_old props history latest moment age k past later inside) (count_new props moment age k kinds)))
+
+add_up : (a b c d e : ℕ) → c ≡ a + b → b + d ≡ e → c + d ≡ a + e
+add_up a b c d e p q = omega arith
+
+-- new events of two lists
+new_at-append : (kinds more : List EventKind) (age : ℕ) (k : EventKind) → new_at kinds age k + new_at more age k ≡ new_at (kinds ++ more) age k
+new_at-append kinds more age k = at (age == 0)
+  where
+    at : (z : Bool) → (if z then count_by (λ l. is_kind l k) kinds else 0) + (if z then count_by (λ l. is_kind l k) more else 0) ≡ (if z then count_by (λ l. is_kind l k) (kinds ++ more) else 0)
+    at true = sym (sum_by-append (λ l. one (is_kind l k)) kinds more)
+    at false = refl
+
+-- a row of a table at its own moment
+row_at-same : (rows : List Counts) (bucket age : ℕ) (k : EventKind) → row_at rows (bucket - bucket) age k ≡ count_in (get_or rows age no_counts) k
+row_at-same rows bucket age k =
+    let none : bucket - bucket ≡ 0 = omega arith in
+    ap (λ n. row_at rows n age k) none ∙ (λ i. if not_young i then 0 else count_in (get_or rows (whole i) no_counts) k)
+  where
+    not_young : nat_lt age 0 ≡ false
+    not_young = grind (arith, nat_tests)
+
+    whole : age - 0 ≡ age
+    whole = omega arith
+
+-- events added at one moment in two goes
+pub later_table-again : (w : Window) (latest moment : ℕ) (rows : List Counts) (kinds more : List EventKind) → later_table w moment (later_table w latest rows moment kinds) moment more ≡ later_table w latest rows moment (kinds ++ more)
+later_table-again w latest moment rows kinds more =
+    map_same _ _ w.buckets no_counts (λ age inside. counts_by_same _ _ (λ k.
+    add_up (row_at rows (bucket_of w moment - bucket_of w latest) age k) (new_at kinds age k) (row_at (later_table w latest rows moment kinds) (bucket_of w moment - bucket_of w moment) age k) (new_at more age k) (new_at (kinds ++ more) age k)
+    (row_at-same (later_table w latest rows moment kinds) (bucket_of w moment) age k
+    ∙ ap (λ c. count_in c k) (get_or-map-range_with_len (λ a. counts_by (λ l. row_at rows (bucket_of w moment - bucket_of w latest) a l + new_at kinds a l)) 0 w.buckets age age no_counts inside (omega arith))
+    ∙ count_in-counts_by (λ l. row_at rows (bucket_of w moment - bucket_of w latest) age l + new_at kinds age l) k)
+    (new_at-append kinds more age k)))

@@ -13,7 +13,8 @@ use Rattle.bh_base.specs.declared.reply.Reply.{Reply}
 use Rattle.bh_base.specs.declared.reply.Reply.TheVariants as reply
 use Rattle.bh_base.specs.declared.props.GroupProps.{GroupProps}
 use Rattle.bh_base.specs.declared.event.Rolling.{Rolling}
-use Rattle.bh_base.specs.History.{Window, window_of, rolling, rolling_by, health_by, counts_by, count, table, health_events, is_of_health}
+use Rattle.bh_base.specs.declared.event.Window.{Window}
+use Rattle.bh_base.specs.History.{window_of, rolling, rolling_by, health_by, counts_by, count, table, health_events, is_of_health}
 use Rattle.bh_base.specs.Machine.{Present, Outcome, outcome}
 use Rattle.bh_base.specs.Runs.{State, Stepped, View, IsSound, StaysSound, opened, view, step, stepped, left_by, outcome_in, events_at, begun, released, is_worn}
 use Rattle.bh_base.specs.Tables.{no_counts, no_rows, sum_in, later_table}
@@ -22,7 +23,7 @@ use Rattle.bh_base.proofs.Windows.{count_from_table}
 use Rattle.bh_base.proofs.Tables.{counts_by_same, table_later}
 use Rattle.bh_base.proofs.Kept.{Keeps, outcome_keeps}
 
-rolling_by_same : (f g p q : EventKind → ℕ) → ((k : EventKind) → f k ≡ g k) → ((k : EventKind) → p k ≡ q k) → rolling_by f p ≡ rolling_by g q
+pub rolling_by_same : (f g p q : EventKind → ℕ) → ((k : EventKind) → f k ≡ g k) → ((k : EventKind) → p k ≡ q k) → rolling_by f p ≡ rolling_by g q
 rolling_by_same f g p q h l = λ i. record {
   counts = counts_by_same f g h i;
   health = record { errors = errors_same i; total = (cong_add errors_same (l kind.Success)) i };
@@ -34,7 +35,7 @@ rolling_by_same f g p q h l = λ i. record {
     errors_same : (health_by p).errors ≡ (health_by q).errors
     errors_same = omega (arith, l kind.Failure, l kind.Timeout, l kind.ThreadPoolRejected, l kind.SemaphoreRejected)
 
-abbrev AllPast : ℕ → List Event → Type 0
+abbrev pub AllPast : ℕ → List Event → Type 0
 AllPast latest history = AllByRecursion (λ e. e.moment ≤ latest) history
 
 past_drop : (latest from : ℕ) (history : List Event) → AllPast latest history → AllPast latest (drop from history)
@@ -49,7 +50,7 @@ past_filter : (latest : ℕ) (p : Event → Bool) (history : List Event) → All
 past_filter latest p [] past = past
 past_filter latest p (e ∷ history) past = past_if latest (p e) e (filter p history) past.0 (past_filter latest p history past.1)
 
-past_health : (latest from : ℕ) (history : List Event) → AllPast latest history → AllPast latest (health_events from history)
+pub past_health : (latest from : ℕ) (history : List Event) → AllPast latest history → AllPast latest (health_events from history)
 past_health latest from history past = past_filter latest _ _ (past_drop latest from history past)
 
 pub past_later : (latest moment : ℕ) (history : List Event) (kinds : List EventKind) → latest ≤ moment → AllPast latest history → AllPast moment (history ++ events_at moment kinds)
@@ -75,7 +76,7 @@ filter_events moment (k ∷ kinds) = at (is_of_health k) (filter_events moment k
     at true e = cc
     at false e = e
 
-health_later : (from moment : ℕ) (history : List Event) (kinds : List EventKind) → from ≤ length history → health_events from (history ++ events_at moment kinds) ≡ health_events from history ++ events_at moment (filter is_of_health kinds)
+pub health_later : (from moment : ℕ) (history : List Event) (kinds : List EventKind) → from ≤ length history → health_events from (history ++ events_at moment kinds) ≡ health_events from history ++ events_at moment (filter is_of_health kinds)
 health_later from moment history kinds inside =
     ap (λ es. filter (λ e. is_of_health e.kind) es) (drop-append-le from history (events_at moment kinds) inside)
     ∙ filter-append (λ e. is_of_health e.kind) (drop from history) (events_at moment kinds)

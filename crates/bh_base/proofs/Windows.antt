@@ -12,7 +12,8 @@ use Rattle.bh_base.specs.declared.event.EventKind.TheVariants as kind
 use Rattle.bh_base.specs.declared.event.Event.{Event}
 use Rattle.bh_base.specs.declared.event.Counts.{Counts}
 use Rattle.bh_base.specs.Tables.{sum_in}
-use Rattle.bh_base.specs.History.{Window, is_kind, count_in, counts_by, counts_at, bucket_of, is_in_window, count, table}
+use Rattle.bh_base.specs.declared.event.Window.{Window}
+use Rattle.bh_base.specs.History.{is_kind, count_in, counts_by, counts_at, bucket_of, is_in_window, count, table}
 
 sum_by-both : {X : Type 0} (p q r : X → ℕ) → ((x : X) → p x + q x ≡ r x) → (xs : List X) → sum_by p xs + sum_by q xs ≡ sum_by r xs
 sum_by-both p q r h [] = refl

@@ -8,6 +8,7 @@ use Rattle.bh_base.specs.declared.event.Counts.{Counts}
 use Rattle.bh_base.specs.declared.props.GroupProps.{GroupProps}
 use Rattle.bh_base.specs.declared.event.Health.{Health}
 use Rattle.bh_base.specs.declared.event.Rolling.{Rolling}
+use Rattle.bh_base.specs.declared.event.Window.{Window}
 
 -- the place of a kind in the order of the names
 abbrev pub place_of : EventKind → ℕ
@@ -70,11 +71,7 @@ count_in c kind.Success = c.success
 count_in c kind.ThreadPoolRejected = c.thread_pool_rejected
 count_in c kind.Timeout = c.timeout
 
--- the buckets of a window: how many there are, and how many milliseconds each takes
-pub record Window : Type 0 where
-  pub buckets : ℕ
-  pub width : ℕ
-
+-- the buckets of a group's window
 abbrev pub window_of : GroupProps → Window
 window_of props = record { buckets = props.buckets; width = props.window_ms / props.buckets }
 

@@ -35,4 +35,3 @@ view_reply v o now = if is_worn v.present then reply.Worn else (view_outcome v o
 -- and the view after it
 abbrev pub view_after : View → Op → ℕ → View
 view_after v o now = if is_worn v.present then v else view_recorded v (view_outcome v o now)
-

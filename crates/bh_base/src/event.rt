@@ -27,6 +27,15 @@ pub struct Event {
     pub kind: EventKind,
 }
 
+/// The buckets of a rolling window (Hystrix wiki, "Configuration", `metrics.rollingStats`).
+#[derive(Clone, Copy, Debug, PartialEq, Eq)]
+pub struct Window {
+    /// How many buckets there are, 1 to 60.
+    pub buckets: u64,
+    /// The milliseconds of a bucket, from 1.
+    pub width: u64,
+}
+
 /// A count for each kind of event.
 #[derive(Clone, Copy, Debug, PartialEq, Eq)]
 pub struct Counts {

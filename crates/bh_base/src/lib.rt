@@ -11,7 +11,7 @@ pub mod text;
 pub mod ticket;
 
 pub use circuit::{Admit, CircuitState, End, Snapshot};
-pub use event::{Counts, Event, EventKind, Health, Rolling};
+pub use event::{Counts, Event, EventKind, Health, Rolling, Window};
 pub use laws::{serials_rise, states_stay_sound, view_law};
 pub use props::{GroupProps, Strategy};
 pub use reply::{Answer, CallError, Cause, FallbackFault, Metrics, Reply};

@@ -1,0 +1,152 @@
+-- A run goes on by one step.
+use Rattle.std.proofs.Common.{◌≡◌, ◌≢◌, ℕ, ◌+◌, ◌<◌, ◌≤◌, Bool, true, false, List, [], ◌∷◌, ◌++◌, length, map, filter, take, Option, Some, None, refl, ◌∙◌, sym, ap, subst, arith, append-nil}
+use Rattle.std.specs.Prelude.{◌==◌, slice_get, if◌then◌else◌}
+use Rattle.std.proofs.lemmas.Bool.Decides.{nat_tests}
+use Rattle.std.proofs.lemmas.List.Elements.{filter-append}
+use Rattle.bh_base.specs.declared.step.Step.{Step}
+use Rattle.bh_base.specs.declared.reply.Reply.{Reply}
+use Rattle.bh_base.specs.declared.reply.Reply.TheVariants.{NoGroup}
+use Rattle.bh_base.specs.Runs.{State, step, replies, state_after, own}
+use Rattle.bh_core.specs.Groups.{Groups, Shows, own_replies}
+
+pub replies-push : (s : State) (xs : List Step) (x : Step) → replies s (xs ++ x ∷ []) ≡ replies s xs ++ (step (state_after s xs) x.op x.now).reply ∷ []
+replies-push s [] x = refl
+replies-push s (y ∷ ys) x = ap (λ rs. (step s y.op y.now).reply ∷ rs) (replies-push (step s y.op y.now).state ys x)
+
+pub state_after-push : (s : State) (xs : List Step) (x : Step) → state_after s (xs ++ x ∷ []) ≡ (step (state_after s xs) x.op x.now).state
+state_after-push s [] x = refl
+state_after-push s (y ∷ ys) x = state_after-push (step s y.op y.now).state ys x
+
+-- what a step adds to the own replies of a group
+abbrev added : Bool → Reply → List Reply
+added b r = if b then r ∷ [] else []
+
+own_replies-push : (group : ℕ) (xs : List Step) (x : Step) (rs : List Reply) (r : Reply) → length xs ≡ length rs → own_replies group (xs ++ x ∷ []) (rs ++ r ∷ []) ≡ own_replies group xs rs ++ added (x.group.0 == group) r
+own_replies-push group [] x [] r same = last (x.group.0 == group)
+  where
+    last : (b : Bool) → (if b then r ∷ [] else []) ≡ [] ++ added b r
+    last true = refl
+    last false = refl
+own_replies-push group [] x (q ∷ qs) r same = absurd (omega arith)
+own_replies-push group (y ∷ ys) x [] r same = absurd (omega arith)
+own_replies-push group (y ∷ ys) x (q ∷ qs) r same =
+    front (y.group.0 == group) (x.group.0 == group) (own_replies-push group ys x qs r (omega arith))
+  where
+    front : (b z : Bool) → own_replies group (ys ++ x ∷ []) (qs ++ r ∷ []) ≡ own_replies group ys qs ++ added z r → (if b then q ∷ own_replies group (ys ++ x ∷ []) (qs ++ r ∷ []) else own_replies group (ys ++ x ∷ []) (qs ++ r ∷ [])) ≡ (if b then q ∷ own_replies group ys qs else own_replies group ys qs) ++ added z r
+    front true z e = ap (λ us. q ∷ us) e
+    front false z e = e
+
+-- the own steps of a group with one more step behind
+pub own-push : (group : ℕ) (xs : List Step) (x : Step) → own group (xs ++ x ∷ []) ≡ own group xs ++ (if x.group.0 == group then x ∷ [] else [])
+own-push group xs x = filter-append (λ y. y.group.0 == group) xs (x ∷ [])
+
+pub own-push_same : (group : ℕ) (xs : List Step) (x : Step) → (x.group.0 == group) ≡ true → own group (xs ++ x ∷ []) ≡ own group xs ++ x ∷ []
+own-push_same group xs x test = own-push group xs x ∙ ap (λ b. own group xs ++ (if b then x ∷ [] else [])) test
+
+pub own-push_other : (group : ℕ) (xs : List Step) (x : Step) → (x.group.0 == group) ≡ false → own group (xs ++ x ∷ []) ≡ own group xs
+own-push_other group xs x test = own-push group xs x ∙ ap (λ b. own group xs ++ (if b then x ∷ [] else [])) test ∙ append-nil (own group xs)
+
+-- so far the group was told what its machine tells, and shows its state
+pub record GoesAs (group : ℕ) (s : State) (xs : List Step) (rs : List Reply) (now : Groups) : Type 0 where
+  pub told : own_replies group xs rs ≡ replies s (own group xs)
+  pub shown : Shows now group (state_after s (own group xs))
+
+-- what one step of all groups ensures
+pub record IsApplied (old new : Groups) (x : Step) (r : Reply) : Type 0 where
+  pub reply : (s : State) → Shows old x.group.0 s → r ≡ (step s x.op x.now).reply
+  pub own : (s : State) → Shows old x.group.0 s → Shows new x.group.0 (step s x.op x.now).state
+  pub others : (group : ℕ) → group ≢ x.group.0 → slice_get new.views group ≡ slice_get old.views group
+  pub unknown : slice_get old.views x.group.0 ≡ None → r ≡ NoGroup
+  pub unknown_same : slice_get old.views x.group.0 ≡ None → new ≡ old
+
+its_own : (group : ℕ) (s : State) (xs : List Step) (x : Step) (rs : List Reply) (r : Reply) (old new : Groups) → length xs ≡ length rs → x.group.0 ≡ group → (x.group.0 == group) ≡ true → GoesAs group s xs rs old → IsApplied old new x r → GoesAs group s (xs ++ x ∷ []) (rs ++ r ∷ []) new
+its_own group s xs x rs r old new same is test so applied =
+    let mine : own group (xs ++ x ∷ []) ≡ own group xs ++ x ∷ [] = own-push_same group xs x test in
+    let shown : Shows old x.group.0 (state_after s (own group xs)) = subst (λ (g : ℕ). Shows old g (state_after s (own group xs))) (sym is) so.shown in
+    record {
+      told = own_replies-push group xs x rs r same
+          ∙ ap (λ b. own_replies group xs rs ++ added b r) test
+          ∙ ap (λ us. us ++ r ∷ []) so.told
+          ∙ ap (λ q. replies s (own group xs) ++ q ∷ []) (applied.reply (state_after s (own group xs)) shown)
+          ∙ sym (replies-push s (own group xs) x)
+          ∙ ap (replies s) (sym mine);
+      shown = subst (Shows new group) (sym (state_after-push s (own group xs) x) ∙ ap (state_after s) (sym mine))
+          (subst (λ (g : ℕ). Shows new g (step (state_after s (own group xs)) x.op x.now).state) is (applied.own (state_after s (own group xs)) shown));
+    }
+
+not_its_own : (group : ℕ) (s : State) (xs : List Step) (x : Step) (rs : List Reply) (r : Reply) (old new : Groups) → length xs ≡ length rs → group ≢ x.group.0 → (x.group.0 == group) ≡ false → GoesAs group s xs rs old → IsApplied old new x r → GoesAs group s (xs ++ x ∷ []) (rs ++ r ∷ []) new
+not_its_own group s xs x rs r old new same differ test so applied =
+    let mine : own group (xs ++ x ∷ []) ≡ own group xs = own-push_other group xs x test in
+    record {
+      told = own_replies-push group xs x rs r same
+          ∙ ap (λ b. own_replies group xs rs ++ added b r) test
+          ∙ append-nil (own_replies group xs rs)
+          ∙ so.told
+          ∙ ap (replies s) (sym mine);
+      shown = subst (λ ys. Shows new group (state_after s ys)) (sym mine) (record {
+        sound = so.shown.sound;
+        view_is = applied.others group differ ∙ so.shown.view_is;
+      });
+    }
+
+pub goes_on : (group : ℕ) (s : State) (xs : List Step) (x : Step) (rs : List Reply) (r : Reply) (old new : Groups) → length xs ≡ length rs → GoesAs group s xs rs old → IsApplied old new x r → GoesAs group s (xs ++ x ∷ []) (rs ++ r ∷ []) new
+goes_on group s xs x rs r old new same so applied = at (x.group.0 == group) refl
+  where
+    at : (b : Bool) → (x.group.0 == group) ≡ b → GoesAs group s (xs ++ x ∷ []) (rs ++ r ∷ []) new
+    at true test = its_own group s xs x rs r old new same (grind (arith, nat_tests)) test so applied
+    at false test = not_its_own group s xs x rs r old new same (grind (arith, nat_tests)) test so applied
+
+abbrev no_groups : List Step → List Reply
+no_groups xs = map (λ x. NoGroup) xs
+
+no_groups-push : (xs : List Step) (x : Step) → no_groups (xs ++ x ∷ []) ≡ no_groups xs ++ NoGroup ∷ []
+no_groups-push [] x = refl
+no_groups-push (y ∷ ys) x = ap (λ rs. NoGroup ∷ rs) (no_groups-push ys x)
+
+-- so far a group that is not registered was told so, and is not registered still
+pub record IsUnknown (group : ℕ) (xs : List Step) (rs : List Reply) (now : Groups) : Type 0 where
+  pub told : own_replies group xs rs ≡ no_groups (own group xs)
+  pub none : slice_get now.views group ≡ None
+
+pub stays_unknown : (group : ℕ) (xs : List Step) (x : Step) (rs : List Reply) (r : Reply) (old new : Groups) → length xs ≡ length rs → IsUnknown group xs rs old → IsApplied old new x r → IsUnknown group (xs ++ x ∷ []) (rs ++ r ∷ []) new
+stays_unknown group xs x rs r old new same so applied = at (x.group.0 == group) refl
+  where
+    mine : x.group.0 ≡ group → (x.group.0 == group) ≡ true → IsUnknown group (xs ++ x ∷ []) (rs ++ r ∷ []) new
+    mine is test =
+        let none : slice_get old.views x.group.0 ≡ None = ap (slice_get old.views) is ∙ so.none in
+        record {
+          told = own_replies-push group xs x rs r same
+              ∙ ap (λ b. own_replies group xs rs ++ added b r) test
+              ∙ ap (λ us. us ++ r ∷ []) so.told
+              ∙ ap (λ q. no_groups (own group xs) ++ q ∷ []) (applied.unknown none)
+              ∙ sym (no_groups-push (own group xs) x)
+              ∙ ap no_groups (sym (own-push_same group xs x test));
+          none = ap (λ (gs : Groups). slice_get gs.views group) (applied.unknown_same none) ∙ so.none;
+        }
+
+    other : group ≢ x.group.0 → (x.group.0 == group) ≡ false → IsUnknown group (xs ++ x ∷ []) (rs ++ r ∷ []) new
+    other differ test = record {
+      told = own_replies-push group xs x rs r same
+          ∙ ap (λ b. own_replies group xs rs ++ added b r) test
+          ∙ append-nil (own_replies group xs rs)
+          ∙ so.told
+          ∙ ap no_groups (sym (own-push_other group xs x test));
+      none = applied.others group differ ∙ so.none;
+    }
+
+    at : (b : Bool) → (x.group.0 == group) ≡ b → IsUnknown group (xs ++ x ∷ []) (rs ++ r ∷ []) new
+    at true test = mine (grind (arith, nat_tests)) test
+    at false test = other (grind (arith, nat_tests)) test
+
+-- the steps before the place
+abbrev seen : List Step → ℕ → List Step
+seen steps i = take i steps
+
+-- the step at the place i, as a loop over the steps sees it
+pub goes_on_in : (group : ℕ) (s : State) (steps : List Step) (i : ℕ) (x : Step) (rs us : List Reply) (r : Reply) (old new : Groups) → length (seen steps i) ≡ length rs → seen steps (i + 1) ≡ seen steps i ++ x ∷ [] → us ≡ rs ++ r ∷ [] → GoesAs group s (seen steps i) rs old → IsApplied old new x r → GoesAs group s (seen steps (i + 1)) us new
+goes_on_in group s steps i x rs us r old new same next pushed so applied =
+    subst (λ ys. GoesAs group s ys us new) (sym next) (subst (λ vs. GoesAs group s (seen steps i ++ x ∷ []) vs new) (sym pushed) (goes_on group s (seen steps i) x rs r old new same so applied))
+
+pub stays_unknown_in : (group : ℕ) (steps : List Step) (i : ℕ) (x : Step) (rs us : List Reply) (r : Reply) (old new : Groups) → length (seen steps i) ≡ length rs → seen steps (i + 1) ≡ seen steps i ++ x ∷ [] → us ≡ rs ++ r ∷ [] → IsUnknown group (seen steps i) rs old → IsApplied old new x r → IsUnknown group (seen steps (i + 1)) us new
+stays_unknown_in group steps i x rs us r old new same next pushed so applied =
+    subst (λ ys. IsUnknown group ys us new) (sym next) (subst (λ vs. IsUnknown group (seen steps i ++ x ∷ []) vs new) (sym pushed) (stays_unknown group (seen steps i) x rs r old new same so applied))

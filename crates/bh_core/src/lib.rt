@@ -1,0 +1,12 @@
+//! All groups of the service: each step changes its own group alone.
+#![tactic(auto)]
+
+mod group;
+mod history;
+pub mod in_force;
+mod room;
+pub mod service;
+mod tickets;
+mod window;
+
+pub use service::{Core, RegisterError};

@@ -1,0 +1,153 @@
+//! All groups: each step goes to its own group and leaves the others as they are.
+
+ghost use Rattle.std.specs.Prelude.{◌≡◌, ◌≢◌, ◌↔◌, ℕ, ◌+◌, ◌<◌, ◌≤◌, [], ◌∷◌, ◌++◌, All, length, map, IfOk, OnOk, OnErr, Err, None, slice_get, true};
+ghost use Rattle.bh_base.specs.declared.reply.Reply.{Reply};
+ghost use Rattle.bh_base.specs.Ranges.{IsInRange};
+ghost use Rattle.bh_base.specs.Replies.{can_reply};
+ghost use Rattle.bh_base.specs.Runs.{State, own, replies, state_after, opened, view};
+ghost use Rattle.bh_base.specs.Runs.{step as machine_step};
+ghost use Rattle.bh_core.specs.Groups.{Groups, Shows, own_replies, slots_in};
+ghost use Rattle.bh_core.specs.InForce.{in_force, is_built};
+
+use crate::group::Group;
+use crate::in_force::in_force;
+use crate::room::push_within;
+use bh_base::{GroupId, GroupProps, Reply, Step};
+use std::alloc::{AllocError, Global};
+use std::marker::Model;
+use thiserror::Error;
+
+/// All groups, by their numbers.
+#[derive(Drop)]
+pub struct Core {
+    alloc: Global,
+    groups: Vec<Group>,
+    slot_limit: u32,
+    /// The slots of all groups.
+    slots: u64,
+}
+
+/// Why a group was not registered.
+#[derive(Clone, Copy, Debug, PartialEq, Eq, Error)]
+pub enum RegisterError {
+    /// The slots of all groups would be more than the core may have.
+    #[error("too many slots")]
+    TooManySlots,
+    /// There is not enough memory for all that the group's steps can bring.
+    #[error("out of memory")]
+    Memory,
+}
+
+impl Model for Core {
+    ghost use Rattle.std.specs.Prelude.{◌≡◌, ◌≤◌};
+    ghost use Rattle.bh_core.specs.Groups.{Groups, slots_in};
+    ghost use Rattle.bh_core.specs.Views.{views_of};
+
+    ghost Value = { Groups };
+
+    ghost view = { λ c. record { slot_limit = c.slot_limit; views = views_of c.groups.items } };
+
+    ghost invariant = { λ c. (c.slots ≡ slots_in (views_of c.groups.items)) × (c.slots ≤ c.slot_limit) };
+}
+
+impl Core {
+    /// A core without groups, whose groups may have so many slots in all.
+    pub fn new(alloc: Global, slot_limit: u32) -> Self
+        ensures { result ≡ record { slot_limit = slot_limit; views = [] } }
+    {
+        Core {
+            alloc,
+            groups: Vec::new(alloc),
+            slot_limit,
+            slots: 0,
+        }
+    }
+
+    /// Adds a group that may do so many steps, 1 to 1,024, and takes the memory for all that they can bring.
+    ///
+    /// It is refused with `TooManySlots` where the slots of all groups would be more than the core may have, and
+    /// else with `Memory` where a growth was refused; nothing has changed then.
+    pub fn register(&mut self, props: GroupProps, step_limit: u64) -> Result<GroupId, RegisterError>
+        requires props { IsInRange props }
+        requires some_steps { 1 ≤ step_limit }
+        requires few_steps { step_limit ≤ 1024 }
+        ensures number { IfOk result (λ id. id.0 ≡ length self.old.views) }
+        ensures added { OnOk result (self.new ≡ record self.old { views = self.old.views ++ view (opened (in_force props) step_limit) ∷ [] }) }
+        ensures room { (result ≡ Err RegisterError.TooManySlots) ↔ (self.old.slot_limit < slots_in self.old.views + (in_force props).slots) }
+        ensures err { OnErr result (self.new ≡ self.old) }
+    {
+        let props = in_force(props);
+        if u64::from(self.slot_limit) - self.slots < props.slots {
+            return Err(RegisterError::TooManySlots);
+        }
+        let number = self.groups.len() as u64;
+        let Ok(group) = Group::new(self.alloc, props, step_limit) else {
+            return Err(RegisterError::Memory);
+        };
+        if self.groups.push(group).is_err() {
+            return Err(RegisterError::Memory);
+        }
+        self.slots += props.slots;
+        Ok(GroupId(number))
+    }
+
+    /// One step of its group: the reply is that of the one-group machine, whatever other groups did.
+    ///
+    /// A step of a group that is not registered is answered `NoGroup` and changes nothing.
+    pub fn apply(&mut self, step: Step) -> Reply
+        requires { is_built step.op ≡ true }
+
+        // The group goes as its machine does, from every state that it may be in by its view.
+        ensures reply { (s : State) → Shows self.old step.group.0 s → result ≡ (machine_step s step.op step.now).reply }
+        ensures own { (s : State) → Shows self.old step.group.0 s → Shows self.new step.group.0 (machine_step s step.op step.now).state }
+
+        // Every other group stays as it was.
+        ensures others { (group : ℕ) → group ≢ step.group.0 → slice_get self.new.views group ≡ slice_get self.old.views group }
+        ensures count { length self.new.views ≡ length self.old.views }
+        ensures limit { self.new.slot_limit ≡ self.old.slot_limit }
+
+        ensures unknown { slice_get self.old.views step.group.0 ≡ None → result ≡ Reply.NoGroup }
+        ensures unknown_same { slice_get self.old.views step.group.0 ≡ None → self.new ≡ self.old }
+
+        // What can be said with no state at hand.
+        ensures kinds { can_reply step.op result ≡ true }
+    {
+        let place = step.group.0;
+        if place >= self.groups.len() as u64 {
+            return Reply::NoGroup;
+        }
+        let group = &mut self.groups[place as usize];
+        group.apply(&step.op, step.now)
+    }
+
+    /// Steps of all groups in any interleaving, with one reply for each.
+    ///
+    /// Each group's own replies are those of its machine for its own steps alone, and it shows the machine's last
+    /// state then: every other group's steps could be left out. Room for the replies is taken first; where that is
+    /// refused, nothing has changed.
+    pub fn run(&mut self, steps: &[Step]) -> Result<Vec<Reply>, AllocError>
+        requires { All (λ x. is_built x.op ≡ true) steps.now }
+
+        // Isolation of runs, for all groups at once and from every state.
+        ensures replies { IfOk result (λ rs. (group : ℕ) (s : State) → Shows self.old group s →
+            own_replies group steps.now rs.items ≡ replies s (own group steps.now)) }
+        ensures views { OnOk result ((group : ℕ) (s : State) → Shows self.old group s →
+            Shows self.new group (state_after s (own group steps.now))) }
+
+        // Steps of groups that are not registered.
+        ensures unknown { IfOk result (λ rs. (group : ℕ) → slice_get self.old.views group ≡ None →
+            own_replies group steps.now rs.items ≡ map (λ x. Reply.NoGroup) (own group steps.now)) }
+
+        ensures count { IfOk result (λ rs. length rs.items ≡ length steps.now) }
+        ensures groups { length self.new.views ≡ length self.old.views }
+        ensures limit { self.new.slot_limit ≡ self.old.slot_limit }
+        ensures err { OnErr result (self.new ≡ self.old) }
+    {
+        let mut replies = Vec::with_capacity(self.alloc, steps.len())?;
+        for step in steps {
+            let reply = self.apply(*step);
+            push_within(&mut replies, reply);
+        }
+        Ok(replies)
+    }
+}
