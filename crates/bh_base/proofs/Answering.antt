@@ -1,6 +1,6 @@
 -- The machine gives only replies that the operation can get.
 use Rattle.std.proofs.Common.{◌≡◌, ℕ, Bool, true, false, ◌||◌, not, Option, Some, None, refl}
-use Rattle.std.specs.Prelude.{◌==◌, nat_lt, nat_le, find, filter, if◌then◌else◌}
+use Rattle.std.specs.Prelude.{◌==◌, nat_le, if◌then◌else◌}
 use Rattle.bh_base.specs.declared.props.Strategy.{Strategy}
 use Rattle.bh_base.specs.declared.props.Strategy.TheVariants as strategy
 use Rattle.bh_base.specs.declared.ticket.Ticket.{Ticket}

@@ -1,6 +1,6 @@
 -- No op changes the properties or the latest moment.
-use Rattle.std.proofs.Common.{◌≡◌, ℕ, Bool, true, false, not, List, [], ◌∷◌, Option, Some, None, refl}
-use Rattle.std.specs.Prelude.{◌==◌, nat_lt, nat_le, if◌then◌else◌}
+use Rattle.std.proofs.Common.{◌≡◌, ℕ, Bool, true, false, not, Option, Some, None, refl}
+use Rattle.std.specs.Prelude.{◌==◌, nat_le, if◌then◌else◌}
 use Rattle.bh_base.specs.declared.props.Strategy.{Strategy}
 use Rattle.bh_base.specs.declared.props.Strategy.TheVariants as strategy
 use Rattle.bh_base.specs.declared.ticket.Ticket.{Ticket}

@@ -1,6 +1,6 @@
 -- Each step keeps the tickets in the order of their serials.
-use Rattle.std.proofs.Common.{◌≡◌, ℕ, ◌+◌, ◌≤◌, Bool, true, false, not, cond, List, [], ◌∷◌, ◌++◌, map, filter, find, Option, Some, None, refl, arith, sym, subst}
-use Rattle.std.specs.Prelude.{◌==◌, nat_lt, nat_le, if◌then◌else◌}
+use Rattle.std.proofs.Common.{◌≡◌, ℕ, ◌+◌, ◌≤◌, Bool, true, false, not, cond, List, [], ◌∷◌, ◌++◌, map, filter, Option, Some, None, refl, arith, sym, subst}
+use Rattle.std.specs.Prelude.{◌==◌, nat_le, if◌then◌else◌}
 use Rattle.bh_base.specs.declared.props.Strategy.{Strategy}
 use Rattle.bh_base.specs.declared.props.Strategy.TheVariants as strategy
 use Rattle.bh_base.specs.declared.ticket.Ticket.{Ticket}
@@ -20,7 +20,7 @@ use Rattle.bh_base.specs.History.{window_of, rolling}
 use Rattle.bh_base.specs.Circuit.{Asked, asked}
 use Rattle.bh_base.specs.Tickets.{changed_first, is_running, is_kept, is_cached_in, in_state}
 use Rattle.bh_base.specs.Machine.{Present, Outcome, outcome, placed, admitted, rejected, is_admitted, circuit_said, circuit_asked, submitted, started, run_ended, collected, collected_in, fallback_done, fallback_done_in, cached_as, free_count, in_fallback_count, is_due}
-use Rattle.bh_base.specs.Runs.{State, Stepped, step, stepped, begun, outcome_in, is_worn, opened}
+use Rattle.bh_base.specs.Runs.{State, stepped, begun, outcome_in, is_worn}
 use Rattle.bh_base.specs.Order.{Rise, IsRising, SerialsRise}
 
 abbrev Rises : Present → Type 0

@@ -1,5 +1,5 @@
 -- The words of the worked rows: steps, replies, settings and texts in their short forms.
-use Rattle.std.proofs.Common.{◌≡◌, ℕ, Bool, true, false, List, [], ◌∷◌, map, filter, Option, Some, None}
+use Rattle.std.proofs.Common.{◌≡◌, ℕ, true, false, List, [], ◌∷◌, map, filter, Some, None}
 use Rattle.std.specs.Prelude.{◌==◌}
 use Rattle.bh_base.specs.declared.props.GroupProps.{GroupProps}
 use Rattle.bh_base.specs.declared.props.Strategy.TheVariants as strategy

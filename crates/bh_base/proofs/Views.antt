@@ -1,23 +1,19 @@
 -- The view of a state says each reply, and the view after it.
-use Rattle.std.proofs.Common.{◌≡◌, ℕ, ◌+◌, ◌-◌, ◌<◌, ◌≤◌, Bool, true, false, cond, max, List, [], ◌∷◌, ◌++◌, map, filter, drop, length, refl, ◌∙◌, sym, ap, subst, arith, length-append}
-use Rattle.std.specs.Prelude.{◌==◌, nat_lt, nat_le, if◌then◌else◌}
-use Rattle.std.specs.List.{range_with_len, AllByRecursion}
+use Rattle.std.proofs.Common.{◌≡◌, ℕ, ◌+◌, ◌≤◌, Bool, true, false, cond, max, List, [], ◌∷◌, ◌++◌, filter, drop, length, refl, ◌∙◌, sym, ap, arith, length-append}
+use Rattle.std.specs.Prelude.{if◌then◌else◌}
+use Rattle.std.specs.List.{AllByRecursion}
 use Rattle.std.proofs.lemmas.List.{drop-append-le, drop_all}
 use Rattle.std.proofs.lemmas.List.Elements.{All-drop, All-from_recursion, recursion_from_All, filter-append}
 use Rattle.bh_base.specs.declared.event.EventKind.{EventKind}
 use Rattle.bh_base.specs.declared.event.EventKind.TheVariants as kind
 use Rattle.bh_base.specs.declared.event.Event.{Event}
-use Rattle.bh_base.specs.declared.event.Counts.{Counts}
 use Rattle.bh_base.specs.declared.step.Op.{Op}
-use Rattle.bh_base.specs.declared.reply.Reply.{Reply}
 use Rattle.bh_base.specs.declared.reply.Reply.TheVariants as reply
-use Rattle.bh_base.specs.declared.props.GroupProps.{GroupProps}
-use Rattle.bh_base.specs.declared.event.Rolling.{Rolling}
 use Rattle.bh_base.specs.declared.event.Window.{Window}
-use Rattle.bh_base.specs.History.{window_of, rolling, rolling_by, health_by, counts_by, count, table, health_events, is_of_health}
-use Rattle.bh_base.specs.Machine.{Present, Outcome, outcome}
-use Rattle.bh_base.specs.Runs.{State, Stepped, View, IsSound, StaysSound, opened, view, step, stepped, left_by, outcome_in, events_at, begun, released, is_worn}
-use Rattle.bh_base.specs.Tables.{no_counts, no_rows, sum_in, later_table}
+use Rattle.bh_base.specs.History.{window_of, rolling, rolling_by, health_by, table, health_events, is_of_health}
+use Rattle.bh_base.specs.Machine.{Outcome, outcome}
+use Rattle.bh_base.specs.Runs.{State, IsSound, StaysSound, view, step, stepped, left_by, outcome_in, events_at, begun, released, is_worn}
+use Rattle.bh_base.specs.Tables.{no_rows, later_table}
 use Rattle.bh_base.specs.Seen.{view_rolling, view_outcome, view_recorded, view_reply, view_after}
 use Rattle.bh_base.proofs.Windows.{count_from_table}
 use Rattle.bh_base.proofs.Tables.{counts_by_same, table_later}

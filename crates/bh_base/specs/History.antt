@@ -1,5 +1,5 @@
 -- What a history of events says at a moment.
-use Rattle.std.specs.Prelude.{ℕ, ◌+◌, ◌*◌, ◌-◌, ◌/◌, Bool, true, false, ◌&&◌, ◌==◌, nat_lt, nat_le, List, [], ◌∷◌, ◌++◌, map, filter, count_by, sum_by, take, drop, replicate, if◌then◌else◌}
+use Rattle.std.specs.Prelude.{ℕ, ◌+◌, ◌*◌, ◌/◌, Bool, true, false, ◌&&◌, ◌==◌, nat_lt, nat_le, List, map, filter, count_by, drop, if◌then◌else◌}
 use Rattle.std.specs.List.{range_with_len}
 use Rattle.bh_base.specs.declared.event.EventKind.{EventKind}
 use Rattle.bh_base.specs.declared.event.EventKind.TheVariants as kind

@@ -1,5 +1,5 @@
 -- One group alone: what each step answers, and what it leaves.
-use Rattle.std.specs.Prelude.{ℕ, ◌+◌, ◌-◌, Bool, true, false, ◌&&◌, ◌||◌, not, ◌==◌, nat_lt, nat_le, max, min, List, [], ◌∷◌, ◌++◌, map, filter, find, count_by, length, replicate, Option, Some, None, is_some, if◌then◌else◌}
+use Rattle.std.specs.Prelude.{ℕ, ◌+◌, ◌-◌, Bool, true, false, ◌&&◌, ◌||◌, not, ◌==◌, nat_lt, nat_le, min, List, [], ◌∷◌, ◌++◌, map, filter, find, count_by, length, replicate, Option, Some, None, is_some, if◌then◌else◌}
 use Rattle.bh_base.specs.declared.props.GroupProps.{GroupProps}
 use Rattle.bh_base.specs.declared.props.Strategy.{Strategy}
 use Rattle.bh_base.specs.declared.props.Strategy.TheVariants as strategy
@@ -23,8 +23,6 @@ use Rattle.bh_base.specs.declared.circuit.Admit.{Admit}
 use Rattle.bh_base.specs.declared.circuit.Admit.TheVariants as admit
 use Rattle.bh_base.specs.declared.circuit.End.{End}
 use Rattle.bh_base.specs.declared.circuit.End.TheVariants as end
-use Rattle.bh_base.specs.declared.circuit.CircuitState.{CircuitState}
-use Rattle.bh_base.specs.declared.circuit.CircuitState.TheVariants as state
 use Rattle.bh_base.specs.declared.event.EventKind.{EventKind}
 use Rattle.bh_base.specs.declared.event.EventKind.TheVariants as kind
 use Rattle.bh_base.specs.declared.event.Rolling.{Rolling}
@@ -74,9 +72,14 @@ ended_in g serial e = record g { circuit = ended serial e g.latest g.circuit }
 
 -- Submit
 
+-- the tickets that a request of the name may join
+abbrev pub is_joined_by : Option (ℕ × List ℕ) → Ticket → Bool
+is_joined_by None t = false
+is_joined_by (Some name) t = is_cached_as name t
+
+-- the cached ticket of the name
 abbrev pub cached_as : Option (ℕ × List ℕ) → Present → Option Ticket
-cached_as None g = None
-cached_as (Some name) g = if g.props.cache_on then find (is_cached_as name) g.tickets else None
+cached_as name g = if g.props.cache_on then find (is_joined_by name) g.tickets else None
 
 -- how many may wait for a worker
 abbrev pub queue_limit : Option ℕ → ℕ → ℕ
@@ -136,7 +139,7 @@ circuit_asked a request g = circuit_said a.says request (record g { circuit = a.
 
 abbrev pub submitted : Option Ticket → Request → Rolling → Present → Outcome
 submitted (Some t) request rolling g =
-    answers (reply.Joined t.serial) (kind.ResponseFromCache ∷ []) (changed (λ u. u.serial == t.serial) (λ u. record u { holders = u.holders + 1 }) g)
+    answers (reply.Joined t.serial) (kind.ResponseFromCache ∷ []) (changed (is_joined_by request.cache) (λ u. record u { holders = u.holders + 1 }) g)
 submitted None request rolling g =
     if free_count g == 0
     then answers reply.GroupFull [] g

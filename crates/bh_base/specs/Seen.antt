@@ -1,5 +1,5 @@
 -- A step, by the view of the state alone. It is what the layers that keep no history are held to.
-use Rattle.std.specs.Prelude.{ℕ, Bool, true, false, filter, if◌then◌else◌}
+use Rattle.std.specs.Prelude.{ℕ, filter, if◌then◌else◌}
 use Rattle.bh_base.specs.declared.event.Rolling.{Rolling}
 use Rattle.bh_base.specs.declared.step.Op.{Op}
 use Rattle.bh_base.specs.declared.reply.Reply.{Reply}

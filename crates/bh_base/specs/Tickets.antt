@@ -1,5 +1,5 @@
 -- The tickets of a group: what each is, and which one a serial or a name means.
-use Rattle.std.specs.Prelude.{ℕ, Bool, true, false, ◌&&◌, ◌||◌, ◌==◌, nat_lt, nat_eq, List, [], ◌∷◌, Option, Some, None, if◌then◌else◌}
+use Rattle.std.specs.Prelude.{ℕ, Bool, true, false, ◌&&◌, ◌||◌, ◌==◌, nat_lt, nat_eq, List, [], ◌∷◌, Some, None, if◌then◌else◌}
 use Rattle.std.specs.Cmp.Lexicographic.{pointwise}
 use Rattle.bh_base.specs.declared.ticket.Ticket.{Ticket}
 use Rattle.bh_base.specs.declared.ticket.TicketState.{TicketState}

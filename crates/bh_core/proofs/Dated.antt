@@ -1,10 +1,9 @@
 -- A list of events that moves on, gets an event, and is counted.
-use Rattle.std.proofs.Common.{◌≡◌, ℕ, ◌+◌, ◌-◌, ◌<◌, ◌≤◌, Bool, List, [], ◌∷◌, ◌++◌, length, drop, refl, ◌∙◌, sym, ap, subst, arith, append-nil, length-append, filter}
+use Rattle.std.proofs.Common.{◌≡◌, ℕ, ◌-◌, ◌≤◌, List, [], ◌∷◌, ◌++◌, length, ◌∙◌, sym, ap, subst, arith, append-nil, length-append, filter}
 use Rattle.bh_base.specs.declared.event.EventKind.{EventKind}
 use Rattle.bh_base.specs.declared.event.Event.{Event}
 use Rattle.bh_base.specs.declared.event.Counts.{Counts}
 use Rattle.bh_base.specs.declared.event.Health.{Health}
-use Rattle.bh_base.specs.declared.event.Rolling.{Rolling}
 use Rattle.bh_base.specs.declared.event.Window.{Window}
 use Rattle.bh_base.specs.History.{count, counts_by, health_by, rolling_by, table, health_events, is_of_health}
 use Rattle.bh_base.specs.Tables.{no_rows, sum_in, later_table}

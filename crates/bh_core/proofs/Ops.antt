@@ -1,5 +1,5 @@
 -- What each operation does in the cases that the code tells apart.
-use Rattle.std.proofs.Common.{◌≡◌, ◌≢◌, ℕ, ◌+◌, ◌<◌, ◌≤◌, Bool, true, false, not, List, [], ◌∷◌, ◌++◌, length, Option, Some, None, refl, ◌∙◌, sym, ap, arith}
+use Rattle.std.proofs.Common.{◌≡◌, ℕ, ◌<◌, ◌≤◌, Bool, true, false, not, List, [], ◌∷◌, Option, Some, None, refl, ◌∙◌, sym, ap, arith}
 use Rattle.std.specs.Prelude.{◌&&◌, ◌==◌, find, nat_lt, nat_le, slice_index_or, slice_set, if◌then◌else◌}
 use Rattle.std.proofs.lemmas.Bool.Decides.{nat_tests}
 use Rattle.bh_base.specs.declared.circuit.End.TheVariants as end
@@ -8,22 +8,20 @@ use Rattle.bh_base.specs.declared.event.EventKind.TheVariants as kind
 use Rattle.bh_base.specs.declared.reply.Answer.{Answer}
 use Rattle.bh_base.specs.declared.reply.Answer.TheVariants as answer
 use Rattle.bh_base.specs.declared.reply.Cause.{Cause}
-use Rattle.bh_base.specs.declared.reply.FallbackFault.{FallbackFault}
 use Rattle.bh_base.specs.declared.reply.FallbackFault.TheVariants as fault
 use Rattle.bh_base.specs.declared.reply.Reply.{Reply}
 use Rattle.bh_base.specs.declared.reply.Reply.TheVariants as reply
-use Rattle.bh_base.specs.declared.step.Op.{Op}
 use Rattle.bh_base.specs.declared.step.Op.TheVariants as op
 use Rattle.bh_base.specs.declared.ticket.Ticket.{Ticket}
 use Rattle.bh_base.specs.declared.ticket.TicketState.{TicketState}
 use Rattle.bh_base.specs.declared.ticket.TicketState.TheVariants as ticket
 use Rattle.bh_base.specs.Circuit.{Circuit, new_circuit, ended, closes}
-use Rattle.bh_base.specs.Tickets.{is_queued, is_running, is_busy_at, is_held_at, changed_first}
-use Rattle.bh_base.specs.Machine.{Present, Outcome, answers, busy_count, in_fallback_count, changed, started, run_ended, collected, collected_in, released_by_one}
+use Rattle.bh_base.specs.Tickets.{is_queued, is_running, is_busy_at, is_held_at}
+use Rattle.bh_base.specs.Machine.{Present, Outcome, answers, busy_count, in_fallback_count, changed, started, run_ended, collected, collected_in}
 use Rattle.bh_base.specs.Runs.{View}
 use Rattle.bh_core.specs.Changes.{run_started, run_stopped, answered, fallback_started}
 use Rattle.bh_core.specs.Changes.{run_ended as ended_run}
-use Rattle.bh_core.specs.Desk.{IsDone, IsDoneBy, outcome_now, done, with_event, with_events}
+use Rattle.bh_core.specs.Desk.{IsDoneBy, outcome_now, done, with_event}
 use Rattle.bh_core.proofs.Places.{IsFirst}
 
 -- an operation that records no event

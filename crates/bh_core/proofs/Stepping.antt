@@ -1,12 +1,10 @@
 -- A step that was begun, done and ended is the whole step.
-use Rattle.std.proofs.Common.{◌≡◌, ◌≢◌, ℕ, ◌≤◌, Bool, true, false, max, List, [], ◌∷◌, ◌++◌, filter, refl, ◌∙◌, sym, ap, append-nil, append_assoc, arith}
-use Rattle.std.specs.Prelude.{◌==◌, if◌then◌else◌}
+use Rattle.std.proofs.Common.{◌≡◌, ℕ, Bool, true, false, max, List, [], ◌∷◌, ◌++◌, filter, refl, ◌∙◌, sym, ap, append-nil, append_assoc, arith}
+use Rattle.std.specs.Prelude.{if◌then◌else◌}
 use Rattle.std.proofs.lemmas.Bool.Decides.{nat_tests}
 use Rattle.std.proofs.lemmas.List.Elements.{filter-append}
 use Rattle.bh_base.specs.declared.event.Counts.{Counts}
 use Rattle.bh_base.specs.declared.event.EventKind.{EventKind}
-use Rattle.bh_base.specs.declared.event.Window.{Window}
-use Rattle.bh_base.specs.declared.reply.Reply.{Reply}
 use Rattle.bh_base.specs.declared.step.Op.{Op}
 use Rattle.bh_base.specs.History.{window_of, is_of_health}
 use Rattle.bh_base.specs.Tables.{no_rows, later_table}
@@ -15,7 +13,7 @@ use Rattle.bh_base.specs.Runs.{View, begun, released, is_worn}
 use Rattle.bh_base.specs.Seen.{view_rolling, view_outcome, view_recorded, view_after}
 use Rattle.bh_base.proofs.Tables.{later_table-again}
 use Rattle.bh_base.proofs.Kept.{Keeps, outcome_keeps}
-use Rattle.bh_core.specs.Desk.{Desk, Begins, outcome_now, done, with_event, with_events, released_desk}
+use Rattle.bh_core.specs.Desk.{Begins, outcome_now, done, with_event, with_events}
 
 -- the table with events added one by one
 table-with_events : (v : View) (latest : ℕ) (rows : List Counts) (kinds more : List EventKind) → v.table ≡ later_table (window_of v.present.props) latest rows v.present.latest kinds → (with_events more v).table ≡ later_table (window_of v.present.props) latest rows v.present.latest (kinds ++ more)

@@ -1,5 +1,5 @@
 -- A plain list of events as a history.
-use Rattle.std.specs.Prelude.{ℕ, ◌-◌, ◌<◌, ◌≤◌, ◌^◌, length, vec_capacity}
+use Rattle.std.specs.Prelude.{◌-◌, ◌<◌, ◌≤◌, ◌^◌, length, vec_capacity}
 use Rattle.std.specs.List.{AllByRecursion}
 use Rattle.bh_base.specs.History.{table, health_events}
 use Rattle.bh_core.specs.declared.history.History.TheInside.{Inside}

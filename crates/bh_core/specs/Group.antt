@@ -1,5 +1,5 @@
 -- What the fields of a group show, and what holds of them between steps.
-use Rattle.std.specs.Prelude.{◌≡◌, ℕ, ◌+◌, ◌-◌, ◌*◌, ◌≤◌, ◌^◌, length}
+use Rattle.std.specs.Prelude.{◌≡◌, ◌+◌, ◌-◌, ◌*◌, ◌≤◌, ◌^◌, length}
 use Rattle.bh_base.specs.Circuit.{new_circuit}
 use Rattle.bh_base.specs.History.{window_of}
 use Rattle.bh_core.specs.declared.group.Group.TheInside.{Inside}

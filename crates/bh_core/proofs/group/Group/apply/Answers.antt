@@ -1,4 +1,4 @@
-use Rattle.std.proofs.Common.{◌≡◌, ap}
+use Rattle.std.proofs.Common.{ap}
 use Rattle.bh_base.specs.Runs.{View}
 use Rattle.bh_core.specs.Desk.{Desk}
 use Rattle.bh_core.specs.Group.{desk_of}

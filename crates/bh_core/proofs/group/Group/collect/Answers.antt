@@ -1,12 +1,11 @@
-use Rattle.std.proofs.Common.{◌≡◌, Some, None, refl, ◌∙◌, sym, ap}
-use Rattle.bh_base.specs.declared.reply.Reply.{Reply}
+use Rattle.std.proofs.Common.{refl, ap}
 use Rattle.bh_base.specs.declared.reply.Reply.TheVariants as reply
 use Rattle.bh_base.specs.declared.step.Op.TheVariants as op
 use Rattle.bh_base.specs.declared.ticket.TicketState.TheVariants as ticket
 use Rattle.bh_base.specs.Machine.{Present, changed, released_by_one}
 use Rattle.bh_base.specs.Tickets.{is_held_at}
 use Rattle.bh_base.specs.Runs.{View}
-use Rattle.bh_core.specs.Desk.{outcome_now, IsDoneBy}
+use Rattle.bh_core.specs.Desk.{outcome_now}
 use Rattle.bh_core.specs.Group.{desk_of}
 use Rattle.bh_core.proofs.Places.{IsFirst, find-none, first-at}
 use Rattle.bh_core.proofs.Ops.{done_quiet, done_as, changed_at, holders_at, collect_none, collect_in}

@@ -1,5 +1,4 @@
-use Rattle.std.proofs.Common.{◌≡◌, ◌≤◌, ◌<◌, ◌∷◌, [], Some, true, false, refl, ◌∙◌, sym, ap}
-use Rattle.std.specs.Prelude.{not, position}
+use Rattle.std.proofs.Common.{◌≤◌, ◌<◌, ◌∙◌, sym, ap}
 use Rattle.bh_base.specs.declared.event.EventKind.TheVariants as kind
 use Rattle.bh_base.specs.declared.reply.Reply.TheVariants as reply
 use Rattle.bh_base.specs.declared.ticket.TicketState.TheVariants as ticket
@@ -7,7 +6,7 @@ use Rattle.bh_base.specs.Machine.{Present, changed, collected_in, in_fallback_co
 use Rattle.bh_base.specs.Tickets.{is_held_at}
 use Rattle.bh_base.specs.Runs.{View}
 use Rattle.bh_core.specs.Changes.{answered, fallback_started}
-use Rattle.bh_core.specs.Desk.{Desk, with_event, desk_with_event}
+use Rattle.bh_core.specs.Desk.{Desk, with_event}
 use Rattle.bh_core.specs.Group.{desk_of}
 use Rattle.bh_core.proofs.Places.{IsFirst, first-at}
 use Rattle.bh_core.proofs.Ops.{done_quiet, done_noted, done_noted_twice, some_ticket, changed_at, holders_at, fall_disabled, fall_rejected, fall_runs}

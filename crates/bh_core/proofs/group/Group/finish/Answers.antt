@@ -1,14 +1,12 @@
-use Rattle.std.proofs.Common.{◌≡◌, Some, None, true, false, refl, ◌∙◌, sym, ap, rules}
-use Rattle.std.specs.Prelude.{find, not}
+use Rattle.std.proofs.Common.{◌≡◌, true, false, refl, ◌∙◌, ap, rules}
 use Rattle.bh_base.specs.declared.event.EventKind.TheVariants as kind
 use Rattle.bh_base.specs.declared.reply.Reply.TheVariants as reply
 use Rattle.bh_base.specs.declared.step.Op.TheVariants as op
-use Rattle.bh_base.specs.declared.ticket.Ticket.{Ticket}
 use Rattle.bh_base.specs.Machine.{Present, changed}
 use Rattle.bh_base.specs.Tickets.{is_busy_at, is_running}
 use Rattle.bh_base.specs.Runs.{View}
 use Rattle.bh_core.specs.Changes.{run_ended, run_stopped}
-use Rattle.bh_core.specs.Desk.{Desk, desk_with_event, outcome_now, with_event}
+use Rattle.bh_core.specs.Desk.{Desk, outcome_now, with_event}
 use Rattle.bh_core.specs.Group.{desk_of}
 use Rattle.bh_core.proofs.Places.{IsFirst, find-none, first-at}
 use Rattle.bh_core.proofs.Ops.{done_quiet, done_noted, changed_at, found_at, value_state, finish_none, finish_late, finish_done}

@@ -1,10 +1,8 @@
-use Rattle.std.proofs.Common.{◌≡◌, ◌∙◌, sym, ap, arith}
-use Rattle.std.specs.Prelude.{true}
+use Rattle.std.proofs.Common.{◌∙◌, sym, ap, arith}
 use Rattle.bh_base.specs.Replies.{can_reply}
 use Rattle.bh_base.specs.Runs.{view}
 use Rattle.bh_base.proofs.Answering.{view_reply_fits}
 use Rattle.bh_base.proofs.Views.{step_sound}
-use Rattle.bh_core.specs.Desk.{Desk}
 use Rattle.bh_core.proofs.OneOfMany.{step_reply, step_view, step_others, step_slots, known, past_last}
 use Rattle.bh_core.proofs.service.Core.apply.Goals as goal
 

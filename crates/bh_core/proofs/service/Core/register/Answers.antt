@@ -1,9 +1,8 @@
-use Rattle.std.proofs.Common.{◌≡◌, ◌∙◌, ap, List, ◌++◌, ◌∷◌, []}
+use Rattle.std.proofs.Common.{◌≡◌, ◌∙◌, ap, ◌++◌, ◌∷◌, []}
 use Rattle.std.specs.Prelude.{true}
 use Rattle.std.specs.Result.{is_ok}
 use Rattle.bh_base.specs.declared.props.GroupProps.{GroupProps}
 use Rattle.bh_base.specs.Runs.{View, view, opened}
-use Rattle.bh_core.specs.Groups.{Groups}
 use Rattle.bh_core.specs.InForce.{in_force}
 use Rattle.bh_core.specs.Views.{views_of}
 use Rattle.bh_core.proofs.OneOfMany.{views-push}
