@@ -11,10 +11,12 @@ use Rattle.bh_base.specs.declared.circuit.End.{End}
 use Rattle.bh_base.specs.declared.circuit.End.TheVariants as end
 use Rattle.bh_base.specs.History.{percent}
 
+-- a group's circuit breaker: its state, and the health snapshot that it last took, if any since it closed
 pub record Circuit : Type 0 where
   pub state : CircuitState
   pub snapshot : Option Snapshot
 
+-- the circuit breaker of a new group, and after a test call's success: closed, and without a snapshot
 abbrev pub new_circuit : Circuit
 new_circuit = record { state = state.Closed; snapshot = None }
 
@@ -23,6 +25,7 @@ pub record Asked : Type 0 where
   pub says : Admit
   pub circuit : Circuit
 
+-- an answer to a submit that changes neither the circuit's state nor its snapshot
 abbrev pub unchanged : Admit → Circuit → Asked
 unchanged says c = record { says = says; circuit = c }
 
@@ -32,15 +35,18 @@ snapshot_at props now health None = record { taken = now; health = health }
 snapshot_at props now health (Some s) =
     if nat_le props.health_ms (now - s.taken) then record { taken = now; health = health } else s
 
+-- whether the request volume and the error percentage both reach their thresholds, which opens the circuit
 abbrev pub is_unhealthy : GroupProps → Health → Bool
 is_unhealthy props h = nat_le props.volume h.total && nat_le props.percent (percent h)
 
+-- a closed circuit opens on an unhealthy snapshot and short-circuits the submit itself, else it lets it pass
 abbrev pub asked_closed : GroupProps → ℕ → Snapshot → Asked
 asked_closed props now s =
     if is_unhealthy props s.health
     then record { says = admit.Short; circuit = record { state = state.Open now; snapshot = Some s } }
     else record { says = admit.Pass; circuit = record { state = state.Closed; snapshot = Some s } }
 
+-- a closed circuit goes by health; an open one lets a single test call pass once the sleep window is over
 abbrev pub asked_at : CircuitState → GroupProps → ℕ → Health → ℕ → Circuit → Asked
 asked_at state.Closed props now health serial c = asked_closed props now (snapshot_at props now health c.snapshot)
 asked_at (state.Open opened) props now health serial c =
@@ -57,15 +63,18 @@ asked props now health serial c =
     if props.force_closed then unchanged admit.Pass c else
     asked_at c.state props now health serial c
 
+-- whether the ticket of the serial is the test call of a half-open circuit
 abbrev pub is_test : ℕ → CircuitState → Bool
 is_test serial (state.HalfOpen opened test) = serial == test
 is_test serial _ = false
 
+-- a test call's success closes the circuit, an error opens it anew, a bad request at the old opening moment
 abbrev pub test_ended : End → ℕ → ℕ → Circuit → Circuit
 test_ended end.Success opened now c = new_circuit
 test_ended end.Error opened now c = record c { state = state.Open now }
 test_ended end.BadRequest opened now c = record c { state = state.Open opened }
 
+-- the circuit after a ticket's end: only the end of its test call changes it, while it is half-open
 abbrev pub ended_at : CircuitState → ℕ → End → ℕ → Circuit → Circuit
 ended_at (state.HalfOpen opened test) serial end now c = if serial == test then test_ended end opened now c else c
 ended_at _ serial end now c = c
@@ -74,15 +83,18 @@ ended_at _ serial end now c = c
 abbrev pub ended : ℕ → End → ℕ → Circuit → Circuit
 ended serial end now c = ended_at c.state serial end now c
 
+-- whether a ticket's end closes the circuit, as the test call's success does; health counts from there on
 abbrev pub closes : ℕ → End → CircuitState → Bool
 closes serial end.Success s = is_test serial s
 closes serial _ s = false
 
+-- an open or half-open circuit opened no later than the moment
 abbrev pub opened_by : CircuitState → ℕ → Type 0
 opened_by state.Closed now = Unit {0}
 opened_by (state.Open opened) now = opened ≤ now
 opened_by (state.HalfOpen opened test) now = opened ≤ now
 
+-- the snapshot, where there is one, was taken no later than the moment, and has no more errors than runs
 abbrev pub taken_by : Option Snapshot → ℕ → Type 0
 taken_by None now = Unit {0}
 taken_by (Some s) now = (s.taken ≤ now) × (s.health.errors ≤ s.health.total)

@@ -26,6 +26,7 @@ place_of kind.Success = 10
 place_of kind.ThreadPoolRejected = 11
 place_of kind.Timeout = 12
 
+-- whether two kinds of events are the same
 abbrev pub is_kind : EventKind → EventKind → Bool
 is_kind k l = place_of k == place_of l
 
@@ -56,6 +57,7 @@ counts_by f = record {
   timeout = f kind.Timeout;
 }
 
+-- the number that the counts have for the kind
 abbrev pub count_in : Counts → EventKind → ℕ
 count_in c kind.BadRequest = c.bad_request
 count_in c kind.ExceptionThrown = c.exception_thrown
@@ -109,6 +111,7 @@ health_by f =
     let errors = f kind.Failure + f kind.Timeout + f kind.ThreadPoolRejected + f kind.SemaphoreRejected in
     record { errors = errors; total = errors + f kind.Success }
 
+-- the error percentage of the runs that health counts, rounded down; 0 where there was no run
 abbrev pub percent : Health → ℕ
 percent h = if h.total == 0 then 0 else 100 * h.errors / h.total
 

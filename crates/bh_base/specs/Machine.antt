@@ -42,31 +42,38 @@ pub record Present : Type 0 where
   pub tickets : List Ticket
   pub circuit : Circuit
 
--- what a step does: its reply, what it leaves, the kinds of the events that it records, and whether the circuit closed
+-- what a step does: its reply, what it leaves, the kinds of its events, and whether the circuit closed
 pub record Outcome : Type 0 where
   pub reply : Reply
   pub present : Present
   pub events : List EventKind
   pub closed : Bool
 
+-- the outcome of a case that does not close the circuit
 abbrev pub answers : Reply → List EventKind → Present → Outcome
 answers r events g = record { reply = r; present = g; events = events; closed = false }
 
+-- how many workers or permits are in use, also by runs that timed out and have not ended yet
 abbrev pub busy_count : Present → ℕ
 busy_count g = count_by (λ t. t.busy) g.tickets
 
+-- how many tickets wait for a worker of the thread pool
 abbrev pub queued_count : Present → ℕ
 queued_count g = count_by is_queued g.tickets
 
+-- how many fallbacks are under way, which have permits of their own, apart from those of runs
 abbrev pub in_fallback_count : Present → ℕ
 in_fallback_count g = count_by is_in_fallback g.tickets
 
+-- how many slots are free for new tickets, where each ticket that is still needed takes one
 abbrev pub free_count : Present → ℕ
 free_count g = g.props.slots - length g.tickets
 
+-- the group with one ticket changed: the first that passes the test
 abbrev pub changed : (Ticket → Bool) → (Ticket → Ticket) → Present → Present
 changed p f g = record g { tickets = changed_first p f g.tickets }
 
+-- the group after its circuit breaker was told, at the step's moment, how the ticket of the serial ended
 abbrev pub ended_in : Present → ℕ → End → Present
 ended_in g serial e = record g { circuit = ended serial e g.latest g.circuit }
 
@@ -86,9 +93,11 @@ abbrev pub queue_limit : Option ℕ → ℕ → ℕ
 queue_limit None threshold = 0
 queue_limit (Some most) threshold = min most threshold
 
+-- whether fewer runs are busy or queued than the thread pool has workers and places in the queue together
 abbrev pub pool_admits : ℕ → ℕ → ℕ → Option ℕ → ℕ → Bool
 pool_admits busy queued core max_queue threshold = nat_lt (busy + queued) (core + queue_limit max_queue threshold)
 
+-- whether the isolation strategy allows one more run: a permit is free, or the thread pool has room
 abbrev pub is_admitted : Present → Strategy → Bool
 is_admitted g strategy.Semaphore = nat_lt (busy_count g) g.props.semaphore
 is_admitted g strategy.Thread = pool_admits (busy_count g) (queued_count g) g.props.core g.props.max_queue g.props.queue_threshold
@@ -110,6 +119,7 @@ with_ticket request state busy test g = record g {
   } ∷ [];
 }
 
+-- a request that may not run still gets a ticket, which needs a fallback; an event tells of the refusal
 abbrev pub due_fallback : Cause → EventKind → Request → Bool → Present → Outcome
 due_fallback cause event request test g =
     answers (reply.FallbackDue g.serial cause) (event ∷ []) (with_ticket request (ticket.NeedsFallback cause) false test g)
@@ -121,22 +131,27 @@ rejected strategy.Semaphore request test g =
 rejected strategy.Thread request test g =
     due_fallback cause.PoolRejected kind.ThreadPoolRejected request test (ended_in g g.serial end.Error)
 
+-- the new ticket waits for a worker or, under a permit, is run by the caller at once
 abbrev pub admitted : Strategy → Request → Bool → Present → Outcome
 admitted strategy.Semaphore request test g = answers (reply.Inline g.serial) [] (with_ticket request ticket.Running true test g)
 admitted strategy.Thread request test g = answers (reply.Queued g.serial) [] (with_ticket request ticket.Queued false test g)
 
+-- a submit that the circuit breaker lets pass is run, or rejected where the isolation strategy has no room
 abbrev pub placed : Request → Bool → Present → Outcome
 placed request test g =
     if is_admitted g g.props.strategy then admitted g.props.strategy request test g else rejected g.props.strategy request test g
 
+-- a submit is short-circuited to its fallback, or goes on, perhaps as the test call
 abbrev pub circuit_said : Admit → Request → Present → Outcome
 circuit_said admit.Short request g = due_fallback cause.ShortCircuited kind.ShortCircuited request false g
 circuit_said admit.Test request g = placed request true g
 circuit_said admit.Pass request g = placed request false g
 
+-- a submit goes on as the circuit breaker says, whose state and snapshot may have changed by being asked
 abbrev pub circuit_asked : Asked → Request → Present → Outcome
 circuit_asked a request g = circuit_said a.says request (record g { circuit = a.circuit })
 
+-- a submit may join a cached ticket without asking for a slot or the circuit breaker; else it asks for both
 abbrev pub submitted : Option Ticket → Request → Rolling → Present → Outcome
 submitted (Some t) request rolling g =
     answers (reply.Joined t.serial) (kind.ResponseFromCache ∷ []) (changed (is_joined_by request.cache) (λ u. record u { holders = u.holders + 1 }) g)
@@ -147,6 +162,7 @@ submitted None request rolling g =
 
 -- Start
 
+-- a worker that asks gets the queued ticket of least serial, unless none waits or all workers are busy
 abbrev pub started : Option Ticket → Present → Outcome
 started None g = answers reply.Idle [] g
 started (Some t) g =
@@ -169,13 +185,16 @@ run_ended (Some t) serial state e event g =
 
 -- Expire
 
+-- whether timeouts are on and the timeout has passed since the submit of a ticket that is queued or running
 abbrev pub is_due : Present → Ticket → Bool
 is_due g t = g.props.timeout_on && (is_queued t || is_running t) && nat_le g.props.timeout_ms (g.latest - t.submitted)
 
+-- the circuit after tickets timed out: where the test call is among them, it is told of an error
 abbrev pub test_timed_out : Option Ticket → Present → Circuit
 test_timed_out None g = g.circuit
 test_timed_out (Some t) g = ended t.serial end.Error g.latest g.circuit
 
+-- the due tickets time out and need a fallback; a running one keeps its worker or permit until its run ends
 abbrev pub expired : List Ticket → Present → Outcome
 expired due g = answers (reply.Expired (length due)) (replicate (length due) kind.Timeout) (record g {
   tickets = map (λ t. if is_due g t then in_state (ticket.NeedsFallback cause.Timeout) t else t) g.tickets;
@@ -184,6 +203,7 @@ expired due g = answers (reply.Expired (length due)) (replicate (length due) kin
 
 -- Collect
 
+-- the ticket after one of its holders has collected the answer
 abbrev pub released_by_one : Ticket → Ticket
 released_by_one t = record t { holders = t.holders - 1 }
 
@@ -193,6 +213,7 @@ without_fallback serial cause fault events g =
     let a : Answer = answer.Error cause fault in
     answers (reply.Answered a) events (changed (is_held_at serial) (λ t. released_by_one (in_state (ticket.Answered a) t)) g)
 
+-- what a holder that collects gets: the answer, the fallback to run, an error in its place, or no answer yet
 abbrev pub collected_in : TicketState → ℕ → Present → Outcome
 collected_in (ticket.Answered a) serial g = answers (reply.Answered a) [] (changed (is_held_at serial) released_by_one g)
 collected_in (ticket.NeedsFallback cause) serial g =
@@ -201,33 +222,39 @@ collected_in (ticket.NeedsFallback cause) serial g =
     answers (reply.RunFallback cause) [] (changed (is_held_at serial) (in_state (ticket.InFallback cause)) g)
 collected_in _ serial g = answers reply.Pending [] g
 
+-- a collect goes by the state of the ticket that is held under the serial, if there is one
 abbrev pub collected : Option Ticket → ℕ → Present → Outcome
 collected None serial g = answers reply.NoTicket [] g
 collected (Some t) serial g = collected_in t.state serial g
 
 -- FallbackDone
 
+-- the answer after a fallback: its value, or an error that says why it was due and why it gave none
 abbrev pub fallback_answer : FallbackEnd → Cause → Answer
 fallback_answer (fallback.Success body) cause = answer.FallbackValue cause body
 fallback_answer fallback.Failure cause = answer.Error cause fault.Failed
 fallback_answer fallback.Missing cause = answer.Error cause fault.Missing
 
+-- the events of a fallback's end: an exception is thrown only where the fallback gave no value
 abbrev pub fallback_events : FallbackEnd → List EventKind
 fallback_events (fallback.Success body) = kind.FallbackSuccess ∷ []
 fallback_events fallback.Failure = kind.FallbackFailure ∷ kind.ExceptionThrown ∷ []
 fallback_events fallback.Missing = kind.FallbackMissing ∷ kind.ExceptionThrown ∷ []
 
+-- the end of a fallback that is under way gives the ticket its answer, the same for each holder
 abbrev pub fallback_done_in : TicketState → ℕ → FallbackEnd → Present → Outcome
 fallback_done_in (ticket.InFallback cause) serial e g =
     answers reply.Done (fallback_events e) (changed (is_in_fallback_at serial) (in_state (ticket.Answered (fallback_answer e cause))) g)
 fallback_done_in _ serial e g = answers reply.NotInFallback [] g
 
+-- a fallback's end counts for the ticket of the serial whose fallback is under way, if there is one
 abbrev pub fallback_done : Option Ticket → ℕ → FallbackEnd → Present → Outcome
 fallback_done None serial e g = answers reply.NotInFallback [] g
 fallback_done (Some t) serial e g = fallback_done_in t.state serial e g
 
 -- Close
 
+-- the end of a request context: no request joins its tickets any more, and their holders keep them
 abbrev pub context_closed : ℕ → Present → Outcome
 context_closed context g = answers (reply.Closed (count_by (is_cached_in context) g.tickets)) [] (record g {
   tickets = map (λ t. if is_cached_in context t then record t { cached = false } else t) g.tickets;
@@ -235,6 +262,7 @@ context_closed context g = answers (reply.Closed (count_by (is_cached_in context
 
 -- Read
 
+-- the metrics of a group; health is that of the step's moment, not that of the circuit breaker's snapshot
 abbrev pub metrics : Rolling → Present → Reply
 metrics rolling g = reply.Metrics (record {
   circuit = g.circuit.state;
@@ -249,6 +277,7 @@ metrics rolling g = reply.Metrics (record {
 
 -- the case of each op; the latest moment is the step's
 
+-- what an operation does in a group whose step has begun, given the rolling counts and health
 abbrev pub outcome : Op → Rolling → Present → Outcome
 outcome (op.Submit request) rolling g = submitted (cached_as request.cache g) request rolling g
 outcome op.Start rolling g = started (if nat_lt (busy_count g) g.props.core then find is_queued g.tickets else None) g

@@ -10,6 +10,7 @@ abbrev pub Rise : ℕ → List Ticket → ℕ → Type 0
 Rise from [] next = from ≤ next
 Rise from (t ∷ ts) next = (from ≤ t.serial) × Rise (t.serial + 1) ts next
 
+-- the tickets stand by rising serial from 1 on, so no two have the same, and the next serial is above all
 abbrev pub IsRising : State → Type 0
 IsRising s = Rise 1 s.present.tickets s.present.serial
 

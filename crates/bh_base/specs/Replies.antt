@@ -11,6 +11,7 @@ is_refusal reply.Worn = true
 is_refusal reply.NoGroup = true
 is_refusal _ = false
 
+-- the replies to Submit: the request has a ticket, a new one or one that it joined, or the group is full
 abbrev pub answers_submit : Reply → Bool
 answers_submit (reply.Queued serial) = true
 answers_submit (reply.Inline serial) = true
@@ -19,6 +20,7 @@ answers_submit (reply.Joined serial) = true
 answers_submit reply.GroupFull = true
 answers_submit _ = false
 
+-- the replies to Start: a run for the worker, or none
 abbrev pub answers_start : Reply → Bool
 answers_start (reply.Assigned serial arg) = true
 answers_start reply.Idle = true
@@ -31,10 +33,12 @@ answers_end reply.Late = true
 answers_end reply.NotRunning = true
 answers_end _ = false
 
+-- the replies to Expire: how many tickets timed out
 abbrev pub answers_expire : Reply → Bool
 answers_expire (reply.Expired number) = true
 answers_expire _ = false
 
+-- the replies to Collect: the answer, a fallback to run, no answer yet, or no such ticket
 abbrev pub answers_collect : Reply → Bool
 answers_collect reply.Pending = true
 answers_collect (reply.RunFallback cause) = true
@@ -42,15 +46,18 @@ answers_collect (reply.Answered answer) = true
 answers_collect reply.NoTicket = true
 answers_collect _ = false
 
+-- the replies to FallbackDone: the end was taken, or no fallback of the ticket was under way
 abbrev pub answers_fallback_done : Reply → Bool
 answers_fallback_done reply.Done = true
 answers_fallback_done reply.NotInFallback = true
 answers_fallback_done _ = false
 
+-- the replies to Close: how many tickets are cached no longer
 abbrev pub answers_close : Reply → Bool
 answers_close (reply.Closed number) = true
 answers_close _ = false
 
+-- the replies to Read: the metrics of the group
 abbrev pub answers_read : Reply → Bool
 answers_read (reply.Metrics metrics) = true
 answers_read _ = false

@@ -29,7 +29,7 @@ opened props limit = record {
   health_from = 0;
 }
 
--- a state that a group can be in
+-- what every state of a run has: no event later than the latest moment, and health begins within the history
 pub record IsSound (s : State) : Type 0 where
   pub past : AllByRecursion (λ event. event.moment ≤ s.present.latest) s.history
   pub from : s.health_from ≤ length s.history
@@ -42,6 +42,7 @@ begun now g = record g { steps = g.steps + 1; latest = max g.latest now }
 abbrev pub released : Present → Present
 released g = record g { tickets = filter is_kept g.tickets }
 
+-- events of the kinds, all at one moment, as those of a step are
 abbrev pub events_at : ℕ → List EventKind → List Event
 events_at moment kinds = map (λ k. record { moment = moment; kind = k }) kinds
 
@@ -51,6 +52,7 @@ outcome_in s op now =
     let g = begun now s.present in
     outcome op (rolling (window_of g.props) s.history s.health_from g.latest) g
 
+-- the state after a step, with its events; where the circuit closed, health looks at no event up to then
 abbrev pub left_by : State → Outcome → State
 left_by s out =
     let history = s.history ++ events_at out.present.latest out.events in
@@ -60,6 +62,7 @@ left_by s out =
       health_from = (if out.closed then length history else s.health_from);
     }
 
+-- what a step gives: the reply, and the group after it
 pub record Stepped : Type 0 where
   pub reply : Reply
   pub state : State
@@ -69,9 +72,11 @@ abbrev pub stepped : Bool → State → Outcome → Stepped
 stepped true s out = record { reply = reply.Worn; state = s }
 stepped false s out = record { reply = out.reply; state = left_by s out }
 
+-- whether the group has done all the steps that it may
 abbrev pub is_worn : Present → Bool
 is_worn g = g.steps == g.limit
 
+-- one step of a group that is alone: what the operation at the moment replies and leaves
 abbrev pub step : State → Op → ℕ → Stepped
 step s op now = stepped (is_worn s.present) s (outcome_in s op now)
 
@@ -81,6 +86,7 @@ pub record View : Type 0 where
   pub table : List Counts
   pub health : List Counts
 
+-- all that replies can depend on: what is present, and the window's counts, of all events and of health's
 abbrev pub view : State → View
 view s = record {
   present = s.present;
@@ -90,10 +96,12 @@ view s = record {
 
 -- whole runs
 
+-- a group's replies to the steps, one for each, in order
 abbrev pub replies : State → List Step → List Reply
 replies s [] = []
 replies s (x ∷ xs) = (step s x.op x.now).reply ∷ replies (step s x.op x.now).state xs
 
+-- the group after all of the steps
 abbrev pub state_after : State → List Step → State
 state_after s [] = s
 state_after s (x ∷ xs) = state_after (step s x.op x.now).state xs

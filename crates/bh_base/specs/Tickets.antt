@@ -5,25 +5,33 @@ use Rattle.bh_base.specs.declared.ticket.Ticket.{Ticket}
 use Rattle.bh_base.specs.declared.ticket.TicketState.{TicketState}
 use Rattle.bh_base.specs.declared.ticket.TicketState.TheVariants as ticket
 
+-- whether the ticket waits for a worker of the thread pool
 abbrev pub is_queued : Ticket → Bool
 is_queued t = elim t.state [ ticket.Queued ↦ true | _ ↦ false ]
 
+-- whether the ticket's run is under way and has not been marked as timed out
 abbrev pub is_running : Ticket → Bool
 is_running t = elim t.state [ ticket.Running ↦ true | _ ↦ false ]
 
+-- whether a holder runs the ticket's fallback
 abbrev pub is_in_fallback : Ticket → Bool
 is_in_fallback t = elim t.state [ ticket.InFallback _ ↦ true | _ ↦ false ]
 
+-- whether the ticket is still needed: its run has not ended, a holder is to collect, or requests may join
 abbrev pub is_kept : Ticket → Bool
 is_kept t = t.busy || nat_lt 0 t.holders || t.cached
 
 -- the tickets that a serial means to a step
+
+-- what Finish and Fail mean: the ticket of the serial whose run has not ended, timed out or not
 abbrev pub is_busy_at : ℕ → Ticket → Bool
 is_busy_at serial t = t.serial == serial && t.busy
 
+-- what Collect means: the ticket of the serial whose answer a holder has still to collect
 abbrev pub is_held_at : ℕ → Ticket → Bool
 is_held_at serial t = t.serial == serial && nat_lt 0 t.holders
 
+-- what FallbackDone means: the ticket of the serial whose fallback is under way
 abbrev pub is_in_fallback_at : ℕ → Ticket → Bool
 is_in_fallback_at serial t = t.serial == serial && is_in_fallback t
 
@@ -31,6 +39,7 @@ is_in_fallback_at serial t = t.serial == serial && is_in_fallback t
 abbrev pub is_cached_as : ℕ × List ℕ → Ticket → Bool
 is_cached_as name t = t.cached && elim t.cache [ None ↦ false | Some given ↦ (given.0 == name.0) && pointwise nat_eq given.1 name.1 ]
 
+-- what Close means: each ticket that is cached in the request context, whatever its key
 abbrev pub is_cached_in : ℕ → Ticket → Bool
 is_cached_in context t = t.cached && elim t.cache [ None ↦ false | Some given ↦ given.0 == context ]
 
@@ -39,5 +48,6 @@ abbrev pub changed_first : (Ticket → Bool) → (Ticket → Ticket) → List Ti
 changed_first p f [] = []
 changed_first p f (t ∷ ts) = if p t then f t ∷ ts else t ∷ changed_first p f ts
 
+-- the ticket in the given state, and as it was otherwise
 abbrev pub in_state : TicketState → Ticket → Ticket
 in_state s t = record t { state = s }

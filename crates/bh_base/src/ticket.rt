@@ -9,7 +9,7 @@ use crate::text::Text;
 pub enum TicketState {
     /// It waits for a worker.
     Queued,
-    /// Its run is under way, and has not timed out.
+    /// Its run is under way, and has not been marked as timed out.
     Running,
     /// Its run failed, timed out or never was; nobody has asked for the answer since.
     NeedsFallback(Cause),

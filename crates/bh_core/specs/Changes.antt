@@ -8,6 +8,7 @@ use Rattle.bh_base.specs.declared.reply.Cause.{Cause}
 use Rattle.bh_base.specs.Tickets.{in_state}
 use Rattle.bh_base.specs.Machine.{released_by_one}
 
+-- the tickets of a group, in a list with room that was taken beforehand
 pub record TicketStore : Type 0 where
   pub items : List Ticket
   -- for how many tickets there is room in all

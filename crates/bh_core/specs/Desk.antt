@@ -14,6 +14,7 @@ use Rattle.bh_base.specs.Machine.{Outcome, outcome, queue_limit, with_ticket}
 use Rattle.bh_base.specs.Runs.{View, begun, released}
 use Rattle.bh_base.specs.Seen.{view_rolling}
 
+-- what the code of one group keeps, as its contracts see it: the group's view, and room for further events
 pub record Desk : Type 0 where
   pub view : View
   -- how many more events may be recorded
@@ -39,6 +40,7 @@ with_event k v = record {
   health = later_table (window_of v.present.props) v.present.latest v.health v.present.latest (filter is_of_health (k ∷ []));
 }
 
+-- with further events of the kinds, all at the latest moment
 abbrev pub with_events : List EventKind → View → View
 with_events [] v = v
 with_events (k ∷ ks) v = with_events ks (with_event k v)
@@ -60,12 +62,15 @@ pub record IsDoneBy (old : View) (out : Outcome) (r : Reply) (new : View) : Type
   pub reply : r ≡ out.reply
   pub view : new ≡ done old out
 
+-- the reply and the view are those of the operation in a step that has begun, before tickets are released
 abbrev pub IsDone : View → Op → Reply → View → Type 0
 IsDone old o r new = IsDoneBy old (outcome_now old o) r new
 
+-- with one more event at the latest moment, and room for one event less
 abbrev pub desk_with_event : EventKind → Desk → Desk
 desk_with_event k d = record { view = with_event k d.view; room = d.room - 1 }
 
+-- with a ticket of the next serial for the request, neither busy nor the test call
 abbrev pub desk_with_ticket : Request → TicketState → Desk → Desk
 desk_with_ticket request state d =
     record d { view = record d.view { present = with_ticket request state false false d.view.present } }

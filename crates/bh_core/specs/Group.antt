@@ -5,6 +5,7 @@ use Rattle.bh_base.specs.History.{window_of}
 use Rattle.bh_core.specs.declared.group.Group.TheInside.{Inside}
 use Rattle.bh_core.specs.Desk.{Desk, IsServed}
 
+-- what a group's fields show; its circuit breaker is a new one's, as none is built so far
 abbrev pub desk_of : Inside → Desk
 desk_of g = record {
   view = record {
