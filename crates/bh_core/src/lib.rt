@@ -6,6 +6,8 @@ mod history;
 pub mod in_force;
 mod room;
 pub mod service;
+#[cfg(test)]
+mod tests;
 mod tickets;
 mod window;
 

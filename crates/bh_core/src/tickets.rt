@@ -187,7 +187,7 @@ impl Tickets {
     }
 }
 
-/// Whether the ticket's run is under way and has not timed out.
+/// Whether the run of the ticket is under way and was not marked as timed out.
 pub fn is_running(ticket: &Ticket) -> bool
     ensures { result ≡ is_running ticket.now }
 {

@@ -1,0 +1,11 @@
+pub mod SettingsFile
+pub mod Floatless
+pub mod Cutting
+pub mod Taking
+pub mod Writing
+pub mod TextLaws
+pub mod OwnSteps
+pub mod Answering
+pub mod Running
+pub mod AtOnce
+pub mod RunStatus

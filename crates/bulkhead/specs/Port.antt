@@ -1,0 +1,102 @@
+-- What the parts of a script do to the bytes that have come, to the groups, and to what is written.
+use Rattle.std.specs.Prelude.{◌≡◌, ◌≢◌, ℕ, ◌<◌, ◌==◌, Bool, true, false, List, [], ◌∷◌, ◌++◌, length, take, String, string_bytes, Option, Some, None, Result, Ok, Err, IsErr}
+use Rattle.std.specs.Io.KnownBytes.{Appends}
+use Rattle.std.specs.declared.alloc.Global.{Global}
+use Rattle.bh_base.specs.declared.step.Step.{Step}
+use Rattle.bh_core.specs.Groups.{Groups, Shows}
+use Rattle.bulkhead.specs.declared.port_error.PortError.{PortError}
+use Rattle.bulkhead.specs.declared.port_error.PortError.TheVariants.{Read, Write, Line, Memory}
+use Rattle.bulkhead.specs.Lines.{Cut, line, ended, stopped, cut, has_line}
+use Rattle.bulkhead.specs.StepLine.{step_of}
+use Rattle.bulkhead.specs.ReplyLine.{reply_line}
+use Rattle.bulkhead.specs.Text.{group_after, reply_to, text, stops}
+
+-- what the next line of `old` is, whatever bytes follow, and what is left behind it
+abbrev pub TakesLine : List ℕ → Result (Option (String Global)) PortError → List ℕ → Type 0
+TakesLine old (Ok (Some s)) new =
+    (length new < length old) × ((more : List ℕ) → cut (old ++ more) ≡ line (string_bytes s) (cut (new ++ more)))
+TakesLine old (Ok None) new = (has_line old ≡ false) × (new ≡ old)
+TakesLine old (Err Line) new = (more : List ℕ) → cut (old ++ more) ≡ stopped
+TakesLine old (Err Memory) new = Unit {0}
+TakesLine old (Err Read) new = ⊥
+TakesLine old (Err Write) new = ⊥
+
+-- what the last line of an input that ends with `rest` is
+abbrev pub IsLast : List ℕ → Result (Option (String Global)) PortError → Type 0
+IsLast rest (Ok (Some s)) = cut rest ≡ line (string_bytes s) ended
+IsLast rest (Ok None) = cut rest ≡ ended
+IsLast rest (Err Line) = cut rest ≡ stopped
+IsLast rest (Err Memory) = Unit {0}
+IsLast rest (Err Read) = ⊥
+IsLast rest (Err Write) = ⊥
+
+-- The front of `bytes` was written, or all of it, and nothing else.
+abbrev pub WritesFront : Option (List ℕ) → Option (List ℕ) → List ℕ → Type 0
+WritesFront old new bytes = (n : ℕ) × Appends old new (take n bytes)
+
+-- each of so many groups looks as after its own steps of these
+pub record Agrees (count : ℕ) (core : Groups) (steps : List Step) : Type 0 where
+  pub shows : (group : ℕ) → group < count → Shows core group (group_after group steps)
+
+-- the line says a step, and the line of the reply to it stands behind what was there
+pub record AnswersLine (names : List (List ℕ)) (before : List Step) (bytes : List ℕ) (core : Groups) (old new : List ℕ) : Type 0 where
+  pub step : Step
+  pub said : step_of names bytes ≡ Ok step
+  pub wrote : new ≡ old ++ reply_line (reply_to before step)
+  pub agrees : Agrees (length names) core (before ++ step ∷ [])
+
+-- a line is answered, or it is faulty and nothing is added for it, or memory is refused
+abbrev pub LineOutcome : List (List ℕ) → List Step → List ℕ → Groups → List ℕ → List ℕ → Result (Unit {0}) PortError → Type 0
+LineOutcome names before bytes core old new (Ok x) = AnswersLine names before bytes core old new
+LineOutcome names before bytes core old new (Err Line) = IsErr (step_of names bytes) × (new ≡ old)
+LineOutcome names before bytes core old new (Err Memory) = new ≡ old
+LineOutcome names before bytes core old new (Err Read) = ⊥
+LineOutcome names before bytes core old new (Err Write) = ⊥
+
+-- The lines that `old` begins with were answered, up to `new`, whatever bytes follow.
+pub record Answered (w0 w1 : Option (List ℕ)) (names : List (List ℕ)) (before : List Step) (core : Groups) (old new : List ℕ) : Type 0 where
+  pub out : List ℕ
+  pub later : List Step
+  pub agrees : Agrees (length names) core later
+  pub wrote : Appends w0 w1 out
+  pub text_is : (more : List ℕ) → text names before (cut (old ++ more)) ≡ out ++ text names later (cut (new ++ more))
+  pub stops_is : (more : List ℕ) → stops names (cut (old ++ more)) ≡ stops names (cut (new ++ more))
+
+-- a run over bytes that are cut so, after these steps
+abbrev pub Outcome : Option (List ℕ) → Option (List ℕ) → List (List ℕ) → List Step → Cut → Result (Unit {0}) PortError → Type 0
+Outcome w0 w1 names before c (Ok x) = Appends w0 w1 (text names before c) × (stops names c ≡ false)
+Outcome w0 w1 names before c (Err Line) = Appends w0 w1 (text names before c) × (stops names c ≡ true)
+Outcome w0 w1 names before c (Err Memory) = WritesFront w0 w1 (text names before c)
+Outcome w0 w1 names before c (Err Read) = WritesFront w0 w1 (text names before c)
+Outcome w0 w1 names before c (Err Write) = WritesFront w0 w1 (text names before c)
+
+-- with status 0 the whole text was written and no line was faulty; with status 3 a front of it was written
+pub record IsRun (names : List (List ℕ)) (c : Cut) (w0 w1 : Option (List ℕ)) (status : ℕ) : Type 0 where
+  pub whole : status ≡ 0 → Appends w0 w1 (text names [] c) × (stops names c ≡ false)
+  pub front : status ≡ 3 → WritesFront w0 w1 (text names [] c)
+  pub not_refused : status ≢ 1
+
+-- which errors there can be
+
+abbrev pub IsMemoryOrLine : PortError → Type 0
+IsMemoryOrLine Line = Unit {0}
+IsMemoryOrLine Memory = Unit {0}
+IsMemoryOrLine Read = ⊥
+IsMemoryOrLine Write = ⊥
+
+abbrev pub IsMemoryOrRead : PortError → Type 0
+IsMemoryOrRead Line = ⊥
+IsMemoryOrRead Memory = Unit {0}
+IsMemoryOrRead Read = Unit {0}
+IsMemoryOrRead Write = ⊥
+
+abbrev pub IsNotRead : PortError → Type 0
+IsNotRead Line = Unit {0}
+IsNotRead Memory = Unit {0}
+IsNotRead Write = Unit {0}
+IsNotRead Read = ⊥
+
+-- a write that failed, or took no byte
+abbrev pub took_none : {E : Type 0} → Result ℕ E → Bool
+took_none (Ok n) = n == 0
+took_none (Err e) = true

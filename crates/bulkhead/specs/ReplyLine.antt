@@ -1,0 +1,138 @@
+-- The lines of replies.
+use Rattle.std.specs.Prelude.{ℕ, List, [], ◌∷◌, ◌++◌, ◌==◌, if◌then◌else◌, codes}
+use Rattle.serde_json.specs.Data.{Data, object, member, no_members, Members, string, number, unsigned, put}
+use Rattle.serde_json.specs.Written.{compact_text}
+use Rattle.bh_base.specs.declared.circuit.CircuitState.{CircuitState}
+use Rattle.bh_base.specs.declared.circuit.CircuitState.TheVariants as circuit
+use Rattle.bh_base.specs.declared.event.Counts.{Counts}
+use Rattle.bh_base.specs.declared.reply.Cause.{Cause}
+use Rattle.bh_base.specs.declared.reply.Cause.TheVariants as cause
+use Rattle.bh_base.specs.declared.reply.FallbackFault.{FallbackFault}
+use Rattle.bh_base.specs.declared.reply.FallbackFault.TheVariants as fault
+use Rattle.bh_base.specs.declared.reply.Answer.{Answer}
+use Rattle.bh_base.specs.declared.reply.Answer.TheVariants as answer
+use Rattle.bh_base.specs.declared.reply.Metrics.{Metrics}
+use Rattle.bh_base.specs.declared.reply.Reply.{Reply}
+use Rattle.bh_base.specs.declared.reply.Reply.TheVariants as reply
+
+abbrev pub cause_word : Cause → List ℕ
+cause_word cause.ShortCircuited = codes "short-circuited"
+cause_word cause.PoolRejected = codes "thread-pool-rejected"
+cause_word cause.SemaphoreRejected = codes "semaphore-rejected"
+cause_word cause.Failure = codes "failure"
+cause_word cause.Timeout = codes "timeout"
+
+abbrev pub fallback_word : FallbackFault → List ℕ
+fallback_word fault.Failed = codes "failed"
+fallback_word fault.Rejected = codes "rejected"
+fallback_word fault.Missing = codes "missing"
+fallback_word fault.Disabled = codes "disabled"
+
+abbrev pub circuit_word : CircuitState → List ℕ
+circuit_word circuit.Closed = codes "closed"
+circuit_word (circuit.Open since) = codes "open"
+circuit_word (circuit.HalfOpen since serial) = codes "half-open"
+
+-- a member that is a text, and one that is a number
+abbrev pub word : List ℕ → List ℕ → Members → Members
+word name text rest = member name (string text) rest
+
+abbrev pub count : List ℕ → ℕ → Members → Members
+count name n rest = member name (number (unsigned n)) rest
+
+-- the object of a reply that is its name alone, and of one of a name and a ticket
+abbrev pub named : List ℕ → Data
+named name = object (word (codes "reply") name no_members)
+
+abbrev pub numbered : List ℕ → ℕ → Data
+numbered name ticket = object (word (codes "reply") name (count (codes "ticket") ticket no_members))
+
+-- the names of the kinds of events, in their order
+abbrev pub kind_names : List (List ℕ)
+kind_names =
+    codes "BAD_REQUEST" ∷ codes "EXCEPTION_THROWN" ∷ codes "FAILURE" ∷ codes "FALLBACK_FAILURE" ∷ codes "FALLBACK_MISSING"
+    ∷ codes "FALLBACK_REJECTION" ∷ codes "FALLBACK_SUCCESS" ∷ codes "RESPONSE_FROM_CACHE" ∷ codes "SEMAPHORE_REJECTED"
+    ∷ codes "SHORT_CIRCUITED" ∷ codes "SUCCESS" ∷ codes "THREAD_POOL_REJECTED" ∷ codes "TIMEOUT" ∷ []
+
+-- the counts in the same order
+abbrev pub counts_listed : Counts → List ℕ
+counts_listed c =
+    c.bad_request ∷ c.exception_thrown ∷ c.failure ∷ c.fallback_failure ∷ c.fallback_missing
+    ∷ c.fallback_rejection ∷ c.fallback_success ∷ c.response_from_cache ∷ c.semaphore_rejected
+    ∷ c.short_circuited ∷ c.success ∷ c.thread_pool_rejected ∷ c.timeout ∷ []
+
+-- the members with one more under a name, unless the count is 0
+abbrev pub with_count : List ℕ → ℕ → Members → Members
+with_count name n rest = if n == 0 then rest else put name (number (unsigned n)) rest
+
+-- the members with each count under its name, unless it is 0
+abbrev pub with_counts : List (List ℕ) → List ℕ → Members → Members
+with_counts [] counts rest = rest
+with_counts (name ∷ names) [] rest = rest
+with_counts (name ∷ names) (n ∷ counts) rest = with_counts names counts (with_count name n rest)
+
+-- the object of the events of the rolling window
+unfoldable pub events_data : Counts → Data
+events_data counts = object (with_counts kind_names (counts_listed counts) no_members)
+
+abbrev pub metrics_data : Metrics → Data
+metrics_data m = object (
+    count (codes "busy") m.busy (word (codes "circuit") (circuit_word m.circuit) (count (codes "errors") m.errors (
+    member (codes "events") (events_data m.counts) (count (codes "free") m.free (count (codes "percent") m.percent (
+    count (codes "queued") m.queued (word (codes "reply") (codes "metrics") (count (codes "total") m.total no_members)))))))))
+
+abbrev pub answer_data : Answer → Data
+answer_data (answer.Value body) = object (word (codes "body") body (word (codes "reply") (codes "value") no_members))
+answer_data (answer.FallbackValue cause body) =
+    object (word (codes "body") body (word (codes "cause") (cause_word cause) (word (codes "reply") (codes "fallback-value") no_members)))
+answer_data (answer.Error cause fallback) =
+    object (word (codes "cause") (cause_word cause) (word (codes "fallback") (fallback_word fallback) (word (codes "reply") (codes "error") no_members)))
+answer_data answer.BadRequest = named (codes "bad-request")
+
+abbrev pub fallback_due_data : ℕ → Cause → Data
+fallback_due_data ticket cause =
+    object (word (codes "cause") (cause_word cause) (word (codes "reply") (codes "fallback-due") (count (codes "ticket") ticket no_members)))
+
+abbrev pub assigned_data : ℕ → List ℕ → Data
+assigned_data ticket arg =
+    object (word (codes "arg") arg (word (codes "reply") (codes "assigned") (count (codes "ticket") ticket no_members)))
+
+abbrev pub expired_data : ℕ → Data
+expired_data n = object (count (codes "count") n (word (codes "reply") (codes "expired") no_members))
+
+abbrev pub run_fallback_data : Cause → Data
+run_fallback_data cause = object (word (codes "cause") (cause_word cause) (word (codes "reply") (codes "run-fallback") no_members))
+
+abbrev pub closed_data : ℕ → Data
+closed_data n = object (count (codes "released") n (word (codes "reply") (codes "closed") no_members))
+
+-- the object of a reply, its members in the order of their names
+abbrev pub reply_data : Reply → Data
+reply_data (reply.Queued serial) = numbered (codes "queued") serial
+reply_data (reply.Inline serial) = numbered (codes "inline") serial
+reply_data (reply.FallbackDue serial cause) = fallback_due_data serial cause
+reply_data (reply.Joined serial) = numbered (codes "joined") serial
+reply_data reply.GroupFull = named (codes "group-full")
+reply_data (reply.Assigned serial arg) = assigned_data serial arg
+reply_data reply.Idle = named (codes "idle")
+reply_data reply.Done = named (codes "done")
+reply_data reply.Late = named (codes "late")
+reply_data reply.NotRunning = named (codes "not-running")
+reply_data (reply.Expired n) = expired_data n
+reply_data reply.Pending = named (codes "pending")
+reply_data (reply.RunFallback cause) = run_fallback_data cause
+reply_data (reply.Answered answer) = answer_data answer
+reply_data reply.NoTicket = named (codes "no-ticket")
+reply_data reply.NotInFallback = named (codes "not-in-fallback")
+reply_data (reply.Closed n) = closed_data n
+reply_data (reply.Metrics metrics) = metrics_data metrics
+reply_data reply.Worn = named (codes "worn")
+reply_data reply.NoGroup = named (codes "no-group")
+
+-- a line is the compact text and a line feed
+abbrev pub line_of : Data → List ℕ
+line_of d = compact_text d ++ 10 ∷ []
+
+-- the line of a reply
+unfoldable pub reply_line : Reply → List ℕ
+reply_line r = line_of (reply_data r)

@@ -1,0 +1,130 @@
+-- The step that a line says, or its fault.
+use Rattle.std.specs.Prelude.{ℕ, List, length, codes, Option, Some, None, option_and_then, Result, Ok, Err, Bool, true, ◌&&◌, nat_le, if◌then◌else◌}
+use Rattle.std.specs.List.{position_from}
+use Rattle.std.specs.Str.{bytes_eq}
+use Rattle.std.specs.Borrow.{Bor}
+use Rattle.serde_json.specs.Data.{Data}
+use Rattle.serde_json.specs.Find.{get, as_str, as_number, as_u64}
+use Rattle.serde_json.specs.Read.{read}
+use Rattle.bh_base.specs.declared.step.Op.{Op}
+use Rattle.bh_base.specs.declared.step.Op.TheVariants as op
+use Rattle.bh_base.specs.declared.step.Step.{Step}
+use Rattle.bulkhead.specs.declared.step_line.Fault.{Fault}
+use Rattle.bulkhead.specs.declared.step_line.Fault.TheVariants as faults
+use Rattle.bulkhead.specs.declared.step_line.OpWord.{OpWord}
+use Rattle.bulkhead.specs.declared.step_line.OpWord.TheVariants as words
+use Rattle.bulkhead.specs.declared.step_line.OpLine.{OpLine}
+use Rattle.bulkhead.specs.declared.step_line.OpLine.TheVariants as lines
+
+-- a member that is text, and one that is a whole number
+abbrev pub text_at : List ℕ → Data → Option (List ℕ)
+text_at name d = option_and_then as_str (get name d)
+
+abbrev pub number_at : List ℕ → Data → Option ℕ
+number_at name d = option_and_then as_u64 (option_and_then as_number (get name d))
+
+infixl 10 ◌>>=◌
+-- goes on unless there is a fault
+abbrev pub ◌>>=◌ : {A B : Type 0} → Result A Fault → (A → Result B Fault) → Result B Fault
+(Ok x) >>= f = f x
+(Err e) >>= f = Err e
+
+-- what is there, or the fault
+abbrev pub or_fault : {A : Type 0} → Fault → Option A → Result A Fault
+or_fault fault (Some x) = Ok x
+or_fault fault None = Err fault
+
+-- the operation of a word
+abbrev pub op_word : List ℕ → Option OpWord
+op_word s =
+    if bytes_eq s (codes "submit") then Some words.Submit else
+    (if bytes_eq s (codes "start") then Some words.Start else
+    (if bytes_eq s (codes "finish") then Some words.Finish else
+    (if bytes_eq s (codes "collect") then Some words.Collect else
+    (if bytes_eq s (codes "read") then Some words.Read else None))))
+
+-- the context and the key of a submit: both or neither
+abbrev pub cache_of : Option Data → Option Data → Result (Option (ℕ × List ℕ)) Fault
+cache_of None None = Ok None
+cache_of (Some c) (Some k) = do
+  context ← or_fault faults.Field (option_and_then as_u64 (as_number c))
+  key ← or_fault faults.Field (as_str k)
+  Ok (Some (context, key))
+cache_of (Some c) None = Err faults.Field
+cache_of None (Some k) = Err faults.Field
+
+-- the operation that an object says, with texts of any length
+abbrev pub op_at : OpWord → Data → Result Op Fault
+op_at words.Submit d = do
+  cache ← cache_of (get (codes "context") d) (get (codes "key") d)
+  arg ← or_fault faults.Field (text_at (codes "arg") d)
+  Ok (op.Submit (record { cache = cache; arg = arg }))
+op_at words.Start d = Ok op.Start
+op_at words.Finish d = do
+  ticket ← or_fault faults.Field (number_at (codes "ticket") d)
+  body ← or_fault faults.Field (text_at (codes "body") d)
+  Ok (op.Finish ticket body)
+op_at words.Collect d = do
+  ticket ← or_fault faults.Field (number_at (codes "ticket") d)
+  Ok (op.Collect ticket)
+op_at words.Read d = Ok op.Read
+
+-- a key is of at most 32 bytes
+abbrev pub is_short_name : Option (ℕ × List ℕ) → Bool
+is_short_name None = true
+is_short_name (Some name) = nat_le (length name.1) 32
+
+-- an argument is of at most 64 bytes, and a body of at most 256
+abbrev pub is_short : Op → Bool
+is_short (op.Submit request) = is_short_name request.cache && nat_le (length request.arg) 64
+is_short (op.Finish ticket body) = nat_le (length body) 256
+is_short _ = true
+
+-- the operation, unless a text is too long
+abbrev pub if_short : Op → Result Op Fault
+if_short o = if is_short o then Ok o else Err faults.Long
+
+-- the number of the group of a name: its place in the list of names, from 0
+abbrev pub group_number : List (List ℕ) → List ℕ → Option ℕ
+group_number names name = position_from (λ n. bytes_eq n name) 0 names
+
+-- the step that an object says
+abbrev pub step_at : List (List ℕ) → Data → Result Step Fault
+step_at names d = do
+  word ← or_fault faults.Field (text_at (codes "op") d)
+  kind ← or_fault faults.Op (op_word word)
+  name ← or_fault faults.Field (text_at (codes "group") d)
+  now ← or_fault faults.Field (number_at (codes "now") d)
+  said ← op_at kind d
+  group ← or_fault faults.Group (group_number names name)
+  o ← if_short said
+  Ok (record { group = record { 0 = group }; now = now; op = o })
+
+-- the step that a line says, if it is JSON at all
+abbrev pub step_in : List (List ℕ) → Option Data → Result Step Fault
+step_in names None = Err faults.Syntax
+step_in names (Some d) = step_at names d
+
+-- the step that a line says to a service of groups with these names
+unfoldable pub step_of : List (List ℕ) → List ℕ → Result Step Fault
+step_of names bytes = step_in names (read bytes)
+
+-- what the code found, as an operation
+abbrev pub cache_view : Option (ℕ × Bor (List ℕ)) → Option (ℕ × List ℕ)
+cache_view None = None
+cache_view (Some name) = Some (name.0, name.1.now)
+
+abbrev pub op_view : OpLine → Op
+op_view (lines.Submit cache arg) = op.Submit (record { cache = cache_view cache; arg = arg.now })
+op_view lines.Start = op.Start
+op_view (lines.Finish ticket body) = op.Finish ticket body.now
+op_view (lines.Collect ticket) = op.Collect ticket
+op_view lines.Read = op.Read
+
+abbrev pub found_op : Result OpLine Fault → Result Op Fault
+found_op (Ok o) = Ok (op_view o)
+found_op (Err fault) = Err fault
+
+abbrev pub found_cache : Result (Option (ℕ × Bor (List ℕ))) Fault → Result (Option (ℕ × List ℕ)) Fault
+found_cache (Ok cache) = Ok (cache_view cache)
+found_cache (Err fault) = Err fault

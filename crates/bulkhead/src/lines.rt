@@ -1,0 +1,63 @@
+//! The lines of the bytes that have come.
+//!
+//! A codec is made for each line, and only where one is known to stand in front: so the bytes in hand are all that
+//! is kept, and it does not matter in which pieces they came.
+
+ghost use Rattle.std.specs.Prelude.{◌≡◌, ◌↔◌, ℕ, false, Err};
+ghost use Rattle.tokio_util.specs.Codec.Lines.{IsOutOfMemory};
+ghost use Rattle.bulkhead.specs.Lines.{has_line};
+ghost use Rattle.bulkhead.specs.Port.{TakesLine, IsLast, IsMemoryOrLine};
+
+use crate::port_error::PortError;
+use bytes::BytesMut;
+use std::io::ErrorKind;
+use tokio_util::codec::{Decoder, LinesCodec, LinesCodecError};
+
+// The most bytes of a line, its carriage return counted.
+const LINE_LIMIT: usize = 1024;
+
+// Whether a line, good or refused, stands in front.
+fn has_line(bytes: &[u8]) -> bool
+    ensures { result ≡ has_line bytes.now }
+{
+    bytes.len() > LINE_LIMIT || bytes.contains(&b'\n')
+}
+
+// Takes the line in front, or nothing where none has ended yet.
+pub fn next_line(buffer: &mut BytesMut) -> Result<Option<String>, PortError>
+    ensures { TakesLine buffer.old.items result buffer.new.items }
+{
+    if !has_line(buffer.as_slice()) {
+        return Ok(None);
+    }
+    let mut codec = LinesCodec::new_with_max_length(LINE_LIMIT);
+    match codec.decode(buffer) {
+        Ok(line) => Ok(line),
+        Err(error) => Err(line_error(error)),
+    }
+}
+
+// The line that stands at the end of the input with no line feed behind it, if any.
+pub fn last_line(buffer: &mut BytesMut) -> Result<Option<String>, PortError>
+    requires { has_line buffer.old.items ≡ false }
+    ensures { IsLast buffer.old.items result }
+{
+    let mut codec = LinesCodec::new_with_max_length(LINE_LIMIT);
+    match codec.decode_eof(buffer) {
+        Ok(line) => Ok(line),
+        Err(error) => Err(line_error(error)),
+    }
+}
+
+fn line_error(error: LinesCodecError) -> PortError
+    ensures memory { result ≡ PortError.Memory ↔ IsOutOfMemory {T = ℕ} (Err error) }
+    ensures kinds { IsMemoryOrLine result }
+{
+    match error {
+        LinesCodecError::MaxLineLengthExceeded => PortError::Line,
+        LinesCodecError::Io(error) => match error.kind() {
+            ErrorKind::OutOfMemory => PortError::Memory,
+            _ => PortError::Line,
+        },
+    }
+}

@@ -1,0 +1,90 @@
+//! `bulkhead`: a command service whose groups have slots, workers and a circuit of their own.
+#![tactic(auto)]
+
+pub mod built_in;
+pub mod group_names;
+pub mod port_error;
+pub mod reader;
+pub mod writer;
+mod lines;
+mod members;
+pub mod step_line;
+pub mod reply_line;
+mod answers;
+pub mod script;
+mod report;
+pub mod run;
+#[cfg(test)]
+mod tests;
+
+use clap::{Arg, ArgAction, Command};
+use std::alloc::AllocError;
+use std::process::ExitCode;
+use std::{env, fs, io};
+
+use crate::group_names::SettingsError;
+
+/// The status where the words of the command line are refused.
+const BAD_WORDS: u8 = 2;
+
+fn main(rt: HostRuntime) -> ExitCode {
+    let status = match words(&rt) {
+        Ok(words) => match run_words(&rt, words.as_slice()) {
+            Ok(status) => status,
+            Err(_) => report::settings(&mut rt.stderr(), SettingsError::Memory),
+        },
+        Err(_) => BAD_WORDS,
+    };
+    ExitCode::from(status)
+}
+
+// The words of the command line.
+fn words(rt: &HostRuntime) -> io::Result<Vec<String>> {
+    let words: Vec<String> = env::args(rt)?.collect(rt.alloc())?;
+    Ok(words)
+}
+
+// Does what the words say, and answers the exit status.
+fn run_words(rt: &HostRuntime, words: &[String]) -> Result<u8, AllocError> {
+    let alloc = rt.alloc();
+    let file = Arg::new(alloc, "FILE")
+        .help("The settings, as TOML")
+        .required(true)
+        .action(ArgAction::Set);
+    let run = Command::new(alloc, "run")
+        .about("Answers each line of standard input by a line")
+        .arg(file)?;
+    let command = Command::new(alloc, "bulkhead")
+        .about("A command service")
+        .subcommand_required(true)
+        .subcommand(run)?;
+    let matches = match command.try_get_matches_from(words) {
+        Ok(matches) => matches,
+        Err(error) => {
+            let _ = error.print(rt);
+            return Ok(error.exit_code() as u8);
+        }
+    };
+    match matches.subcommand() {
+        Some(("run", found)) => Ok(run_path(rt, found.get_str("FILE").unwrap_or(""))),
+        _ => Ok(BAD_WORDS),
+    }
+}
+
+// Runs standard input under the settings of the file.
+fn run_path(rt: &HostRuntime, path: &str) -> u8 {
+    let mut errors = rt.stderr();
+    match fs::read(rt, path) {
+        Ok(settings) => run::run_file(
+            rt.alloc(),
+            settings.as_slice(),
+            &mut rt.reader(),
+            &mut io::writer(rt),
+            &mut errors,
+        ),
+        Err(error) => match error.kind() {
+            io::ErrorKind::OutOfMemory => report::settings(&mut errors, SettingsError::Memory),
+            _ => report::file(&mut errors),
+        },
+    }
+}

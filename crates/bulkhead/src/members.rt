@@ -1,0 +1,35 @@
+//! The members of a JSON object, by name and type.
+
+ghost use Rattle.std.specs.Prelude.{◌≡◌, option_map};
+ghost use Rattle.serde_json.specs.View.{view};
+ghost use Rattle.serde_json.specs.Find.{get};
+ghost use Rattle.bulkhead.specs.StepLine.{text_at, number_at};
+
+use serde_json::Value;
+
+// The member, of whatever type.
+pub fn data_at<'a>(value: &'a Value, name: &str) -> Option<&'a Value>
+    ensures { option_map (λ v. view v.now) result ≡ get name.now (view value.now) }
+{
+    value.get(name)
+}
+
+// The member, where it is a text.
+pub fn text_at<'a>(value: &'a Value, name: &str) -> Option<&'a str>
+    ensures { option_map (λ s. s.now) result ≡ text_at name.now (view value.now) }
+{
+    match value.get(name) {
+        Some(member) => member.as_str(),
+        None => None,
+    }
+}
+
+// The member, where it is a whole number of 64 bits.
+pub fn number_at(value: &Value, name: &str) -> Option<u64>
+    ensures { result ≡ number_at name.now (view value.now) }
+{
+    match value.get(name) {
+        Some(member) => member.as_u64(),
+        None => None,
+    }
+}

@@ -1,0 +1,43 @@
+//! The line on standard error for a run that was refused or ended by a fault, and its status.
+//!
+//! Whether the line could be written changes nothing: there is nowhere left to say so.
+
+ghost use Rattle.std.specs.Prelude.{◌≡◌};
+ghost use Rattle.bulkhead.specs.Status.{settings_status};
+
+use crate::group_names::SettingsError;
+use crate::port_error::PortError;
+use std::io::Write;
+
+/// The status where the settings are refused.
+const REFUSED: u8 = 1;
+
+/// The status where a fault ended the run.
+const FAULT: u8 = 3;
+
+// Of settings that are refused.
+pub fn settings<E: Write>(errors: &mut E, error: SettingsError) -> u8
+    ensures { result ≡ settings_status error }
+{
+    let _ = writeln!(errors, "{error}");
+    match error {
+        SettingsError::Memory => FAULT,
+        _ => REFUSED,
+    }
+}
+
+// Of a script that ended early.
+pub fn port<E: Write>(errors: &mut E, error: PortError) -> u8
+    ensures { result ≡ 3 }
+{
+    let _ = writeln!(errors, "{error}");
+    FAULT
+}
+
+// Of a settings file that can't be read.
+pub fn file<E: Write>(errors: &mut E) -> u8
+    ensures { result ≡ 3 }
+{
+    let _ = writeln!(errors, "fault: file");
+    FAULT
+}

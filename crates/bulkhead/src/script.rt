@@ -1,0 +1,148 @@
+//! A script: each line of a reader is answered by a line to a writer, as the lines come.
+
+ghost use Rattle.std.specs.Prelude.{◌≡◌, ◌<◌, ◌≤◌, ◌+◌, ◌-◌, ◌^◌, ◌⊎◌, ◌++◌, ℕ, List, [], length, min, true, false, Err, OnOk, IfErr, IfOk, IfSome};
+ghost use Rattle.bh_base.specs.declared.step.Step.{Step};
+ghost use Rattle.bulkhead.specs.Lines.{cut, has_line};
+ghost use Rattle.bulkhead.specs.Port.{Agrees, Answered, Outcome, IsNotRead, IsMemoryOrRead};
+
+use crate::answers::{answer_last, answer_lines};
+use crate::built_in::built_in;
+use crate::port_error::PortError;
+use crate::reader::{ReadWatch, fill};
+use crate::writer::{WriteWatch, write};
+use bh_base::Text;
+use bh_core::Core;
+use bytes::BytesMut;
+use std::alloc::Global;
+use std::io::{Read, Write};
+
+/// The steps that a group may do; a further one is answered as worn.
+pub const STEP_LIMIT: u64 = 1024;
+
+// So many bytes are asked of the reader at a time.
+const READ_SIZE: usize = 16_384;
+
+// So many reads are made at most.
+const MOST_READS: u64 = 1 << 40;
+
+/// Answers each line of the reader by one line to the writer, in order, for groups of these names that are new.
+///
+/// The replies to all lines that one read brought to an end are written together, before the next read.
+///
+/// `Line` comes at the first line that is too long, is not UTF-8 or says no step, with the lines before it answered;
+/// `Read` where the reader fails or 2^40 reads were made; `Write` where the writer fails or takes no byte; `Memory`
+/// where memory is refused. The watches note what the reader and the writer did.
+pub fn script<R: Read, W: Write>(
+    alloc: Global,
+    names: &[Text<32>],
+    reader: &mut R,
+    writer: &mut W,
+    read_watch: &mut ReadWatch,
+    write_watch: &mut WriteWatch,
+) -> Result<(), PortError>
+    ensures read { result ≡ Err PortError.Read → (read_watch.new.failed ≡ true) ⊎ (min (read_watch.old.reads + 2 ^ 40) (2 ^ 64 - 1) ≤ read_watch.new.reads) }
+    ensures write { result ≡ Err PortError.Write → write_watch.new.stuck ≡ true }
+    ensures text { IfSome (R.remaining reader.old) (λ input.
+        Outcome (W.contents writer.old) (W.contents writer.new) names.now [] (cut input) result) }
+{
+    let mut core = match open(alloc, names) {
+        Ok(core) => core,
+        Err(error) => return Err(error),
+    };
+    answer_all(alloc, names, &mut core, reader, writer, read_watch, write_watch)
+}
+
+// The groups of these names, all new.
+fn open(alloc: Global, names: &[Text<32>]) -> Result<Core, PortError>
+    ensures agrees { IfOk result (λ core. Agrees (length names.now) core []) }
+    ensures err { IfErr result (λ e. e ≡ PortError.Memory) }
+{
+    let mut core = Core::new(alloc, u32::MAX);
+    for _ in 0..names.len() {
+        match core.register(built_in(), STEP_LIMIT) {
+            Ok(_) => {}
+            // So few groups have far fewer slots than may be, so this can only be want of memory.
+            Err(_) => return Err(PortError::Memory),
+        }
+    }
+    Ok(core)
+}
+
+// Answers all lines of the reader.
+fn answer_all<R: Read, W: Write>(
+    alloc: Global,
+    names: &[Text<32>],
+    core: &mut Core,
+    reader: &mut R,
+    writer: &mut W,
+    read_watch: &mut ReadWatch,
+    write_watch: &mut WriteWatch,
+) -> Result<(), PortError>
+    requires { Agrees (length names.now) core.old [] }
+    ensures read { result ≡ Err PortError.Read → (read_watch.new.failed ≡ true) ⊎ (min (read_watch.old.reads + 2 ^ 40) (2 ^ 64 - 1) ≤ read_watch.new.reads) }
+    ensures write { result ≡ Err PortError.Write → write_watch.new.stuck ≡ true }
+    ensures text { IfSome (R.remaining reader.old) (λ input.
+        Outcome (W.contents writer.old) (W.contents writer.new) names.now [] (cut input) result) }
+{
+    let mut piece = [0u8; READ_SIZE];
+    let mut buffer = BytesMut::new(alloc);
+    for _ in 0..MOST_READS {
+        write_answers(alloc, names, core, &mut buffer, writer, write_watch)?;
+        if !fill(reader, read_watch, &mut piece, &mut buffer)? {
+            return write_last(alloc, names, core, &mut buffer, writer, write_watch);
+        }
+    }
+    Err(PortError::Read)
+}
+
+// Answers each line that has ended, and writes the replies at once.
+fn write_answers<W: Write>(
+    alloc: Global,
+    names: &[Text<32>],
+    core: &mut Core,
+    buffer: &mut BytesMut,
+    writer: &mut W,
+    watch: &mut WriteWatch,
+) -> Result<(), PortError>
+    ensures answered { OnOk result ((before : List Step) → Agrees (length names.now) core.old before →
+        Answered (W.contents writer.old) (W.contents writer.new) names.now before core.new buffer.old.items buffer.new.items) }
+    ensures none_left { OnOk result (has_line buffer.new.items ≡ false) }
+    ensures no_read { IfErr result IsNotRead }
+    ensures stuck { result ≡ Err PortError.Write → watch.new.stuck ≡ true }
+    ensures stopped { IfErr result (λ e. (before : List Step) (more : List ℕ) → Agrees (length names.now) core.old before →
+        Outcome (W.contents writer.old) (W.contents writer.new) names.now before (cut (buffer.old.items ++ more)) (Err e)) }
+{
+    let mut out = Vec::new(alloc);
+    match answer_lines(alloc, names, core, buffer, &mut out) {
+        Ok(()) => write(writer, watch, out.as_slice()),
+        Err(error) => match write(writer, watch, out.as_slice()) {
+            Ok(()) => Err(error),
+            Err(unwritten) => Err(unwritten),
+        },
+    }
+}
+
+// Answers the line at the end of the input that no line feed ended, and writes the reply.
+fn write_last<W: Write>(
+    alloc: Global,
+    names: &[Text<32>],
+    core: &mut Core,
+    buffer: &mut BytesMut,
+    writer: &mut W,
+    watch: &mut WriteWatch,
+) -> Result<(), PortError>
+    requires { has_line buffer.old.items ≡ false }
+    ensures no_read { IfErr result IsNotRead }
+    ensures stuck { result ≡ Err PortError.Write → watch.new.stuck ≡ true }
+    ensures outcome { (before : List Step) → Agrees (length names.now) core.old before →
+        Outcome (W.contents writer.old) (W.contents writer.new) names.now before (cut buffer.old.items) result }
+{
+    let mut out = Vec::new(alloc);
+    match answer_last(alloc, names, core, buffer, &mut out) {
+        Ok(()) => write(writer, watch, out.as_slice()),
+        Err(error) => match write(writer, watch, out.as_slice()) {
+            Ok(()) => Err(error),
+            Err(unwritten) => Err(unwritten),
+        },
+    }
+}
