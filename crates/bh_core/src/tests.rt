@@ -81,7 +81,11 @@ fn run_equals_apply(rt: HostRuntime) -> Result<(), Fail> {
     let replies = whole.run(&steps)?;
     assert_eq!(rt; replies.len(), 8);
     for (i, one) in steps.iter().enumerate() {
-        assert_eq!(rt; replies.get(i).copied(), Some(single.apply(*one)), "step {i}");
+        assert_eq!(rt;
+            replies.get(i).copied(),
+            Some(single.apply(*one)),
+            "step {i}"
+        );
     }
     Ok(())
 }
@@ -101,7 +105,10 @@ fn unregistered_group_is_no_group(rt: HostRuntime) -> Result<(), Fail> {
 fn second_group_has_no_slots(rt: HostRuntime) {
     let mut core = Core::new(rt.alloc(), 15);
     assert_eq!(rt; core.register(props(), 1024), Ok(GroupId(0)));
-    assert_eq!(rt; core.register(props(), 1024), Err(RegisterError::TooManySlots));
+    assert_eq!(rt;
+        core.register(props(), 1024),
+        Err(RegisterError::TooManySlots)
+    );
     assert_eq!(rt; core.apply(step(0, 0, &Op::Start)), Reply::Idle);
 }
 

@@ -55,10 +55,10 @@ answered-one o m n names before was now old mid new s done taken answer =
       agrees = answer.agrees;
       wrote = Appends-trans (Some o) (Some m) (Some n) done.out reply done.wrote answer.wrote;
       text_is = λ more.
-        done.text_is more
-        ∙ ap (λ k. done.out ++ text names done.later k) (taken.1 more)
-        ∙ ap (λ ys. done.out ++ ys) (text-said names done.later (string_bytes s) _ answer.step answer.said)
-        ∙ sym (append_assoc done.out reply _);
+          done.text_is more
+          ∙ ap (λ k. done.out ++ text names done.later k) (taken.1 more)
+          ∙ ap (λ ys. done.out ++ ys) (text-said names done.later (string_bytes s) _ answer.step answer.said)
+          ∙ sym (append_assoc done.out reply _);
       stops_is = λ more. done.stops_is more ∙ ap (stops names) (taken.1 more) ∙ stops-said names (string_bytes s) _ answer.step answer.said;
     }
 
@@ -80,7 +80,7 @@ pub refused-next : (a b : Option (List ℕ)) (names : List (List ℕ)) (before :
     → Answered a b names before core old mid → TakesLine mid (Err e) new → Outcome a b names before (cut (old ++ more)) (Err e)
 refused-next a b names before core old mid new more Line done taken =
     let all : text names before (cut (old ++ more)) ≡ done.out =
-        done.text_is more ∙ ap (λ k. done.out ++ text names done.later k) (taken more) ∙ ap (λ ys. done.out ++ ys) (text-stopped names done.later) ∙ append-nil done.out in
+    done.text_is more ∙ ap (λ k. done.out ++ text names done.later k) (taken more) ∙ ap (λ ys. done.out ++ ys) (text-stopped names done.later) ∙ append-nil done.out in
     (subst (λ (ys : List ℕ). Appends a b ys) (sym all) done.wrote, done.stops_is more ∙ ap (stops names) (taken more) ∙ stops-stopped names)
 refused-next a b names before core old mid new more Memory done taken =
     subst (λ (ys : List ℕ). WritesFront a b ys) (sym (done.text_is more)) (whole-front a b done.out _ done.wrote)
@@ -93,9 +93,10 @@ refused-line : (o m n : List ℕ) (names : List (List ℕ)) (before : List Step)
     → Outcome (Some o) (Some n) names before (cut (old ++ more)) (Err e)
 refused-line o m n names before was now old mid new more s Line done taken refused =
     let all : text names before (cut (old ++ more)) ≡ done.out ++ [] =
-        done.text_is more ∙ ap (λ k. done.out ++ text names done.later k) (taken.1 more) ∙ ap (λ ys. done.out ++ ys) (text-fault names done.later (string_bytes s) _ refused.0) in
-    (subst (λ (ys : List ℕ). Appends (Some o) (Some n) ys) (sym all) (Appends-trans (Some o) (Some m) (Some n) done.out [] done.wrote (kept-appends m n refused.1)),
-     done.stops_is more ∙ ap (stops names) (taken.1 more) ∙ stops-fault names (string_bytes s) _ refused.0)
+    done.text_is more ∙ ap (λ k. done.out ++ text names done.later k) (taken.1 more) ∙ ap (λ ys. done.out ++ ys) (text-fault names done.later (string_bytes s) _ refused.0) in (
+      subst (λ (ys : List ℕ). Appends (Some o) (Some n) ys) (sym all) (Appends-trans (Some o) (Some m) (Some n) done.out [] done.wrote (kept-appends m n refused.1)),
+      done.stops_is more ∙ ap (stops names) (taken.1 more) ∙ stops-fault names (string_bytes s) _ refused.0,
+    )
 refused-line o m n names before was now old mid new more s Memory done taken refused =
     let wrote : Appends (Some o) (Some n) done.out = subst (λ (ys : List ℕ). Appends (Some o) (Some ys) done.out) (sym refused) done.wrote in
     subst (λ (ys : List ℕ). WritesFront (Some o) (Some n) ys) (sym (done.text_is more)) (whole-front (Some o) (Some n) done.out _ wrote)
@@ -116,7 +117,7 @@ last-one : (o n : List ℕ) (names : List (List ℕ)) (before : List Step) (now 
     → LineOutcome names before bytes now o n r → Outcome (Some o) (Some n) names before (line bytes ended) r
 last-one o n names before now bytes (Ok x) answer =
     let all : text names before (line bytes ended) ≡ reply_line (reply_to before answer.step) =
-        text-said names before bytes ended answer.step answer.said ∙ ap (λ ys. reply_line (reply_to before answer.step) ++ ys) (text-ended names (before ++ answer.step ∷ [])) ∙ append-nil _ in
+    text-said names before bytes ended answer.step answer.said ∙ ap (λ ys. reply_line (reply_to before answer.step) ++ ys) (text-ended names (before ++ answer.step ∷ [])) ∙ append-nil _ in
     (subst (λ (ys : List ℕ). Appends (Some o) (Some n) ys) (sym all) answer.wrote, stops-said names bytes ended answer.step answer.said ∙ stops-ended names)
 last-one o n names before now bytes (Err Line) refused =
     (subst (λ (ys : List ℕ). Appends (Some o) (Some n) ys) (sym (text-fault names before bytes ended refused.0)) (kept-appends o n refused.1), stops-fault names bytes ended refused.0)

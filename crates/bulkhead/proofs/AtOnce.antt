@@ -29,8 +29,8 @@ at_once-unwritten (Ok x) P start items bytes w0 w1 names was now old new none sa
 at_once-unwritten (Err e) P start items bytes w0 w1 names was now old new none same answers is_write front = λ before more agrees.
     subst (λ (k : PortError). Outcome w0 w1 names before (cut (old ++ more)) (Err k)) (sym is_write.0)
     (unwritten-answered items w0 w1 names before now old new more
-      (subst (λ (ys : List ℕ). Answered (Some ys) (Some items) names before now old new) none (answers before agrees))
-      (subst (λ (ys : List ℕ). WritesFront w0 w1 ys) same front))
+    (subst (λ (ys : List ℕ). Answered (Some ys) (Some items) names before now old new) none (answers before agrees))
+    (subst (λ (ys : List ℕ). WritesFront w0 w1 ys) same front))
 
 pub at_once-stopped : (e : PortError) (start items bytes : List ℕ) (w0 w1 : Option (List ℕ)) (names : List (List ℕ)) (before : List Step) (c : Cut)
     → start ≡ [] → bytes ≡ items → Outcome (Some start) (Some items) names before c (Err e) → IsMemoryOrLine e → Appends w0 w1 bytes → Outcome w0 w1 names before c (Err e)
@@ -44,5 +44,5 @@ pub at_once-stopped_unwritten : (e k : PortError) (start items bytes : List ℕ)
 at_once-stopped_unwritten e k start items bytes w0 w1 names before c none same outcome kind is_write front =
     subst (λ (j : PortError). Outcome w0 w1 names before c (Err j)) (sym is_write)
     (unwritten items w0 w1 names before c (Err e)
-      (subst (λ (ys : List ℕ). Outcome (Some ys) (Some items) names before c (Err e)) none outcome) kind
-      (subst (λ (ys : List ℕ). WritesFront w0 w1 ys) same front))
+    (subst (λ (ys : List ℕ). Outcome (Some ys) (Some items) names before c (Err e)) none outcome) kind
+    (subst (λ (ys : List ℕ). WritesFront w0 w1 ys) same front))

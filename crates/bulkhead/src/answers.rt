@@ -82,7 +82,12 @@ fn answer_line(
 }
 
 // Does a step, and puts the line of its reply behind what is in `out`.
-fn answer_step(alloc: Global, core: &mut Core, step: Step, out: &mut Vec<u8>) -> Result<(), AllocError>
+fn answer_step(
+    alloc: Global,
+    core: &mut Core,
+    step: Step,
+    out: &mut Vec<u8>,
+) -> Result<(), AllocError>
     requires { is_built step.op ≡ true }
     ensures wrote { OnOk result ((count : ℕ) (before : List Step) → step.group.0 < count → Agrees count core.old before →
         out.new.items ≡ out.old.items ++ reply_line (reply_to before step)) }

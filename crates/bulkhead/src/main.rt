@@ -1,28 +1,27 @@
 //! `bulkhead`: a command service whose groups have slots, workers and a circuit of their own.
 #![tactic(auto)]
 
+mod answers;
 pub mod built_in;
 pub mod group_names;
-pub mod port_error;
-pub mod reader;
-pub mod writer;
 mod lines;
 mod members;
-pub mod step_line;
+pub mod port_error;
+pub mod reader;
 pub mod reply_line;
-mod answers;
-pub mod script;
 mod report;
 pub mod run;
+pub mod script;
+pub mod step_line;
 #[cfg(test)]
 mod tests;
+pub mod writer;
 
+use crate::group_names::SettingsError;
 use clap::{Arg, ArgAction, Command};
 use std::alloc::AllocError;
 use std::process::ExitCode;
 use std::{env, fs, io};
-
-use crate::group_names::SettingsError;
 
 /// The status where the words of the command line are refused.
 const BAD_WORDS: u8 = 2;

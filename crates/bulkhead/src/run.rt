@@ -56,7 +56,14 @@ fn run_script<R: Read, W: Write, E: Write>(
 {
     let mut read_watch = ReadWatch::new();
     let mut write_watch = WriteWatch::new();
-    match script(alloc, names, reader, writer, &mut read_watch, &mut write_watch) {
+    match script(
+        alloc,
+        names,
+        reader,
+        writer,
+        &mut read_watch,
+        &mut write_watch,
+    ) {
         Ok(()) => 0,
         Err(error) => report::port(errors, error),
     }

@@ -49,7 +49,15 @@ pub fn script<R: Read, W: Write>(
         Ok(core) => core,
         Err(error) => return Err(error),
     };
-    answer_all(alloc, names, &mut core, reader, writer, read_watch, write_watch)
+    answer_all(
+        alloc,
+        names,
+        &mut core,
+        reader,
+        writer,
+        read_watch,
+        write_watch,
+    )
 }
 
 // The groups of these names, all new.

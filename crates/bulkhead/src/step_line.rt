@@ -58,7 +58,11 @@ pub enum OpLine<'a> {
 
 #[tactic(auto, unfolding(crate::specs::StepLine::step_of))]
 /// The step that a line says to a service of groups with these names, in the order of their numbers.
-pub fn step_of(alloc: Global, names: &[Text<32>], line: &str) -> Result<Result<Step, Fault>, AllocError>
+pub fn step_of(
+    alloc: Global,
+    names: &[Text<32>],
+    line: &str,
+) -> Result<Result<Step, Fault>, AllocError>
     ensures said { IfOk result (λ said. said ≡ step_of names.now line.now) }
     ensures built { IfOk result (λ said. IfOk said (λ step. is_built step.op ≡ true)) }
     ensures group { IfOk result (λ said. IfOk said (λ step. step.group.0 < length names.now)) }
@@ -135,7 +139,10 @@ fn op_at(word: OpWord, value: &Value) -> Result<OpLine<'_>, Fault>
 }
 
 // The context and the key: both or neither.
-fn cache_of<'a>(context: Option<&'a Value>, key: Option<&'a Value>) -> Result<Option<(u64, &'a str)>, Fault>
+fn cache_of<'a>(
+    context: Option<&'a Value>,
+    key: Option<&'a Value>,
+) -> Result<Option<(u64, &'a str)>, Fault>
     ensures { found_cache result ≡ cache_of (option_map (λ v. view v.now) context.entry) (option_map (λ v. view v.now) key.entry) }
 {
     match (context, key) {
@@ -175,7 +182,10 @@ fn if_short(said: OpLine<'_>) -> Result<Op, Fault>
         }
         OpLine::Start => Ok(Op::Start),
         OpLine::Finish { ticket, body } => match Text::new(body) {
-            Ok(body) => Ok(Op::Finish { serial: ticket, body }),
+            Ok(body) => Ok(Op::Finish {
+                serial: ticket,
+                body,
+            }),
             Err(_) => Err(Fault::Long),
         },
         OpLine::Collect { ticket } => Ok(Op::Collect { serial: ticket }),

@@ -1,12 +1,13 @@
 //! Whole runs over memory.
 
 use crate::run::run_file;
+use std::alloc::Global;
 use std::io;
 use std::io::{ErrorKind, Read, Write};
 use std::process::Abort;
-use std::alloc::Global;
 
 const TWO_GROUPS: &str = "service.groups = [\"a\", \"b\"]\n";
+
 const ONE_GROUP: &str = "service.groups = [\"a\"]\n";
 
 const TWO_GROUPS_INPUT: &str = r#"{"op":"submit","group":"a","now":0,"arg":"x"}
@@ -70,7 +71,15 @@ const WINDOW_OUTPUT: &str = r#"{"reply":"queued","ticket":1}
 "#;
 
 // Runs the input under the settings, and asserts what comes of it.
-fn assert_run(rt: &impl Abort, alloc: Global, settings: &[u8], input: &[u8], status: u8, output: &str, errors: &str) {
+fn assert_run(
+    rt: &impl Abort,
+    alloc: Global,
+    settings: &[u8],
+    input: &[u8],
+    status: u8,
+    output: &str,
+    errors: &str,
+) {
     let mut reader: &[u8] = input;
     let mut written = Vec::new(alloc);
     let mut reported = Vec::new(alloc);
@@ -82,12 +91,28 @@ fn assert_run(rt: &impl Abort, alloc: Global, settings: &[u8], input: &[u8], sta
 
 // Runs the lines for the group a, and asserts the lines written before the faulty one.
 fn assert_faulty(rt: &impl Abort, alloc: Global, input: &[u8], output: &str) {
-    assert_run(rt, alloc, ONE_GROUP.as_bytes(), input, 3, output, "fault: line\n");
+    assert_run(
+        rt,
+        alloc,
+        ONE_GROUP.as_bytes(),
+        input,
+        3,
+        output,
+        "fault: line\n",
+    );
 }
 
 // Asserts that the settings are refused so, and that nothing is written.
 fn assert_refused(rt: &impl Abort, alloc: Global, settings: &[u8], text: &str) {
-    assert_run(rt, alloc, settings, TWO_GROUPS_INPUT.as_bytes(), 1, "", text);
+    assert_run(
+        rt,
+        alloc,
+        settings,
+        TWO_GROUPS_INPUT.as_bytes(),
+        1,
+        "",
+        text,
+    );
 }
 
 #[test]
@@ -97,24 +122,70 @@ fn no_line_is_answered_by_nothing(rt: HostRuntime) {
 
 #[test]
 fn each_group_counts_its_own_tickets(rt: HostRuntime) {
-    assert_run(&rt, rt.alloc(), TWO_GROUPS.as_bytes(), TWO_GROUPS_INPUT.as_bytes(), 0, TWO_GROUPS_OUTPUT, "");
+    assert_run(
+        &rt,
+        rt.alloc(),
+        TWO_GROUPS.as_bytes(),
+        TWO_GROUPS_INPUT.as_bytes(),
+        0,
+        TWO_GROUPS_OUTPUT,
+        "",
+    );
 }
 
 #[test]
 fn the_window_forgets_and_the_slots_fill(rt: HostRuntime) {
-    assert_run(&rt, rt.alloc(), ONE_GROUP.as_bytes(), WINDOW_INPUT.as_bytes(), 0, WINDOW_OUTPUT, "");
+    assert_run(
+        &rt,
+        rt.alloc(),
+        ONE_GROUP.as_bytes(),
+        WINDOW_INPUT.as_bytes(),
+        0,
+        WINDOW_OUTPUT,
+        "",
+    );
 }
 
 #[test]
 fn settings_are_refused_in_order(rt: HostRuntime) {
-    assert_refused(&rt, rt.alloc(), b"service.groups = [", "settings refused: 1 syntax\n");
+    assert_refused(
+        &rt,
+        rt.alloc(),
+        b"service.groups = [",
+        "settings refused: 1 syntax\n",
+    );
     assert_refused(&rt, rt.alloc(), b"\xff", "settings refused: 1 syntax\n");
     assert_refused(&rt, rt.alloc(), b"", "settings refused: 2 no groups\n");
-    assert_refused(&rt, rt.alloc(), b"service.groups = []", "settings refused: 2 no groups\n");
-    assert_refused(&rt, rt.alloc(), b"service.groups = [\"a b\", 1]", "settings refused: 2 no groups\n");
-    assert_refused(&rt, rt.alloc(), b"service.groups = [\"default\"]", "settings refused: 3 bad name at 1\n");
-    assert_refused(&rt, rt.alloc(), b"service.groups = [\"a\", \"a\", \"b c\"]", "settings refused: 3 bad name at 3\n");
-    assert_refused(&rt, rt.alloc(), b"service.groups = [\"a\", \"b\", \"a\"]", "settings refused: 4 twice named at 3\n");
+    assert_refused(
+        &rt,
+        rt.alloc(),
+        b"service.groups = []",
+        "settings refused: 2 no groups\n",
+    );
+    assert_refused(
+        &rt,
+        rt.alloc(),
+        b"service.groups = [\"a b\", 1]",
+        "settings refused: 2 no groups\n",
+    );
+    assert_refused(
+        &rt,
+        rt.alloc(),
+        b"service.groups = [\"default\"]",
+        "settings refused: 3 bad name at 1\n",
+    );
+    assert_refused(
+        &rt,
+        rt.alloc(),
+        b"service.groups = [\"a\", \"a\", \"b c\"]",
+        "settings refused: 3 bad name at 3\n",
+    );
+    assert_refused(
+        &rt,
+        rt.alloc(),
+        b"service.groups = [\"a\", \"b\", \"a\"]",
+        "settings refused: 4 twice named at 3\n",
+    );
 }
 
 #[test]
@@ -123,7 +194,15 @@ fn lines_end_by_line_feed_or_with_the_input(rt: HostRuntime) {
     let idle = "{\"reply\":\"idle\"}\n";
     let input = format!(in rt.alloc(); "{line}\r\n{line}").expect(&rt, "memory");
     let output = format!(in rt.alloc(); "{idle}{idle}").expect(&rt, "memory");
-    assert_run(&rt, rt.alloc(), ONE_GROUP.as_bytes(), input.as_str().as_bytes(), 0, output.as_str(), "");
+    assert_run(
+        &rt,
+        rt.alloc(),
+        ONE_GROUP.as_bytes(),
+        input.as_str().as_bytes(),
+        0,
+        output.as_str(),
+        "",
+    );
 }
 
 #[test]
@@ -143,7 +222,12 @@ fn a_faulty_line_ends_the_run(rt: HostRuntime) {
     let line = r#"{"op":"start","group":"a","now":0}"#;
     for text in faulty {
         let input = format!(in rt.alloc(); "{line}\n{text}\n{line}\n").expect(&rt, "memory");
-        assert_faulty(&rt, rt.alloc(), input.as_str().as_bytes(), "{\"reply\":\"idle\"}\n");
+        assert_faulty(
+            &rt,
+            rt.alloc(),
+            input.as_str().as_bytes(),
+            "{\"reply\":\"idle\"}\n",
+        );
     }
 }
 
@@ -154,7 +238,12 @@ fn a_line_is_short_and_utf8(rt: HostRuntime) {
         long.push(' ').expect(&rt, "memory");
     }
     assert_faulty(&rt, rt.alloc(), long.as_str().as_bytes(), "");
-    assert_faulty(&rt, rt.alloc(), b"{\"op\":\"start\",\"group\":\"a\",\"now\":0}\n\xff\n", "{\"reply\":\"idle\"}\n");
+    assert_faulty(
+        &rt,
+        rt.alloc(),
+        b"{\"op\":\"start\",\"group\":\"a\",\"now\":0}\n\xff\n",
+        "{\"reply\":\"idle\"}\n",
+    );
 }
 
 // A reader that gives one piece, and then fails.
@@ -179,7 +268,13 @@ fn a_reader_that_fails(rt: HostRuntime) {
     };
     let mut written = Vec::new(rt.alloc());
     let mut reported = Vec::new(rt.alloc());
-    let status = run_file(rt.alloc(), ONE_GROUP.as_bytes(), &mut reader, &mut written, &mut reported);
+    let status = run_file(
+        rt.alloc(),
+        ONE_GROUP.as_bytes(),
+        &mut reader,
+        &mut written,
+        &mut reported,
+    );
     assert_eq!(rt; status, 3);
     assert_eq!(rt; written.as_slice(), b"{\"reply\":\"idle\"}\n".as_slice());
     assert_eq!(rt; reported.as_slice(), b"fault: read\n".as_slice());
@@ -214,7 +309,13 @@ fn a_writer_that_fails_or_takes_no_byte(rt: HostRuntime) {
             let mut reader: &[u8] = TWO_GROUPS_INPUT.as_bytes();
             let mut writer = FullWriter { room, fails };
             let mut reported = Vec::new(rt.alloc());
-            let status = run_file(rt.alloc(), TWO_GROUPS.as_bytes(), &mut reader, &mut writer, &mut reported);
+            let status = run_file(
+                rt.alloc(),
+                TWO_GROUPS.as_bytes(),
+                &mut reader,
+                &mut writer,
+                &mut reported,
+            );
             assert_eq!(rt; status, 3);
             assert_eq!(rt; reported.as_slice(), b"fault: write\n".as_slice());
         }

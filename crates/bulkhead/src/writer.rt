@@ -40,7 +40,11 @@ impl WriteWatch {
 }
 
 // Writes the bytes, or a front of them where the writer fails or takes none.
-pub fn write<W: Write>(writer: &mut W, watch: &mut WriteWatch, bytes: &[u8]) -> Result<(), PortError>
+pub fn write<W: Write>(
+    writer: &mut W,
+    watch: &mut WriteWatch,
+    bytes: &[u8],
+) -> Result<(), PortError>
     ensures ok { OnOk result (Appends (W.contents writer.old) (W.contents writer.new) bytes.now) }
     ensures err { IfErr result (λ e. (e ≡ PortError.Write) × (watch.new.stuck ≡ true)) }
     ensures front { WritesFront (W.contents writer.old) (W.contents writer.new) bytes.now }

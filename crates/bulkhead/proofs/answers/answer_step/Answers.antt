@@ -12,4 +12,3 @@ returns-clause-wrote c = λ count before inside agrees.
 pub returns-clause-agrees : goal.returns-clause-agrees
 returns-clause-agrees c = λ count before inside agrees.
     agrees-after count _ _ before c.args.step agrees (record { own = c.apply-reply.ensures.own; others = c.apply-reply.ensures.others })
-

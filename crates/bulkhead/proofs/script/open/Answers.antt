@@ -6,9 +6,8 @@ use Rattle.bulkhead.specs.BuiltIn.{step_limit}
 use Rattle.bulkhead.proofs.OwnSteps.{open-none, open-more}
 use Rattle.bulkhead.proofs.script.open.Goals as goal
 
-
 pub loop-preserved : goal.loop-preserved
 loop-preserved c =
     open-more c.loop.core c.register.new.self c.loop.counter (search rules) c.loop.invariant
     (ap (λ (core : Groups). core.views) c.in-Ok.ensures.added
-      ∙ ap (λ props. c.loop.core.views ++ view (opened (in_force props) step_limit) ∷ []) c.built_in.ensures.value)
+    ∙ ap (λ props. c.loop.core.views ++ view (opened (in_force props) step_limit) ∷ []) c.built_in.ensures.value)
