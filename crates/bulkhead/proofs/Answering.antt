@@ -1,5 +1,5 @@
 -- A run of answers, from the bytes that had come to those that are left.
-use Rattle.std.proofs.Common.{◌≡◌, ℕ, ◌+◌, ◌-◌, ◌≤◌, ◌<◌, min, Bool, true, false, List, [], ◌∷◌, length, take, drop, ◌++◌, Option, Some, None, Result, Ok, Err, IfErr, String, string_bytes, arith, refl, sym, ◌∙◌, subst, ap, append-nil, append_assoc}
+use Rattle.std.proofs.Common.{◌≡◌, ℕ, ◌+◌, ◌≤◌, min, List, [], ◌∷◌, length, take, ◌++◌, Option, Some, None, Result, Ok, Err, IfErr, String, string_bytes, arith, refl, sym, ◌∙◌, subst, ap, append-nil, append_assoc}
 use Rattle.std.proofs.lemmas.Grind.{common_steps}
 use Rattle.std.proofs.lemmas.List.{take-append-le}
 use Rattle.std.proofs.Math.Seq.{take-append-add, take-length}
@@ -10,7 +10,7 @@ use Rattle.bh_base.specs.declared.step.Step.{Step}
 use Rattle.bh_core.specs.Groups.{Groups}
 use Rattle.bulkhead.specs.declared.port_error.PortError.{PortError}
 use Rattle.bulkhead.specs.declared.port_error.PortError.TheVariants.{Read, Write, Line, Memory}
-use Rattle.bulkhead.specs.Lines.{Cut, line, ended, stopped, cut}
+use Rattle.bulkhead.specs.Lines.{Cut, line, ended, cut}
 use Rattle.bulkhead.specs.ReplyLine.{reply_line}
 use Rattle.bulkhead.specs.Text.{reply_to, text, stops}
 use Rattle.bulkhead.specs.Port.{Agrees, AnswersLine, LineOutcome, TakesLine, IsLast, WritesFront, Answered, Outcome, IsMemoryOrLine}

@@ -1,5 +1,5 @@
 -- What was answered from nothing on is then written at once, or a front of it.
-use Rattle.std.proofs.Common.{◌≡◌, ℕ, List, [], ◌++◌, length, Option, Some, Result, Ok, Err, IfErr, OnOk, sym, ◌∙◌, ap, subst}
+use Rattle.std.proofs.Common.{◌≡◌, ℕ, List, [], ◌++◌, length, Option, Some, Result, Ok, Err, IfErr, OnOk, sym, subst}
 use Rattle.std.specs.Io.KnownBytes.{Appends}
 use Rattle.bh_base.specs.declared.step.Step.{Step}
 use Rattle.bh_core.specs.Groups.{Groups}

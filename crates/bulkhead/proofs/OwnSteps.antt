@@ -5,7 +5,6 @@ use Rattle.std.proofs.lemmas.Bool.Decides.{nat_tests}
 use Rattle.std.proofs.lemmas.List.Elements.{filter-append}
 use Rattle.bh_base.specs.declared.step.Step.{Step}
 use Rattle.bh_base.specs.declared.reply.Reply.{Reply}
-use Rattle.bh_base.specs.declared.props.GroupProps.{GroupProps}
 use Rattle.bh_base.specs.Runs.{State, View, IsSound, view, opened, step, state_after, own}
 use Rattle.bh_core.specs.Groups.{Groups, Shows}
 use Rattle.bh_core.specs.InForce.{in_force}

@@ -1,9 +1,9 @@
 -- What the status of a run says of the text.
-use Rattle.std.proofs.Common.{◌≡◌, ◌≢◌, ℕ, List, [], Option, Some, None, Result, Ok, Err, IfSome, arith, refl, sym, subst}
+use Rattle.std.proofs.Common.{◌≡◌, ℕ, List, [], Option, Some, None, Ok, Err, IfSome, arith, sym, subst}
 use Rattle.bulkhead.specs.declared.port_error.PortError.{PortError}
 use Rattle.bulkhead.specs.declared.port_error.PortError.TheVariants.{Read, Write, Line, Memory}
 use Rattle.std.proofs.Math.Seq.{take-length}
-use Rattle.std.proofs.Common.{length, append-nil}
+use Rattle.std.proofs.Common.{length}
 use Rattle.std.specs.Io.KnownBytes.{Appends}
 use Rattle.bulkhead.specs.Lines.{Cut, cut}
 use Rattle.bulkhead.specs.Text.{text}

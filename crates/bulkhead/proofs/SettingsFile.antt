@@ -1,11 +1,11 @@
 -- The names in a file: it is no text, or no TOML, or they are those in its tree.
-use Rattle.std.proofs.Common.{◌≡◌, ℕ, List, Bool, true, false, Option, Some, None, option_map, Result, Ok, Err, IsUtf8, refl, subst, if◌then◌else◌}
+use Rattle.std.proofs.Common.{◌≡◌, ℕ, List, Bool, true, false, Option, option_map, Err, IsUtf8, refl, subst, if◌then◌else◌}
 use Rattle.std.proofs.lemmas.Str.{is_utf8-from_IsUtf8, IsUtf8-from_is_utf8}
 use Rattle.std.specs.Str.{is_utf8}
-use Rattle.toml.specs.Data.{Data, Members, table}
+use Rattle.toml.specs.Data.{Members, table}
 use Rattle.toml.specs.Parse.{parse_document}
 use Rattle.bulkhead.specs.declared.group_names.SettingsError.TheVariants.{Syntax}
-use Rattle.bulkhead.specs.GroupNames.{group_names, names_in, names_in_document}
+use Rattle.bulkhead.specs.GroupNames.{group_names, names_in_document}
 
 pub names-no_text : (bytes : List ℕ) → ¬ (IsUtf8 bytes) → group_names bytes ≡ Err Syntax
 unfolding group_names

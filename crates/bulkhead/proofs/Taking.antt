@@ -1,13 +1,13 @@
 -- What the codec's answers say of the bytes in the buffer.
-use Rattle.std.proofs.Common.{◌≡◌, ℕ, ◌<◌, ◌↔◌, Bool, true, false, List, [], ◌++◌, length, refl, sym, subst, append-nil, String, Option, Some, None, Result, Ok, Err, inl, inr}
+use Rattle.std.proofs.Common.{◌≡◌, ℕ, ◌↔◌, true, false, List, [], sym, subst, append-nil, String, Option, Some, None, Ok, Err, inl, inr}
 use Rattle.std.specs.declared.alloc.Global.{Global}
 use Rattle.tokio_util.specs.declared.codec.lines_codec.LinesCodec.{LinesCodec}
 use Rattle.tokio_util.specs.declared.codec.lines_codec.LinesCodecError.{LinesCodecError}
-use Rattle.tokio_util.specs.Codec.Next.{Decodes, DecodesAtEnd, Resumes, decoded, partial, at_end}
+use Rattle.tokio_util.specs.Codec.Next.{Decodes, DecodesAtEnd, Resumes, partial}
 use Rattle.tokio_util.specs.Codec.Lines.{gives_lines, IsOutOfMemory}
 use Rattle.bulkhead.specs.declared.port_error.PortError.{PortError}
 use Rattle.bulkhead.specs.declared.port_error.PortError.TheVariants.{Read, Write, Line, Memory}
-use Rattle.bulkhead.specs.Lines.{has_line, cut}
+use Rattle.bulkhead.specs.Lines.{has_line}
 use Rattle.bulkhead.specs.Port.{TakesLine, IsLast, IsMemoryOrLine}
 use Rattle.bulkhead.proofs.Cutting.{start, decoded-line, decoded-error, has_line-answers, no_line-partial, no_line-no_error, last-line, last-none, last-error}
 use Rattle.tokio_util.specs.Codec.LinesLaws.{lines_partial}

@@ -1,5 +1,5 @@
 -- The text of a script, by its first line.
-use Rattle.std.proofs.Common.{◌≡◌, ℕ, List, [], ◌∷◌, ◌++◌, Bool, true, false, Result, Ok, Err, IsErr, refl, ap}
+use Rattle.std.proofs.Common.{◌≡◌, ℕ, List, [], ◌∷◌, ◌++◌, true, false, Result, Ok, Err, IsErr, refl, ap}
 use Rattle.bh_base.specs.declared.step.Step.{Step}
 use Rattle.bulkhead.specs.declared.step_line.Fault.{Fault}
 use Rattle.bulkhead.specs.Lines.{Cut, line, ended, stopped}

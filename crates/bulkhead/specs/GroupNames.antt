@@ -1,5 +1,5 @@
 -- The groups that a settings file names, or why it is refused.
-use Rattle.std.specs.Prelude.{ℕ, ◌+◌, List, [], ◌∷◌, ◌++◌, length, codes, Bool, true, false, not, ◌&&◌, ◌||◌, ◌==◌, nat_le, if◌then◌else◌, Option, Some, None, option_and_then, option_map, Result, Ok, Err}
+use Rattle.std.specs.Prelude.{ℕ, ◌+◌, List, [], ◌∷◌, ◌++◌, length, codes, Bool, not, ◌&&◌, ◌||◌, ◌==◌, nat_le, if◌then◌else◌, Option, Some, None, option_and_then, option_map, Result, Ok, Err}
 use Rattle.std.specs.List.{list_all, list_any}
 use Rattle.std.specs.Char.{is_ascii_alphanumeric}
 use Rattle.std.specs.Str.{bytes_eq, is_utf8}
@@ -49,6 +49,7 @@ abbrev pub unless_bad : List (List ℕ) → Option ℕ → Result (List (List �
 unless_bad names (Some n) = Err (BadName n)
 unless_bad names None = unless_twice names (first_twice [] 1 names)
 
+-- the names, where each is good and none stands twice
 abbrev pub checked : List (List ℕ) → Result (List (List ℕ)) SettingsError
 checked names = unless_bad names (first_bad 1 names)
 

@@ -76,20 +76,21 @@ pub record IsRun (names : List (List ℕ)) (c : Cut) (w0 w1 : Option (List ℕ))
   pub front : status ≡ 3 → WritesFront w0 w1 (text names [] c)
   pub not_refused : status ≢ 1
 
--- which errors there can be
-
+-- want of memory, or a line that is refused
 abbrev pub IsMemoryOrLine : PortError → Type 0
 IsMemoryOrLine Line = Unit {0}
 IsMemoryOrLine Memory = Unit {0}
 IsMemoryOrLine Read = ⊥
 IsMemoryOrLine Write = ⊥
 
+-- want of memory, or a reader that failed
 abbrev pub IsMemoryOrRead : PortError → Type 0
 IsMemoryOrRead Line = ⊥
 IsMemoryOrRead Memory = Unit {0}
 IsMemoryOrRead Read = Unit {0}
 IsMemoryOrRead Write = ⊥
 
+-- anything but a reader that failed
 abbrev pub IsNotRead : PortError → Type 0
 IsNotRead Line = Unit {0}
 IsNotRead Memory = Unit {0}

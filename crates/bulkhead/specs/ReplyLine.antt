@@ -15,6 +15,7 @@ use Rattle.bh_base.specs.declared.reply.Metrics.{Metrics}
 use Rattle.bh_base.specs.declared.reply.Reply.{Reply}
 use Rattle.bh_base.specs.declared.reply.Reply.TheVariants as reply
 
+-- the word of each cause of a fallback
 abbrev pub cause_word : Cause → List ℕ
 cause_word cause.ShortCircuited = codes "short-circuited"
 cause_word cause.PoolRejected = codes "thread-pool-rejected"
@@ -22,28 +23,32 @@ cause_word cause.SemaphoreRejected = codes "semaphore-rejected"
 cause_word cause.Failure = codes "failure"
 cause_word cause.Timeout = codes "timeout"
 
+-- the word of each reason why no fallback gave a value
 abbrev pub fallback_word : FallbackFault → List ℕ
 fallback_word fault.Failed = codes "failed"
 fallback_word fault.Rejected = codes "rejected"
 fallback_word fault.Missing = codes "missing"
 fallback_word fault.Disabled = codes "disabled"
 
+-- the word of each state of a circuit
 abbrev pub circuit_word : CircuitState → List ℕ
 circuit_word circuit.Closed = codes "closed"
 circuit_word (circuit.Open since) = codes "open"
 circuit_word (circuit.HalfOpen since serial) = codes "half-open"
 
--- a member that is a text, and one that is a number
+-- a member that is a text
 abbrev pub word : List ℕ → List ℕ → Members → Members
 word name text rest = member name (string text) rest
 
+-- a member that is a number
 abbrev pub count : List ℕ → ℕ → Members → Members
 count name n rest = member name (number (unsigned n)) rest
 
--- the object of a reply that is its name alone, and of one of a name and a ticket
+-- the object of a reply that is its name alone
 abbrev pub named : List ℕ → Data
 named name = object (word (codes "reply") name no_members)
 
+-- the object of a reply of a name and a ticket
 abbrev pub numbered : List ℕ → ℕ → Data
 numbered name ticket = object (word (codes "reply") name (count (codes "ticket") ticket no_members))
 
@@ -75,12 +80,14 @@ with_counts (name ∷ names) (n ∷ counts) rest = with_counts names counts (wit
 unfoldable pub events_data : Counts → Data
 events_data counts = object (with_counts kind_names (counts_listed counts) no_members)
 
+-- the object of the metrics of a group
 abbrev pub metrics_data : Metrics → Data
 metrics_data m = object (
     count (codes "busy") m.busy (word (codes "circuit") (circuit_word m.circuit) (count (codes "errors") m.errors (
     member (codes "events") (events_data m.counts) (count (codes "free") m.free (count (codes "percent") m.percent (
     count (codes "queued") m.queued (word (codes "reply") (codes "metrics") (count (codes "total") m.total no_members)))))))))
 
+-- the object of the answer to a request
 abbrev pub answer_data : Answer → Data
 answer_data (answer.Value body) = object (word (codes "body") body (word (codes "reply") (codes "value") no_members))
 answer_data (answer.FallbackValue cause body) =
@@ -89,20 +96,25 @@ answer_data (answer.Error cause fallback) =
     object (word (codes "cause") (cause_word cause) (word (codes "fallback") (fallback_word fallback) (word (codes "reply") (codes "error") no_members)))
 answer_data answer.BadRequest = named (codes "bad-request")
 
+-- the object of a ticket that needs a fallback
 abbrev pub fallback_due_data : ℕ → Cause → Data
 fallback_due_data ticket cause =
     object (word (codes "cause") (cause_word cause) (word (codes "reply") (codes "fallback-due") (count (codes "ticket") ticket no_members)))
 
+-- the object of a run that a worker is to do
 abbrev pub assigned_data : ℕ → List ℕ → Data
 assigned_data ticket arg =
     object (word (codes "arg") arg (word (codes "reply") (codes "assigned") (count (codes "ticket") ticket no_members)))
 
+-- the object of how many tickets timed out
 abbrev pub expired_data : ℕ → Data
 expired_data n = object (count (codes "count") n (word (codes "reply") (codes "expired") no_members))
 
+-- the object of a fallback that the holder is to run
 abbrev pub run_fallback_data : Cause → Data
 run_fallback_data cause = object (word (codes "cause") (cause_word cause) (word (codes "reply") (codes "run-fallback") no_members))
 
+-- the object of how many tickets are cached no longer
 abbrev pub closed_data : ℕ → Data
 closed_data n = object (count (codes "released") n (word (codes "reply") (codes "closed") no_members))
 

@@ -16,10 +16,11 @@ use Rattle.bulkhead.specs.declared.step_line.OpWord.TheVariants as words
 use Rattle.bulkhead.specs.declared.step_line.OpLine.{OpLine}
 use Rattle.bulkhead.specs.declared.step_line.OpLine.TheVariants as lines
 
--- a member that is text, and one that is a whole number
+-- a member that is text
 abbrev pub text_at : List ℕ → Data → Option (List ℕ)
 text_at name d = option_and_then as_str (get name d)
 
+-- a member that is a whole number of 64 bits
 abbrev pub number_at : List ℕ → Data → Option ℕ
 number_at name d = option_and_then as_u64 (option_and_then as_number (get name d))
 
@@ -109,11 +110,12 @@ step_in names (Some d) = step_at names d
 unfoldable pub step_of : List (List ℕ) → List ℕ → Result Step Fault
 step_of names bytes = step_in names (read bytes)
 
--- what the code found, as an operation
+-- the context and the key that the code found
 abbrev pub cache_view : Option (ℕ × Bor (List ℕ)) → Option (ℕ × List ℕ)
 cache_view None = None
 cache_view (Some name) = Some (name.0, name.1.now)
 
+-- the operation that the code found
 abbrev pub op_view : OpLine → Op
 op_view (lines.Submit cache arg) = op.Submit (record { cache = cache_view cache; arg = arg.now })
 op_view lines.Start = op.Start
@@ -121,10 +123,12 @@ op_view (lines.Finish ticket body) = op.Finish ticket body.now
 op_view (lines.Collect ticket) = op.Collect ticket
 op_view lines.Read = op.Read
 
+-- the operation that the code found, or the fault
 abbrev pub found_op : Result OpLine Fault → Result Op Fault
 found_op (Ok o) = Ok (op_view o)
 found_op (Err fault) = Err fault
 
+-- the context and the key that the code found, or the fault
 abbrev pub found_cache : Result (Option (ℕ × Bor (List ℕ))) Fault → Result (Option (ℕ × List ℕ)) Fault
 found_cache (Ok cache) = Ok (cache_view cache)
 found_cache (Err fault) = Err fault

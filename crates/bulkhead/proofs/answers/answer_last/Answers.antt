@@ -1,4 +1,3 @@
-use Rattle.std.proofs.Common.{rules}
 use Rattle.bulkhead.proofs.Answering.{last-found, last-none, last-refused}
 use Rattle.bulkhead.proofs.answers.answer_last.Goals as goal
 

@@ -1,4 +1,3 @@
-use Rattle.std.proofs.Common.{rules, ◌≡◌, List, ℕ}
 use Rattle.std.proofs.lemmas.Result.{err_from_is_err_and}
 use Rattle.bulkhead.proofs.Answering.{answered-none, answered-found, refused-next, refused-found}
 use Rattle.bulkhead.proofs.answers.answer_lines.Goals as goal

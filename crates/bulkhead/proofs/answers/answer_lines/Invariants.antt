@@ -1,4 +1,4 @@
-use Rattle.std.proofs.Common.{ℕ, List, length, Some}
+use Rattle.std.proofs.Common.{List, length, Some}
 use Rattle.bh_base.specs.declared.step.Step.{Step}
 use Rattle.bulkhead.specs.Port.{Answered, Agrees}
 use Rattle.bulkhead.proofs.answers.answer_lines.Given as goal

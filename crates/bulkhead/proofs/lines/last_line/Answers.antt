@@ -1,7 +1,3 @@
-use Rattle.std.proofs.Common.{rules, ◌≡◌, List, ℕ, true, Ok, Err, subst, sym}
-use Rattle.tokio_util.specs.declared.codec.lines_codec.LinesCodec.{LinesCodec}
-use Rattle.tokio_util.specs.Codec.Next.{Decodes}
-use Rattle.tokio_util.specs.Codec.Lines.{gives_lines}
 use Rattle.bulkhead.proofs.Taking.{last-ok, last-err}
 use Rattle.bulkhead.proofs.lines.last_line.Goals as goal
 

@@ -1,7 +1,4 @@
-use Rattle.std.proofs.Common.{rules, ◌≡◌, List, ℕ, true, Ok, Err, subst, sym}
-use Rattle.tokio_util.specs.declared.codec.lines_codec.LinesCodec.{LinesCodec}
-use Rattle.tokio_util.specs.Codec.Next.{Decodes}
-use Rattle.tokio_util.specs.Codec.Lines.{gives_lines}
+use Rattle.std.proofs.Common.{rules}
 use Rattle.bulkhead.proofs.Taking.{takes-ok, takes-err}
 use Rattle.bulkhead.proofs.lines.next_line.Goals as goal
 

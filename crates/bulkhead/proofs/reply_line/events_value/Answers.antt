@@ -1,5 +1,5 @@
-use Rattle.std.proofs.Common.{rules, ◌∙◌, ap}
-use Rattle.serde_json.specs.Data.{object, no_members}
+use Rattle.std.proofs.Common.{◌∙◌, ap}
+use Rattle.serde_json.specs.Data.{object}
 use Rattle.serde_json.specs.View.{members_view}
 use Rattle.serde_json.proofs.Views.{view-Object}
 use Rattle.bulkhead.specs.ReplyLine.{with_counts, kind_names, counts_listed, events_data}

@@ -1,4 +1,3 @@
-use Rattle.std.proofs.Common.{rules}
 use Rattle.bulkhead.proofs.RunStatus.{run-whole, run-front}
 use Rattle.bulkhead.proofs.run.run_script.Goals as goal
 

@@ -1,4 +1,4 @@
-use Rattle.std.proofs.Common.{rules, arith, refl, Result, Ok, IfErr, ◌≡◌, List, ℕ, Err}
+use Rattle.std.proofs.Common.{rules, arith, refl, Result, Ok, IfErr, ◌≡◌, Err}
 use Rattle.std.proofs.lemmas.Result.{err_from_is_err_and}
 use Rattle.bulkhead.specs.declared.port_error.PortError.TheVariants.{Read, Write, Line, Memory}
 use Rattle.bulkhead.specs.declared.port_error.PortError.{PortError}

@@ -3,7 +3,7 @@ use Rattle.bh_base.specs.Runs.{view, opened}
 use Rattle.bh_core.specs.Groups.{Groups}
 use Rattle.bh_core.specs.InForce.{in_force}
 use Rattle.bulkhead.specs.BuiltIn.{step_limit}
-use Rattle.bulkhead.proofs.OwnSteps.{open-none, open-more}
+use Rattle.bulkhead.proofs.OwnSteps.{open-more}
 use Rattle.bulkhead.proofs.script.open.Goals as goal
 
 pub loop-preserved : goal.loop-preserved

@@ -1,4 +1,3 @@
-use Rattle.std.proofs.Common.{rules}
 use Rattle.bulkhead.proofs.AtOnce.{at_once-answered, at_once-unwritten, at_once-stopped, at_once-stopped_unwritten}
 use Rattle.bulkhead.proofs.script.write_answers.Goals as goal
 
