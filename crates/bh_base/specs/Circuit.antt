@@ -88,18 +88,18 @@ abbrev pub closes : ℕ → End → CircuitState → Bool
 closes serial end.Success s = is_test serial s
 closes serial _ s = false
 
--- an open or half-open circuit opened no later than the moment
-abbrev pub opened_by : CircuitState → ℕ → Type 0
-opened_by state.Closed now = Unit {0}
-opened_by (state.Open opened) now = opened ≤ now
-opened_by (state.HalfOpen opened test) now = opened ≤ now
+-- the moment at which an open or half-open circuit opened
+abbrev pub opened_at : CircuitState → ℕ
+opened_at state.Closed = 0
+opened_at (state.Open opened) = opened
+opened_at (state.HalfOpen opened test) = opened
 
--- the snapshot, where there is one, was taken no later than the moment, and has no more errors than runs
-abbrev pub taken_by : Option Snapshot → ℕ → Type 0
-taken_by None now = Unit {0}
-taken_by (Some s) now = (s.taken ≤ now) × (s.health.errors ≤ s.health.total)
+-- the moment at which the snapshot, where there is one, was taken
+abbrev pub taken_at : Option Snapshot → ℕ
+taken_at None = 0
+taken_at (Some s) = s.taken
 
--- no moment that the circuit keeps is later than now, and its snapshot is one of health
+-- no moment that the circuit keeps is later than now
 pub record AreBefore (now : ℕ) (c : Circuit) : Type 0 where
-  pub opened : opened_by c.state now
-  pub taken : taken_by c.snapshot now
+  pub opened : opened_at c.state ≤ now
+  pub taken : taken_at c.snapshot ≤ now

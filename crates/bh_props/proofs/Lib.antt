@@ -1,0 +1,5 @@
+pub mod Checks
+pub mod Dotted
+pub mod Groups
+pub mod InRange
+pub mod Named

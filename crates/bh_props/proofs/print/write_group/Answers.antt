@@ -1,0 +1,6 @@
+use Rattle.bh_props.specs.Table.{all}
+use Rattle.bh_props.proofs.print.write_group.Goals as goal
+
+pub returns : goal.returns
+unfolding all
+returns g c = c.write_lines.ensures

@@ -1,0 +1,8 @@
+pub mod Tree
+pub mod Table
+pub mod InForce
+pub mod Names
+pub mod Refusals
+pub mod Settings
+pub mod Seen
+pub mod Printed

@@ -1,0 +1,62 @@
+-- The lines that show what is in force.
+use Rattle.std.specs.Prelude.{ℕ, List, ◌++◌, codes, Option, Some, None, if◌then◌else◌}
+use Rattle.std.specs.List.{flat_map}
+use Rattle.std.specs.Fmt.{decimal}
+use Rattle.bh_base.specs.declared.props.Strategy.TheVariants as strategies
+use Rattle.bh_base.specs.declared.props.GroupProps.{GroupProps}
+use Rattle.bh_props.specs.declared.property.Property.{Property}
+use Rattle.bh_props.specs.declared.property.Property.TheVariants as properties
+use Rattle.bh_props.specs.declared.value.PropertyValue.{PropertyValue}
+use Rattle.bh_props.specs.declared.value.PropertyValue.TheVariants as values
+use Rattle.bh_props.specs.Table.{row, all}
+use Rattle.bh_props.specs.Settings.{GroupSettings}
+
+-- the word of a value
+abbrev pub word_of : PropertyValue → List ℕ
+word_of (values.Number n) = decimal n
+word_of (values.Truth b) = if b then codes "true" else codes "false"
+word_of (values.Strategy strategies.Thread) = codes "THREAD"
+word_of (values.Strategy strategies.Semaphore) = codes "SEMAPHORE"
+word_of values.NoQueue = codes "-1"
+word_of values.Absent = codes "none"
+
+-- a number that may be absent, or no queue
+abbrev pub number_or : PropertyValue → Option ℕ → PropertyValue
+number_or none None = none
+number_or none (Some n) = values.Number n
+
+-- the value of a property, as the settings have it
+abbrev pub value_of : Option ℕ → GroupProps → Property → PropertyValue
+value_of audit_steps g properties.AuditSteps = number_or values.Absent audit_steps
+value_of audit_steps g properties.Slots = values.Number g.slots
+value_of audit_steps g properties.Strategy = values.Strategy g.strategy
+value_of audit_steps g properties.Timeout = values.Number g.timeout_ms
+value_of audit_steps g properties.TimeoutOn = values.Truth g.timeout_on
+value_of audit_steps g properties.Semaphore = values.Number g.semaphore
+value_of audit_steps g properties.FallbackPermits = values.Number g.fallback_permits
+value_of audit_steps g properties.FallbackOn = values.Truth g.fallback_on
+value_of audit_steps g properties.CircuitOn = values.Truth g.circuit_on
+value_of audit_steps g properties.Volume = values.Number g.volume
+value_of audit_steps g properties.SleepWindow = values.Number g.sleep_ms
+value_of audit_steps g properties.ErrorPercent = values.Number g.percent
+value_of audit_steps g properties.ForceOpen = values.Truth g.force_open
+value_of audit_steps g properties.ForceClosed = values.Truth g.force_closed
+value_of audit_steps g properties.Window = values.Number g.window_ms
+value_of audit_steps g properties.Buckets = values.Number g.buckets
+value_of audit_steps g properties.HealthInterval = values.Number g.health_ms
+value_of audit_steps g properties.CacheOn = values.Truth g.cache_on
+value_of audit_steps g properties.CoreSize = values.Number g.core
+value_of audit_steps g properties.MaxQueue = number_or values.NoQueue g.max_queue
+value_of audit_steps g properties.QueueThreshold = values.Number g.queue_threshold
+
+-- one line: the group, the property and its value
+abbrev pub line_of : Option ℕ → List ℕ × GroupProps → Property → List ℕ
+line_of audit_steps group p = group.0 ++ codes " " ++ (row p).name ++ codes " " ++ word_of (value_of audit_steps group.1 p) ++ codes "\n"
+
+-- the lines of a group, in the order of the table
+abbrev pub lines_of_group : Option ℕ → List ℕ × GroupProps → List ℕ
+lines_of_group audit_steps group = flat_map (line_of audit_steps group) all
+
+-- the lines of all groups, in their order
+abbrev pub lines_of : GroupSettings → List ℕ
+lines_of s = flat_map (lines_of_group s.audit_steps) s.groups

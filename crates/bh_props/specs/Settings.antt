@@ -1,0 +1,102 @@
+-- The settings of a text: what each group's properties are, or the first refusal.
+use Rattle.std.specs.Prelude.{ℕ, ◌≤◌, List, [], map, Bool, false, Option, Some, None, Result, Ok, Err}
+use Rattle.std.specs.Result.{result_and}
+use Rattle.toml.specs.Data.{Data, table, Members}
+use Rattle.toml.specs.Parse.{parse_document}
+use Rattle.bh_base.specs.declared.props.Strategy.{Strategy}
+use Rattle.bh_base.specs.declared.props.Strategy.TheVariants as strategies
+use Rattle.bh_base.specs.declared.props.GroupProps.{GroupProps}
+use Rattle.bh_props.specs.declared.property.Property.{Property}
+use Rattle.bh_props.specs.declared.property.Property.TheVariants as properties
+use Rattle.bh_props.specs.declared.value.PropertyValue.{PropertyValue}
+use Rattle.bh_props.specs.declared.value.PropertyValue.TheVariants as values
+use Rattle.bh_props.specs.declared.value.Fault.{Fault}
+use Rattle.bh_props.specs.declared.value.Fault.TheVariants.{WrongType, OutOfRange}
+use Rattle.bh_props.specs.declared.error.SettingsError.{SettingsError}
+use Rattle.bh_props.specs.declared.error.SettingsError.TheVariants as refusals
+use Rattle.bh_props.specs.InForce.{in_force}
+use Rattle.bh_props.specs.Names.{names_of}
+use Rattle.bh_props.specs.Refusals.{number, checked_service, checked_values, checked_windows}
+
+-- the groups in listed order, each with its properties, and the limit of audited steps
+pub record GroupSettings : Type 0 where
+  pub groups : List (List ℕ × GroupProps)
+  pub audit_steps : Option ℕ
+
+-- a limit of audited steps
+abbrev pub IsAuditLimit : ℕ → Type 0
+IsAuditLimit steps = (1 ≤ steps) × (steps ≤ 1000000)
+
+-- a truth value in force; there is one wherever the property is one of truth values and has no fault
+abbrev pub truth : Result PropertyValue Fault → Bool
+truth (Ok (values.Truth b)) = b
+truth _ = false
+
+-- the strategy in force
+abbrev pub strategy : Result PropertyValue Fault → Strategy
+strategy (Ok (values.Strategy s)) = s
+strategy _ = strategies.Thread
+
+-- a number in force, where there is one
+abbrev pub optional_number : Result PropertyValue Fault → Option ℕ
+optional_number (Ok (values.Number n)) = Some n
+optional_number _ = None
+
+-- the fields of a group, each of the value in force of its property
+abbrev pub props_of : (Property → Result PropertyValue Fault) → GroupProps
+props_of value = record {
+  slots = number (value properties.Slots);
+  strategy = strategy (value properties.Strategy);
+  timeout_ms = number (value properties.Timeout);
+  timeout_on = truth (value properties.TimeoutOn);
+  semaphore = number (value properties.Semaphore);
+  fallback_permits = number (value properties.FallbackPermits);
+  fallback_on = truth (value properties.FallbackOn);
+  circuit_on = truth (value properties.CircuitOn);
+  volume = number (value properties.Volume);
+  sleep_ms = number (value properties.SleepWindow);
+  percent = number (value properties.ErrorPercent);
+  force_open = truth (value properties.ForceOpen);
+  force_closed = truth (value properties.ForceClosed);
+  window_ms = number (value properties.Window);
+  buckets = number (value properties.Buckets);
+  health_ms = number (value properties.HealthInterval);
+  cache_on = truth (value properties.CacheOn);
+  core = number (value properties.CoreSize);
+  max_queue = optional_number (value properties.MaxQueue);
+  queue_threshold = number (value properties.QueueThreshold);
+}
+
+-- a group and its properties in force
+abbrev pub group_in_force : Data → List ℕ → List ℕ × GroupProps
+group_in_force d name = (name, props_of (λ p. in_force p name d))
+
+-- the settings of a file that nothing refuses
+abbrev pub settings_in_force : Data → List (List ℕ) → GroupSettings
+settings_in_force d names = record {
+  groups = map (group_in_force d) names;
+  audit_steps = optional_number (in_force properties.AuditSteps [] d);
+}
+
+-- the settings of groups that are known: each check is made for the whole file before the next
+abbrev pub settings_of_groups : Data → List (List ℕ) → Result GroupSettings SettingsError
+settings_of_groups d names =
+    result_and (checked_service names d)
+    (result_and (checked_values WrongType d names)
+    (result_and (checked_values OutOfRange d names)
+    (result_and (checked_windows d names)
+    (Ok (settings_in_force d names)))))
+
+-- the settings, unless the names are refused
+abbrev pub settings_of_named : Data → Result (List (List ℕ)) SettingsError → Result GroupSettings SettingsError
+settings_of_named d (Ok names) = settings_of_groups d names
+settings_of_named d (Err refusal) = Err refusal
+
+-- the settings of a document's members; none where the text is no document
+abbrev pub settings_of_tree : Option Members → Result GroupSettings SettingsError
+settings_of_tree None = Err refusals.Syntax
+settings_of_tree (Some ms) = settings_of_named (table ms) (names_of (table ms))
+
+-- the settings of a text, or the first refusal
+abbrev pub settings_of : List ℕ → Result GroupSettings SettingsError
+settings_of text = settings_of_tree (parse_document text)

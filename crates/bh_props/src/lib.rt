@@ -1,0 +1,22 @@
+//! The settings of a service: the groups that a TOML file names, and the properties of each
+//! (Hystrix wiki, "Configuration").
+#![tactic(auto)]
+
+mod check;
+mod error;
+mod in_force;
+mod look_up;
+mod names;
+mod print;
+mod property;
+mod reading;
+mod service;
+mod settings;
+#[cfg(test)]
+mod tests;
+mod value;
+
+pub use error::SettingsError;
+pub use property::Property;
+pub use reading::read;
+pub use settings::Settings;

@@ -1,0 +1,93 @@
+//! The lines that show what is in force.
+
+ghost use Rattle.std.specs.Prelude.{◌≡◌, Some};
+ghost use Rattle.std.specs.List.{flat_map};
+ghost use Rattle.std.specs.Fmt.{WritesOnOk};
+ghost use Rattle.bh_props.specs.Printed.{value_of, line_of, lines_of, lines_of_group, number_or};
+ghost use Rattle.bh_props.specs.Seen.{settings_seen};
+
+use crate::property::Property;
+use crate::settings::Settings;
+use crate::value::PropertyValue;
+use bh_base::GroupProps;
+use std::fmt;
+
+/// One line for each group and property, in their orders: the group, the property's name and the value in force.
+impl fmt::Display for Settings {
+    ghost output = { λ s. Some (lines_of (settings_seen s)) };
+
+    fn fmt<W: fmt::Write>(&self, f: &mut fmt::Formatter<W>) -> fmt::Result {
+        for (name, props) in self.groups.iter() {
+            write_group(f, name.as_str(), props, self.audit_steps)?;
+        }
+        Ok(())
+    }
+}
+
+fn write_group<W: fmt::Write>(
+    f: &mut fmt::Formatter<W>,
+    name: &str,
+    props: &GroupProps,
+    audit_steps: Option<u64>,
+) -> fmt::Result
+    ensures { WritesOnOk W.write_str_gives f.old result (lines_of_group audit_steps (name.now, props.now)) f.new }
+{
+    write_lines(f, name, props, audit_steps, &Property::ALL)
+}
+
+fn write_lines<W: fmt::Write>(
+    f: &mut fmt::Formatter<W>,
+    name: &str,
+    props: &GroupProps,
+    audit_steps: Option<u64>,
+    properties: &[Property],
+) -> fmt::Result
+    ensures { WritesOnOk W.write_str_gives f.old result
+        (flat_map (line_of audit_steps (name.now, props.now)) properties.now) f.new }
+{
+    for property in properties {
+        let value = property.value_in(props, audit_steps);
+        write!(f, "{name} {property} {value}\n")?;
+    }
+    Ok(())
+}
+
+impl Property {
+    /// The value of this property, of a group with these properties in a service with this limit of audited steps.
+    pub(crate) fn value_in(self, props: &GroupProps, audit_steps: Option<u64>) -> PropertyValue
+        ensures { result ≡ value_of audit_steps props.now self }
+    {
+        match self {
+            Property::AuditSteps => number_or(PropertyValue::Absent, audit_steps),
+            Property::Slots => PropertyValue::Number(props.slots),
+            Property::Strategy => PropertyValue::Strategy(props.strategy),
+            Property::Timeout => PropertyValue::Number(props.timeout_ms),
+            Property::TimeoutOn => PropertyValue::Truth(props.timeout_on),
+            Property::Semaphore => PropertyValue::Number(props.semaphore),
+            Property::FallbackPermits => PropertyValue::Number(props.fallback_permits),
+            Property::FallbackOn => PropertyValue::Truth(props.fallback_on),
+            Property::CircuitOn => PropertyValue::Truth(props.circuit_on),
+            Property::Volume => PropertyValue::Number(props.volume),
+            Property::SleepWindow => PropertyValue::Number(props.sleep_ms),
+            Property::ErrorPercent => PropertyValue::Number(props.percent),
+            Property::ForceOpen => PropertyValue::Truth(props.force_open),
+            Property::ForceClosed => PropertyValue::Truth(props.force_closed),
+            Property::Window => PropertyValue::Number(props.window_ms),
+            Property::Buckets => PropertyValue::Number(props.buckets),
+            Property::HealthInterval => PropertyValue::Number(props.health_ms),
+            Property::CacheOn => PropertyValue::Truth(props.cache_on),
+            Property::CoreSize => PropertyValue::Number(props.core),
+            Property::MaxQueue => number_or(PropertyValue::NoQueue, props.max_queue),
+            Property::QueueThreshold => PropertyValue::Number(props.queue_threshold),
+        }
+    }
+}
+
+fn number_or(none: PropertyValue, number: Option<u64>) -> PropertyValue
+    ensures { result ≡ number_or none number }
+{
+    match number {
+        Some(n) => PropertyValue::Number(n),
+        None => none,
+    }
+}

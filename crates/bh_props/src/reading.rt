@@ -1,0 +1,64 @@
+//! Reading a settings file.
+
+ghost use Rattle.std.specs.Prelude.{◌≡◌, ◌≢◌, [], Ok, Err, None, All, IfOk, IfErr, IfSome};
+ghost use Rattle.bh_base.specs.Ranges.{IsInRange};
+ghost use Rattle.toml.specs.View.{view};
+ghost use Rattle.bh_props.specs.Settings.{IsAuditLimit, settings_of, settings_of_named, settings_of_groups};
+ghost use Rattle.bh_props.specs.Names.{names_of, first_twice};
+ghost use Rattle.bh_props.specs.Seen.{settings_seen};
+
+use crate::check::{check_values, check_windows};
+use crate::error::SettingsError;
+use crate::names::group_names;
+use crate::service::check_service;
+use crate::settings::{Settings, audit_steps_in_force, groups_in_force};
+use crate::value::Fault;
+use bh_base::Text;
+use std::alloc::Global;
+use toml::Value;
+
+/// The settings that a text gives, or the first refusal (see `SettingsError` for the order of the checks).
+///
+/// A property is found by its dotted name, however TOML spells it. The value in force is the group's own, else the
+/// one under `default`, else the built-in one; only values in force are checked. Each field of the settings is in its
+/// range. `SettingsError::Memory` comes wherever memory was refused; then nothing stands.
+pub fn read(alloc: Global, text: &str) -> Result<Settings, SettingsError>
+    ensures ok { IfOk result (λ s. settings_of text.now ≡ Ok (settings_seen s)) }
+    ensures refused { IfErr result (λ e. e ≢ SettingsError.Memory → settings_of text.now ≡ Err e) }
+    ensures in_range { IfOk result (λ s. All (λ group. IsInRange group.1) s.groups.entries) }
+    ensures audit { IfOk result (λ s. IfSome s.audit_steps IsAuditLimit) }
+{
+    match toml::table_from_str(alloc, text) {
+        Ok(table) => read_tree(alloc, &Value::Table(table)),
+        Err(error) if error.is_memory() => Err(SettingsError::Memory),
+        Err(_) => Err(SettingsError::Syntax),
+    }
+}
+
+fn read_tree(alloc: Global, root: &Value) -> Result<Settings, SettingsError>
+    ensures ok { IfOk result (λ s. settings_of_named (view root.now) (names_of (view root.now)) ≡ Ok (settings_seen s)) }
+    ensures refused { IfErr result (λ e. e ≢ SettingsError.Memory
+        → settings_of_named (view root.now) (names_of (view root.now)) ≡ Err e) }
+{
+    let names = group_names(alloc, root)?;
+    read_groups(alloc, root, &names)
+}
+
+fn read_groups(alloc: Global, root: &Value, names: &[Text<32>]) -> Result<Settings, SettingsError>
+    requires { first_twice [] 1 names.now ≡ None }
+    ensures ok { IfOk result (λ s. settings_of_groups (view root.now) names.now ≡ Ok (settings_seen s)) }
+    ensures refused { IfErr result (λ e. e ≢ SettingsError.Memory
+        → settings_of_groups (view root.now) names.now ≡ Err e) }
+{
+    check_service(root, names)?;
+    check_values(root, Fault::WrongType, names)?;
+    check_values(root, Fault::OutOfRange, names)?;
+    check_windows(root, names)?;
+    match groups_in_force(alloc, root, names) {
+        Ok(groups) => Ok(Settings {
+            groups,
+            audit_steps: audit_steps_in_force(root),
+        }),
+        Err(_) => Err(SettingsError::Memory),
+    }
+}

@@ -1,0 +1,75 @@
+//! What stands under `service`.
+
+ghost use Rattle.std.specs.Prelude.{◌≡◌, string_bytes};
+ghost use Rattle.std.specs.List.{list_any};
+ghost use Rattle.std.specs.Str.{bytes_eq};
+ghost use Rattle.toml.specs.View.{view, table_view};
+ghost use Rattle.bh_props.specs.Tree.{all_members};
+ghost use Rattle.bh_props.specs.Refusals.{is_key, has_keys, is_service_member, checked_service};
+
+use crate::error::SettingsError;
+use bh_base::Text;
+use toml::{Table, Value};
+
+/// Refuses a key under `service` that is not known, and slots of something else than `default` or a group.
+pub(crate) fn check_service(root: &Value, names: &[Text<32>]) -> Result<(), SettingsError>
+    ensures { result ≡ checked_service names.now (view root.now) }
+{
+    match root.get("service") {
+        Some(Value::Table(service)) if has_known_members(service, names) => Ok(()),
+        _ => Err(SettingsError::UnknownService),
+    }
+}
+
+fn has_known_members(service: &Table, names: &[Text<32>]) -> bool
+    ensures { result ≡ all_members (is_service_member names.now) (table_view service.now) }
+{
+    for (key, value) in service.iter() {
+        if !is_known_member(key.as_str(), value, names) {
+            return false;
+        }
+    }
+    true
+}
+
+fn is_known_member(key: &str, value: &Value, names: &[Text<32>]) -> bool
+    ensures { result ≡ is_service_member names.now key.now (view value.now) }
+{
+    match key {
+        "groups" | "auditSteps" => true,
+        "slots" => has_group_keys(value, names),
+        _ => false,
+    }
+}
+
+fn has_group_keys(slots: &Value, names: &[Text<32>]) -> bool
+    ensures { result ≡ has_keys names.now (view slots.now) }
+{
+    match slots {
+        Value::Table(table) => are_group_keys(table, names),
+        _ => false,
+    }
+}
+
+fn are_group_keys(table: &Table, names: &[Text<32>]) -> bool
+    ensures { result ≡ all_members (λ key d. is_key names.now key) (table_view table.now) }
+{
+    for (key, _value) in table.iter() {
+        if !is_group_key(key.as_str(), names) {
+            return false;
+        }
+    }
+    true
+}
+
+fn is_group_key(key: &str, names: &[Text<32>]) -> bool
+    ensures { result ≡ is_key names.now key.now }
+{
+    key == "default" || is_listed(key, names)
+}
+
+fn is_listed(key: &str, names: &[Text<32>]) -> bool
+    ensures { result ≡ list_any (λ name. bytes_eq name key.now) names.now }
+{
+    names.iter().any(|name| name.as_str() == key)
+}

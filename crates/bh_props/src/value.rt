@@ -1,0 +1,108 @@
+//! What a property may be, and what it is.
+
+ghost use Rattle.std.specs.Prelude.{◌≡◌, Some};
+ghost use Rattle.toml.specs.View.{view};
+ghost use Rattle.bh_props.specs.InForce.{within, queue_size, strategy_of, read_as};
+ghost use Rattle.bh_props.specs.Printed.{word_of};
+
+use bh_base::Strategy;
+use std::fmt;
+use toml::Value;
+
+/// What a property may be.
+#[derive(Clone, Copy, Debug, PartialEq, Eq)]
+pub(crate) enum Kind {
+    /// A whole number from the least to the most.
+    Number { least: u64, most: u64 },
+    /// A whole number from -1 to 4,294,967,295, where -1 and 0 are no queue.
+    QueueSize,
+    Truth,
+    /// `THREAD` or `SEMAPHORE`.
+    Strategy,
+}
+
+/// What a property is. Shown, it is a decimal number, `true` or `false`, or a word.
+#[derive(Clone, Copy, Debug, PartialEq, Eq)]
+pub(crate) enum PropertyValue {
+    Number(u64),
+    Truth(bool),
+    /// `THREAD` or `SEMAPHORE`.
+    Strategy(Strategy),
+    /// No queue: `-1`.
+    NoQueue,
+    /// A property that may be left out is not there: `none`.
+    Absent,
+}
+
+/// Why a value of a file is not one of its property's kind.
+#[derive(Clone, Copy, Debug, PartialEq, Eq)]
+pub(crate) enum Fault {
+    WrongType,
+    OutOfRange,
+}
+
+/// The most that a number without a range of its own may be.
+pub(crate) const MOST: u64 = 4_294_967_295;
+
+impl Kind {
+    /// The value, read as one of this kind.
+    pub(crate) fn read(self, value: &Value) -> Result<PropertyValue, Fault>
+        ensures { result ≡ read_as self (view value.now) }
+    {
+        match (self, value) {
+            (Kind::Number { least, most }, Value::Integer(n)) => within(least, most, *n),
+            (Kind::QueueSize, Value::Integer(n)) => queue_size(*n),
+            (Kind::Truth, Value::Boolean(b)) => Ok(PropertyValue::Truth(*b)),
+            (Kind::Strategy, Value::String(word)) => strategy(word.as_str()),
+            _ => Err(Fault::WrongType),
+        }
+    }
+}
+
+fn within(least: u64, most: u64, n: i64) -> Result<PropertyValue, Fault>
+    ensures { result ≡ within least most n }
+{
+    if n < 0 {
+        return Err(Fault::OutOfRange);
+    }
+    let number = n as u64;
+    if least <= number && number <= most {
+        Ok(PropertyValue::Number(number))
+    } else {
+        Err(Fault::OutOfRange)
+    }
+}
+
+fn queue_size(n: i64) -> Result<PropertyValue, Fault>
+    ensures { result ≡ queue_size n }
+{
+    if n == 0 || n == -1 {
+        return Ok(PropertyValue::NoQueue);
+    }
+    within(1, MOST, n)
+}
+
+fn strategy(word: &str) -> Result<PropertyValue, Fault>
+    ensures { result ≡ strategy_of word.now }
+{
+    match word {
+        "THREAD" => Ok(PropertyValue::Strategy(Strategy::Thread)),
+        "SEMAPHORE" => Ok(PropertyValue::Strategy(Strategy::Semaphore)),
+        _ => Err(Fault::OutOfRange),
+    }
+}
+
+impl fmt::Display for PropertyValue {
+    ghost output = { λ value. Some (word_of value) };
+
+    fn fmt<W: fmt::Write>(&self, f: &mut fmt::Formatter<W>) -> fmt::Result {
+        match self {
+            PropertyValue::Number(n) => write!(f, "{n}"),
+            PropertyValue::Truth(b) => write!(f, "{b}"),
+            PropertyValue::Strategy(Strategy::Thread) => write!(f, "THREAD"),
+            PropertyValue::Strategy(Strategy::Semaphore) => write!(f, "SEMAPHORE"),
+            PropertyValue::NoQueue => write!(f, "-1"),
+            PropertyValue::Absent => write!(f, "none"),
+        }
+    }
+}
