@@ -22,7 +22,7 @@ use Rattle.bh_base.specs.Tickets.{is_running}
 use Rattle.bh_base.specs.Machine.{Present, Outcome, outcome, is_admitted, admitted, rejected, placed, circuit_said, submitted, cached_as, free_count, started, run_ended, collected, collected_in, in_fallback_count, fallback_done, fallback_done_in}
 use Rattle.bh_base.specs.Runs.{View, is_worn}
 use Rattle.bh_base.specs.Seen.{view_outcome, view_reply}
-use Rattle.bh_base.specs.Replies.{can_reply, answers_submit, answers_end, answers_collect, answers_fallback_done}
+use Rattle.bh_base.specs.Replies.{can_reply, is_answer_to, answers_submit, answers_start, answers_end, answers_collect, answers_fallback_done}
 
 either : (b : Bool) (p : Reply → Bool) (x y : Outcome) → p x.reply ≡ true → p y.reply ≡ true → p (if b then x else y).reply ≡ true
 either true p x y h k = h
@@ -78,30 +78,31 @@ fallback_answers (Some t) serial e g = at t.state
     at ticket.Queued = refl
     at ticket.Running = refl
 
-started_answers : (t : Option Ticket) (g : Present) → can_reply op.Start (started t g).reply ≡ true
+started_answers : (t : Option Ticket) (g : Present) → answers_start (started t g).reply ≡ true
 started_answers None g = refl
 started_answers (Some t) g = refl
+
+-- the machine's reply is one of the operation's own
+pub outcome_answers : (o : Op) (rolling : Rolling) (g : Present) → is_answer_to o (outcome o rolling g).reply ≡ true
+outcome_answers (op.Submit request) rolling g = submitted_answers (cached_as request.cache g) request rolling g
+outcome_answers op.Start rolling g = started_answers _ g
+outcome_answers (op.Finish serial body) rolling g = ended_answers _ serial _ _ _ g
+outcome_answers (op.Fail serial true) rolling g = ended_answers _ serial _ _ _ g
+outcome_answers (op.Fail serial false) rolling g = ended_answers _ serial _ _ _ g
+outcome_answers op.Expire rolling g = refl
+outcome_answers (op.Collect serial) rolling g = collected_answers _ serial g
+outcome_answers (op.FallbackDone serial e) rolling g = fallback_answers _ serial e g
+outcome_answers (op.Close context) rolling g = refl
+outcome_answers op.Read rolling g = refl
 
 -- one of the operation's own replies is one that it can get
 own : (a b : Bool) → b ≡ true → (a || b) ≡ true
 own true b h = refl
 own false b h = h
 
-outcome_answers : (o : Op) (rolling : Rolling) (g : Present) → can_reply o (outcome o rolling g).reply ≡ true
-outcome_answers (op.Submit request) rolling g = own _ _ (submitted_answers (cached_as request.cache g) request rolling g)
-outcome_answers op.Start rolling g = started_answers _ g
-outcome_answers (op.Finish serial body) rolling g = own _ _ (ended_answers _ serial _ _ _ g)
-outcome_answers (op.Fail serial true) rolling g = own _ _ (ended_answers _ serial _ _ _ g)
-outcome_answers (op.Fail serial false) rolling g = own _ _ (ended_answers _ serial _ _ _ g)
-outcome_answers op.Expire rolling g = refl
-outcome_answers (op.Collect serial) rolling g = own _ _ (collected_answers _ serial g)
-outcome_answers (op.FallbackDone serial e) rolling g = own _ _ (fallback_answers _ serial e g)
-outcome_answers (op.Close context) rolling g = refl
-outcome_answers op.Read rolling g = refl
-
 pub view_reply_fits : (v : View) (o : Op) (now : ℕ) → can_reply o (view_reply v o now) ≡ true
 view_reply_fits v o now = at (is_worn v.present)
   where
     at : (worn : Bool) → can_reply o (if worn then reply.Worn else (view_outcome v o now).reply) ≡ true
     at true = refl
-    at false = outcome_answers o _ _
+    at false = own _ _ (outcome_answers o _ _)

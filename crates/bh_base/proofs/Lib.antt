@@ -12,3 +12,6 @@ pub mod Kept
 pub mod Views
 pub mod Rising
 pub mod Answering
+pub mod Refusing
+pub mod Bounded
+pub mod Opened

@@ -78,7 +78,7 @@ health_later from moment history kinds inside =
     ∙ filter-append (λ e. is_of_health e.kind) (drop from history) (events_at moment kinds)
     ∙ ap (λ es. health_events from history ++ es) (filter_events moment kinds)
 
-health_anew : (history : List Event) → health_events (length history) history ≡ []
+pub health_anew : (history : List Event) → health_events (length history) history ≡ []
 health_anew history = ap (λ es. filter (λ e. is_of_health e.kind) es) (drop_all (length history) history (omega arith))
 
 health_at : (closed : Bool) (props : Window) (history : List Event) (from latest moment : ℕ) (kinds : List EventKind) → AllPast latest history → from ≤ length history → latest ≤ moment → table props (health_events (if closed then length (history ++ events_at moment kinds) else from) (history ++ events_at moment kinds)) moment ≡ (if closed then no_rows props else later_table props latest (table props (health_events from history) latest) moment (filter is_of_health kinds))

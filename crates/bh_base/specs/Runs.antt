@@ -120,3 +120,7 @@ ViewLaw =
 pub record StaysSound : Type 0 where
   pub opened : (props : GroupProps) (limit : ℕ) → IsSound (opened props limit)
   pub stepped : (s : State) (op : Op) (now : ℕ) → IsSound s → IsSound (step s op now).state
+
+-- the state with the number and the moment of one more step, and nothing else changed
+abbrev pub moved_on : State → ℕ → State
+moved_on s now = record s { present = begun now s.present }

@@ -10,7 +10,7 @@ use Rattle.bh_base.specs.Tables.{no_rows, sum_in, later_table}
 use Rattle.bh_base.specs.Runs.{events_at}
 use Rattle.bh_base.proofs.Windows.{count_from_table}
 use Rattle.bh_base.proofs.Tables.{table_later}
-use Rattle.bh_base.proofs.Views.{AllPast, past_health, health_later, rolling_by_same, past_later as past_then}
+use Rattle.bh_base.proofs.Views.{AllPast, past_health, health_anew, health_later, rolling_by_same, past_later as past_then}
 use Rattle.bh_core.specs.Past.{Past, past_opened, past_later}
 
 -- what is past is past at every later moment
@@ -84,3 +84,8 @@ recorded_is w events from latest room k past within = λ i. record {
   where
     left : room - length (events ++ events_at latest (k ∷ [])) ≡ room - length events - 1
     left = omega (arith, length-append events (events_at latest (k ∷ [])))
+
+-- health that starts at the end sees no event
+pub restarted_is : (w : Window) (events : List Event) (from latest room place : ℕ) → place ≡ length events → seen w events place latest room ≡ record (seen w events from latest room) { health = no_rows w }
+restarted_is w events from latest room place e =
+    ap (λ n. seen w events n latest room) e ∙ (λ i. record (seen w events from latest room) { health = table w (health_anew events i) latest })

@@ -1,6 +1,11 @@
 pub mod Dated
 pub mod Places
 pub mod Ops
+pub mod Timeouts
+pub mod Joining
 pub mod Stepping
+pub mod Steady
 pub mod OneOfMany
+pub mod Refused
 pub mod Whole
+pub mod TwoWorlds

@@ -23,7 +23,7 @@ view_in d = d.view
 pub view_at : (ds : List Desk) (i : ℕ) (d : Desk) → i < length ds → d ≡ get_or ds i d → slice_get (views_of ds) i ≡ Some d.view
 view_at ds i d inside is = slice_get-map view_in ds i ∙ ap (option_map view_in) (slice_get_read ds (length ds) i d refl inside is)
 
-one_view : (o : Option View) (a b : View) → o ≡ Some a → o ≡ Some b → a ≡ b
+pub one_view : (o : Option View) (a b : View) → o ≡ Some a → o ≡ Some b → a ≡ b
 one_view o a b p q = cc
 
 -- the group's reply is that of every state that it may be in

@@ -1,11 +1,13 @@
 -- A group's tickets and the room for more, and what an operation changes of one ticket.
-use Rattle.std.specs.Prelude.{ℕ, true, false, List}
+use Rattle.std.specs.Prelude.{ℕ, ◌+◌, ◌-◌, Bool, true, false, ◌&&◌, ◌||◌, nat_le, List, if◌then◌else◌}
 use Rattle.bh_base.specs.declared.ticket.Ticket.{Ticket}
 use Rattle.bh_base.specs.declared.ticket.TicketState.{TicketState}
 use Rattle.bh_base.specs.declared.ticket.TicketState.TheVariants as ticket
 use Rattle.bh_base.specs.declared.reply.Answer.{Answer}
 use Rattle.bh_base.specs.declared.reply.Cause.{Cause}
-use Rattle.bh_base.specs.Tickets.{in_state}
+use Rattle.bh_base.specs.declared.reply.Cause.TheVariants as cause
+use Rattle.bh_base.specs.Tickets.{in_state, is_queued, is_running}
+use Rattle.bh_core.specs.declared.tickets.DueRule.{DueRule}
 use Rattle.bh_base.specs.Machine.{released_by_one}
 
 -- the tickets of a group, in a list with room that was taken beforehand
@@ -33,3 +35,15 @@ answered a t = released_by_one (in_state (ticket.Answered a) t)
 -- a holder runs its fallback
 abbrev pub fallback_started : Cause → Ticket → Ticket
 fallback_started cause t = in_state (ticket.InFallback cause) t
+
+-- one more holder waits for its answer
+abbrev pub joined : Ticket → Ticket
+joined t = record t { holders = t.holders + 1 }
+
+-- the ticket has timed out by the rule: it is queued or running, and was submitted so long before the moment
+abbrev pub is_due_by : DueRule → Ticket → Bool
+is_due_by due t = due.timeout_on && (is_queued t || is_running t) && nat_le due.timeout_ms (due.moment - t.submitted)
+
+-- as it is once it timed out, where it has
+abbrev pub timed_out_by : DueRule → Ticket → Ticket
+timed_out_by due t = if is_due_by due t then in_state (ticket.NeedsFallback cause.Timeout) t else t

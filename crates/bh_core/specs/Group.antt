@@ -1,15 +1,15 @@
 -- What the fields of a group show, and what holds of them between steps.
-use Rattle.std.specs.Prelude.{◌≡◌, ◌+◌, ◌-◌, ◌*◌, ◌≤◌, ◌^◌, length}
-use Rattle.bh_base.specs.Circuit.{new_circuit}
+use Rattle.std.specs.Prelude.{◌≡◌, ◌+◌, ◌≤◌, ◌^◌, length}
+use Rattle.bh_base.specs.Circuit.{AreBefore}
 use Rattle.bh_base.specs.History.{window_of}
 use Rattle.bh_core.specs.declared.group.Group.TheInside.{Inside}
 use Rattle.bh_core.specs.Desk.{Desk, IsServed}
 
--- what a group's fields show; its circuit breaker is a new one's, as none is built so far
+-- what a group's fields show
 abbrev pub desk_of : Inside → Desk
 desk_of g = record {
   view = record {
-    present = record { props = g.props; limit = g.limit; steps = g.steps; latest = g.history.latest; serial = g.serial; tickets = g.tickets.items; circuit = new_circuit };
+    present = record { props = g.props; limit = g.limit; steps = g.steps; latest = g.history.latest; serial = g.serial; tickets = g.tickets.items; circuit = g.circuit };
     table = g.history.table;
     health = g.history.health;
   };
@@ -19,10 +19,10 @@ desk_of g = record {
 -- the room for all that the remaining steps can bring was taken beforehand
 pub record IsReady (g : Inside) : Type 0 where
   pub served : IsServed g.props
+  pub circuit : AreBefore g.history.latest g.circuit
   pub window : g.history.window ≡ window_of g.props
   pub limit : g.limit ≤ 2 ^ 40
   pub steps : g.steps ≤ g.limit
   pub serial : g.serial ≤ g.steps + 1
   pub tickets : length g.tickets.items ≤ g.props.slots
   pub ticket_room : g.props.slots ≤ g.tickets.room
-  pub event_room : 2 * (g.limit - g.steps) ≤ g.history.room

@@ -1,8 +1,9 @@
-pub mod InForce
 pub mod Groups
 pub mod Past
 pub mod Events
 pub mod Changes
 pub mod Desk
 pub mod Group
+pub mod Runs
 pub mod Views
+pub mod Whole

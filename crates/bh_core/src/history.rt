@@ -3,7 +3,7 @@
 ghost use Rattle.std.specs.Prelude.{◌≡◌, ℕ, ◌+◌, ◌-◌, ◌/◌, ◌<◌, ◌≤◌, [], ◌∷◌, max, IfOk};
 ghost use Rattle.bh_base.specs.declared.event.EventKind.{EventKind};
 ghost use Rattle.bh_base.specs.History.{window_of};
-ghost use Rattle.bh_base.specs.Tables.{sum_in};
+ghost use Rattle.bh_base.specs.Tables.{no_rows, sum_in};
 ghost use Rattle.bh_core.specs.Past.{past_opened, past_later, past_rolling};
 
 use crate::room::push_within;
@@ -78,6 +78,13 @@ impl History {
     {
         let moment = self.latest;
         push_within(&mut self.events, Event { moment, kind });
+    }
+
+    /// Health starts anew: no event so far counts for it.
+    pub fn restart_health(&mut self)
+        ensures { self.new ≡ record self.old { health = no_rows self.old.window } }
+    {
+        self.health_from = self.events.len();
     }
 
     /// The rolling counts and health at the latest moment.

@@ -3,7 +3,7 @@
 
 mod group;
 mod history;
-pub mod in_force;
+pub mod laws;
 mod room;
 pub mod service;
 #[cfg(test)]

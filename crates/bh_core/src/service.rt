@@ -1,16 +1,14 @@
 //! All groups: each step goes to its own group and leaves the others as they are.
 
-ghost use Rattle.std.specs.Prelude.{◌≡◌, ◌≢◌, ◌↔◌, ℕ, ◌+◌, ◌<◌, ◌≤◌, [], ◌∷◌, ◌++◌, All, length, map, IfOk, OnOk, OnErr, Err, None, slice_get, true};
+ghost use Rattle.std.specs.Prelude.{◌≡◌, ◌≢◌, ◌↔◌, ℕ, ◌+◌, ◌<◌, ◌≤◌, [], ◌∷◌, ◌++◌, length, map, IfOk, OnOk, OnErr, Err, None, slice_get, true};
 ghost use Rattle.bh_base.specs.declared.reply.Reply.{Reply};
 ghost use Rattle.bh_base.specs.Ranges.{IsInRange};
 ghost use Rattle.bh_base.specs.Replies.{can_reply};
-ghost use Rattle.bh_base.specs.Runs.{State, own, replies, state_after, opened, view};
+ghost use Rattle.bh_base.specs.Runs.{State, moved_on, own, replies, state_after, opened, view};
 ghost use Rattle.bh_base.specs.Runs.{step as machine_step};
 ghost use Rattle.bh_core.specs.Groups.{Groups, Shows, own_replies, slots_in};
-ghost use Rattle.bh_core.specs.InForce.{in_force, is_built};
 
 use crate::group::Group;
-use crate::in_force::in_force;
 use crate::room::push_within;
 use bh_base::{GroupId, GroupProps, Reply, Step};
 use std::alloc::{AllocError, Global};
@@ -39,15 +37,15 @@ pub enum RegisterError {
 }
 
 impl Model for Core {
-    ghost use Rattle.std.specs.Prelude.{◌≡◌, ◌≤◌};
-    ghost use Rattle.bh_core.specs.Groups.{Groups, slots_in};
+    ghost use Rattle.bh_core.specs.Groups.{Groups};
     ghost use Rattle.bh_core.specs.Views.{views_of};
+    ghost use Rattle.bh_core.specs.Whole.{IsWhole};
 
     ghost Value = { Groups };
 
     ghost view = { λ c. record { slot_limit = c.slot_limit; views = views_of c.groups.items } };
 
-    ghost invariant = { λ c. (c.slots ≡ slots_in (views_of c.groups.items)) × (c.slots ≤ c.slot_limit) };
+    ghost invariant = { IsWhole };
 }
 
 impl Core {
@@ -72,11 +70,10 @@ impl Core {
         requires some_steps { 1 ≤ step_limit }
         requires few_steps { step_limit ≤ 1024 }
         ensures number { IfOk result (λ id. id.0 ≡ length self.old.views) }
-        ensures added { OnOk result (self.new ≡ record self.old { views = self.old.views ++ view (opened (in_force props) step_limit) ∷ [] }) }
-        ensures room { (result ≡ Err RegisterError.TooManySlots) ↔ (self.old.slot_limit < slots_in self.old.views + (in_force props).slots) }
+        ensures added { OnOk result (self.new ≡ record self.old { views = self.old.views ++ view (opened props step_limit) ∷ [] }) }
+        ensures room { (result ≡ Err RegisterError.TooManySlots) ↔ (self.old.slot_limit < slots_in self.old.views + props.slots) }
         ensures err { OnErr result (self.new ≡ self.old) }
     {
-        let props = in_force(props);
         if u64::from(self.slot_limit) - self.slots < props.slots {
             return Err(RegisterError::TooManySlots);
         }
@@ -95,8 +92,6 @@ impl Core {
     ///
     /// A step of a group that is not registered is answered `NoGroup` and changes nothing.
     pub fn apply(&mut self, step: Step) -> Reply
-        requires { is_built step.op ≡ true }
-
         // The group goes as its machine does, from every state that it may be in by its view.
         ensures reply { (s : State) → Shows self.old step.group.0 s → result ≡ (machine_step s step.op step.now).reply }
         ensures own { (s : State) → Shows self.old step.group.0 s → Shows self.new step.group.0 (machine_step s step.op step.now).state }
@@ -108,6 +103,11 @@ impl Core {
 
         ensures unknown { slice_get self.old.views step.group.0 ≡ None → result ≡ Reply.NoGroup }
         ensures unknown_same { slice_get self.old.views step.group.0 ≡ None → self.new ≡ self.old }
+
+        // What a refusal leaves: all as it was, or of a full group the step's number and moment alone.
+        ensures worn { result ≡ Reply.Worn → self.new ≡ self.old }
+        ensures no_group { result ≡ Reply.NoGroup → self.new ≡ self.old }
+        ensures full { result ≡ Reply.GroupFull → (s : State) → Shows self.old step.group.0 s → Shows self.new step.group.0 (moved_on s step.now) }
 
         // What can be said with no state at hand.
         ensures kinds { can_reply step.op result ≡ true }
@@ -126,8 +126,6 @@ impl Core {
     /// state then: every other group's steps could be left out. Room for the replies is taken first; where that is
     /// refused, nothing has changed.
     pub fn run(&mut self, steps: &[Step]) -> Result<Vec<Reply>, AllocError>
-        requires { All (λ x. is_built x.op ≡ true) steps.now }
-
         // Isolation of runs, for all groups at once and from every state.
         ensures replies { IfOk result (λ rs. (group : ℕ) (s : State) → Shows self.old group s →
             own_replies group steps.now rs.items ≡ replies s (own group steps.now)) }

@@ -1,8 +1,7 @@
 //! Runs that no clause speaks of: that memory is there, and that the clauses say what is meant.
 
-ghost use Rattle.std.specs.Prelude.{◌≡◌, IfOk, true};
+ghost use Rattle.std.specs.Prelude.{◌≡◌};
 ghost use Rattle.bh_base.specs.Ranges.{IsInRange};
-ghost use Rattle.bh_core.specs.InForce.{is_built};
 
 use crate::{Core, RegisterError};
 use bh_base::{GroupId, GroupProps, Op, Reply, Request, Step, Strategy, Text};
@@ -45,16 +44,12 @@ fn step(group: u64, now: u64, op: &Op) -> Step
     }
 }
 
-fn submit(arg: &str) -> Result<Op, Fail>
-    ensures { IfOk result (λ op. is_built op ≡ true) }
-{
+fn submit(arg: &str) -> Result<Op, Fail> {
     let arg = Text::new(arg)?;
     Ok(Op::Submit(Request { cache: None, arg }))
 }
 
-fn finish(serial: u64, body: &str) -> Result<Op, Fail>
-    ensures { IfOk result (λ op. is_built op ≡ true) }
-{
+fn finish(serial: u64, body: &str) -> Result<Op, Fail> {
     let body = Text::new(body)?;
     Ok(Op::Finish { serial, body })
 }
@@ -100,10 +95,9 @@ fn unregistered_group_is_no_group(rt: HostRuntime) -> Result<(), Fail> {
     Ok(())
 }
 
-// The slots of a group are ten for now.
 #[test]
 fn second_group_has_no_slots(rt: HostRuntime) {
-    let mut core = Core::new(rt.alloc(), 15);
+    let mut core = Core::new(rt.alloc(), 100);
     assert_eq!(rt; core.register(props(), 1024), Ok(GroupId(0)));
     assert_eq!(rt;
         core.register(props(), 1024),
@@ -114,7 +108,7 @@ fn second_group_has_no_slots(rt: HostRuntime) {
 
 #[test]
 fn worn_at_the_step_limit(rt: HostRuntime) -> Result<(), Fail> {
-    let mut core = Core::new(rt.alloc(), 15);
+    let mut core = Core::new(rt.alloc(), 64);
     core.register(props(), 2)?;
     assert_eq!(rt; core.apply(step(0, 0, &Op::Start)), Reply::Idle);
     assert_eq!(rt; core.apply(step(0, 0, &Op::Start)), Reply::Idle);

@@ -1,15 +1,27 @@
 //! The tickets of a group, in a plain list by rising serial.
 
-ghost use Rattle.std.specs.Prelude.{◌≡◌, ℕ, ◌+◌, ◌<◌, ◌≤◌, [], ◌∷◌, ◌++◌, count_by, filter, position, length, slice_index_or, slice_set, IfOk, IfSome};
+ghost use Rattle.std.specs.Prelude.{◌≡◌, ℕ, ◌+◌, ◌-◌, ◌<◌, ◌≤◌, ◌^◌, ◌==◌, [], ◌∷◌, ◌++◌, count_by, filter, map, position, length, slice_index_or, slice_set, IfOk, IfSome};
 ghost use Rattle.bh_base.specs.declared.ticket.Ticket.{Ticket};
+ghost use Rattle.bh_base.specs.declared.ticket.TicketState.TheVariants as ticket;
 ghost use Rattle.bh_base.specs.Machine.{released_by_one};
-ghost use Rattle.bh_base.specs.Tickets.{in_state, is_busy_at, is_held_at, is_in_fallback, is_kept, is_queued, is_running};
-ghost use Rattle.bh_core.specs.Changes.{answered, run_ended, run_started, run_stopped, fallback_started};
+ghost use Rattle.bh_base.specs.Tickets.{in_state, is_busy_at, is_cached_as, is_cached_in, is_held_at, is_in_fallback, is_in_fallback_at, is_kept, is_queued, is_running};
+ghost use Rattle.bh_core.specs.Changes.{answered, joined, is_due_by, timed_out_by, run_ended, run_started, run_stopped, fallback_started};
+ghost use Rattle.bh_cache.specs.Cache.{uncached_in};
+ghost use Rattle.std.specs.List.{list_any};
 
 use crate::room::push_within;
-use bh_base::{Answer, Cause, Serial, Ticket, TicketState};
+use bh_base::{Answer, Cause, Moment, Serial, Text, Ticket, TicketState};
 use std::alloc::{AllocError, Global};
 use std::marker::Model;
+
+/// Which tickets are due to time out.
+#[derive(Clone, Copy, Debug)]
+pub struct DueRule {
+    pub timeout_on: bool,
+    /// Milliseconds from the submit.
+    pub timeout_ms: u64,
+    pub moment: Moment,
+}
 
 /// The tickets of a group, with room for as many as it has slots.
 #[derive(Drop)]
@@ -89,6 +101,30 @@ impl Tickets {
         find_held(&self.items, serial)
     }
 
+    /// The place of the ticket that is cached under the context and the key.
+    pub fn find_cached(&self, context: u64, key: &Text<32>) -> Option<usize>
+        ensures place { result ≡ position (is_cached_as (context, key.now)) self.now.items }
+        ensures inside { IfSome result (λ place. place < length self.now.items) }
+    {
+        bh_cache::find(&self.items, context, key)
+    }
+
+    /// Whether the ticket of the serial has timed out: it is queued or running, and was submitted so many
+    /// milliseconds before the moment.
+    pub fn is_due(&self, serial: Serial, due: &DueRule) -> bool
+        ensures { result ≡ list_any (λ t. t.serial == serial) (filter (is_due_by due.now) self.now.items) }
+    {
+        is_due_in(&self.items, serial, due)
+    }
+
+    /// The place of the ticket of the serial, where a holder runs its fallback.
+    pub fn find_in_fallback(&self, serial: Serial) -> Option<usize>
+        ensures place { result ≡ position (is_in_fallback_at serial) self.now.items }
+        ensures inside { IfSome result (λ place. place < length self.now.items) }
+    {
+        find_in_fallback(&self.items, serial)
+    }
+
     /// The ticket at the place.
     pub fn get(&self, place: usize) -> &Ticket
         requires { place < length self.now.items }
@@ -166,6 +202,17 @@ impl Tickets {
         ticket.holders -= 1;
     }
 
+    /// The ticket is answered.
+    pub fn answer(&mut self, place: usize, answer: &Answer)
+        requires { place < length self.old.items }
+        ensures items { (d : Ticket) → self.new.items ≡ slice_set self.old.items place (in_state (ticket.Answered answer.now) (slice_index_or self.old.items place d)) }
+        ensures len { length self.new.items ≡ length self.old.items }
+        ensures room { self.new.room ≡ self.old.room }
+    {
+        let ticket = &mut self.items[place];
+        ticket.state = TicketState::Answered(*answer);
+    }
+
     /// A holder begins with the fallback of the ticket.
     pub fn start_fallback(&mut self, place: usize, cause: Cause)
         requires { place < length self.old.items }
@@ -175,6 +222,38 @@ impl Tickets {
     {
         let ticket = &mut self.items[place];
         ticket.state = TicketState::InFallback(cause);
+    }
+
+    /// One more holder waits for the answer of the ticket.
+    pub fn add_holder(&mut self, place: usize)
+        requires inside { place < length self.old.items }
+        requires few { (d : Ticket) → (slice_index_or self.old.items place d).holders < 2 ^ 64 - 1 }
+        ensures items { (d : Ticket) → self.new.items ≡ slice_set self.old.items place (joined (slice_index_or self.old.items place d)) }
+        ensures len { length self.new.items ≡ length self.old.items }
+        ensures room { self.new.room ≡ self.old.room }
+    {
+        let ticket = &mut self.items[place];
+        ticket.holders += 1;
+    }
+
+    /// No ticket of the context is cached any more; answers how many were.
+    pub fn close(&mut self, context: u64) -> u64
+        ensures items { self.new.items ≡ map (uncached_in context) self.old.items }
+        ensures count { result ≡ count_by (is_cached_in context) self.old.items }
+        ensures len { length self.new.items ≡ length self.old.items }
+        ensures room { self.new.room ≡ self.old.room }
+    {
+        bh_cache::drop_context(&mut self.items, context)
+    }
+
+    /// Each ticket that is due has timed out; answers how many did.
+    pub fn time_out(&mut self, due: &DueRule) -> u64
+        ensures items { self.new.items ≡ map (timed_out_by due.now) self.old.items }
+        ensures count { result ≡ length (filter (is_due_by due.now) self.old.items) }
+        ensures len { length self.new.items ≡ length self.old.items }
+        ensures room { self.new.room ≡ self.old.room }
+    {
+        time_out_all(&mut self.items, due)
     }
 
     /// Leaves the tickets out that nobody needs.
@@ -187,7 +266,7 @@ impl Tickets {
     }
 }
 
-/// Whether the run of the ticket is under way and was not marked as timed out.
+/// Whether the ticket's run is under way and has not timed out.
 pub fn is_running(ticket: &Ticket) -> bool
     ensures { result ≡ is_running ticket.now }
 {
@@ -241,4 +320,48 @@ fn find_held(tickets: &[Ticket], serial: Serial) -> Option<usize>
     tickets
         .iter()
         .position(|t| t.serial == serial && 0 < t.holders)
+}
+
+fn find_in_fallback(tickets: &[Ticket], serial: Serial) -> Option<usize>
+    ensures place { result ≡ position (is_in_fallback_at serial) tickets.now }
+    ensures inside { IfSome result (λ place. place < length tickets.now) }
+{
+    tickets.iter().position(|t| t.serial == serial && matches!(t.state, TicketState::InFallback(_)))
+}
+
+// Whether the ticket is to time out.
+fn is_due(ticket: &Ticket, due: &DueRule) -> bool
+    ensures { result ≡ is_due_by due.now ticket.now }
+{
+    let open = matches!(ticket.state, TicketState::Queued)
+        || matches!(ticket.state, TicketState::Running);
+    due.timeout_on && open && due.moment.saturating_sub(ticket.submitted) >= due.timeout_ms
+}
+
+fn is_due_in(tickets: &[Ticket], serial: Serial, due: &DueRule) -> bool
+    ensures { result ≡ list_any (λ t. t.serial == serial) (filter (is_due_by due.now) tickets.now) }
+{
+    tickets
+        .iter()
+        .filter(|t| is_due(t, due))
+        .any(|t| t.serial == serial)
+}
+
+fn due_count(tickets: &[Ticket], due: &DueRule) -> u64
+    ensures { result ≡ length (filter (is_due_by due.now) tickets.now) }
+{
+    tickets.iter().filter(|t| is_due(t, due)).count() as u64
+}
+
+fn time_out_all(tickets: &mut [Ticket], due: &DueRule) -> u64
+    ensures items { tickets.new ≡ map (timed_out_by due.now) tickets.old }
+    ensures count { result ≡ length (filter (is_due_by due.now) tickets.old) }
+{
+    let count = due_count(tickets, due);
+    for ticket in tickets.iter_mut() {
+        if is_due(ticket, due) {
+            ticket.state = TicketState::NeedsFallback(Cause::Timeout);
+        }
+    }
+    count
 }

@@ -15,7 +15,7 @@ pub enum SettingsError {
     /// `service.groups` is not a list of 1 to 1,000 texts.
     #[error("settings refused: 2 no groups")]
     NoGroups,
-    /// The text at the place, from 1, is not 1 to 32 letters of a bare TOML key, or is `default`.
+    /// The text at the place, from 1, is not 1 to 32 letters, digits, `_` and `-`, or is `default`.
     #[error("settings refused: 3 bad name at {0}")]
     BadName(usize),
     /// The name at the place, from 1, stands before it too.

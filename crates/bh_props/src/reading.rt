@@ -21,7 +21,7 @@ use toml::Value;
 ///
 /// A property is found by its dotted name, however TOML spells it. The value in force is the group's own, else the
 /// one under `default`, else the built-in one; only values in force are checked. Each field of the settings is in its
-/// range. `SettingsError::Memory` comes wherever memory was refused; then nothing stands.
+/// range. `SettingsError::Memory` comes wherever memory was refused, in place of every other answer.
 pub fn read(alloc: Global, text: &str) -> Result<Settings, SettingsError>
     ensures ok { IfOk result (λ s. settings_of text.now ≡ Ok (settings_seen s)) }
     ensures refused { IfErr result (λ e. e ≢ SettingsError.Memory → settings_of text.now ≡ Err e) }

@@ -6,40 +6,42 @@ use Rattle.bulkhead.specs.Lines.{Cut, line, ended, stopped}
 use Rattle.bulkhead.specs.StepLine.{step_of}
 use Rattle.bulkhead.specs.ReplyLine.{reply_line}
 use Rattle.bulkhead.specs.Text.{reply_to, on_step, text, stops}
+use Rattle.bh_props.specs.Settings.{GroupSettings}
+use Rattle.bulkhead.specs.SettingsFile.{names_in}
 
-pub text-said : (names : List (List ℕ)) (before : List Step) (bytes : List ℕ) (rest : Cut) (x : Step) → step_of names bytes ≡ Ok x
-    → text names before (line bytes rest) ≡ reply_line (reply_to before x) ++ text names (before ++ x ∷ []) rest
+pub text-said : (service : GroupSettings) (before : List Step) (bytes : List ℕ) (rest : Cut) (x : Step) → step_of (names_in service) bytes ≡ Ok x
+    → text service before (line bytes rest) ≡ reply_line (reply_to service before x) ++ text service (before ++ x ∷ []) rest
 unfolding text
-text-said names before bytes rest x said = ap (λ (r : Result Step Fault). on_step r (λ y. reply_line (reply_to before y) ++ text names (before ++ y ∷ []) rest) []) said
+text-said service before bytes rest x said = ap (λ (r : Result Step Fault). on_step r (λ y. reply_line (reply_to service before y) ++ text service (before ++ y ∷ []) rest) []) said
 
-pub stops-said : (names : List (List ℕ)) (bytes : List ℕ) (rest : Cut) (x : Step) → step_of names bytes ≡ Ok x → stops names (line bytes rest) ≡ stops names rest
+pub stops-said : (service : GroupSettings) (bytes : List ℕ) (rest : Cut) (x : Step) → step_of (names_in service) bytes ≡ Ok x → stops service (line bytes rest) ≡ stops service rest
 unfolding stops
-stops-said names bytes rest x said = ap (λ (r : Result Step Fault). on_step r (λ y. stops names rest) true) said
+stops-said service bytes rest x said = ap (λ (r : Result Step Fault). on_step r (λ y. stops service rest) true) said
 
 on_step-fault : {A : Type 0} (said : Result Step Fault) (follows : Step → A) (other : A) → IsErr said → on_step said follows other ≡ other
 on_step-fault (Ok x) follows other bad = cc
 on_step-fault (Err fault) follows other bad = refl
 
-pub text-fault : (names : List (List ℕ)) (before : List Step) (bytes : List ℕ) (rest : Cut) → IsErr (step_of names bytes) → text names before (line bytes rest) ≡ []
+pub text-fault : (service : GroupSettings) (before : List Step) (bytes : List ℕ) (rest : Cut) → IsErr (step_of (names_in service) bytes) → text service before (line bytes rest) ≡ []
 unfolding text
-text-fault names before bytes rest faulty = on_step-fault (step_of names bytes) (λ y. reply_line (reply_to before y) ++ text names (before ++ y ∷ []) rest) [] faulty
+text-fault service before bytes rest faulty = on_step-fault (step_of (names_in service) bytes) (λ y. reply_line (reply_to service before y) ++ text service (before ++ y ∷ []) rest) [] faulty
 
-pub stops-fault : (names : List (List ℕ)) (bytes : List ℕ) (rest : Cut) → IsErr (step_of names bytes) → stops names (line bytes rest) ≡ true
+pub stops-fault : (service : GroupSettings) (bytes : List ℕ) (rest : Cut) → IsErr (step_of (names_in service) bytes) → stops service (line bytes rest) ≡ true
 unfolding stops
-stops-fault names bytes rest faulty = on_step-fault (step_of names bytes) (λ y. stops names rest) true faulty
+stops-fault service bytes rest faulty = on_step-fault (step_of (names_in service) bytes) (λ y. stops service rest) true faulty
 
-pub text-ended : (names : List (List ℕ)) (before : List Step) → text names before ended ≡ []
+pub text-ended : (service : GroupSettings) (before : List Step) → text service before ended ≡ []
 unfolding text
-text-ended names before = refl
+text-ended service before = refl
 
-pub stops-ended : (names : List (List ℕ)) → stops names ended ≡ false
+pub stops-ended : (service : GroupSettings) → stops service ended ≡ false
 unfolding stops
-stops-ended names = refl
+stops-ended service = refl
 
-pub text-stopped : (names : List (List ℕ)) (before : List Step) → text names before stopped ≡ []
+pub text-stopped : (service : GroupSettings) (before : List Step) → text service before stopped ≡ []
 unfolding text
-text-stopped names before = refl
+text-stopped service before = refl
 
-pub stops-stopped : (names : List (List ℕ)) → stops names stopped ≡ true
+pub stops-stopped : (service : GroupSettings) → stops service stopped ≡ true
 unfolding stops
-stops-stopped names = refl
+stops-stopped service = refl

@@ -1,5 +1,4 @@
-pub mod GroupNames
-pub mod BuiltIn
+pub mod SettingsFile
 pub mod Lines
 pub mod StepLine
 pub mod ReplyLine

@@ -1,11 +1,15 @@
 -- What the parts of a script do to the bytes that have come, to the groups, and to what is written.
-use Rattle.std.specs.Prelude.{◌≡◌, ◌≢◌, ℕ, ◌<◌, ◌==◌, Bool, true, false, List, [], ◌∷◌, ◌++◌, length, take, String, string_bytes, Option, Some, None, Result, Ok, Err, IsErr}
+use Rattle.std.specs.Prelude.{◌≡◌, ◌≢◌, ℕ, ◌<◌, ◌==◌, Bool, true, false, List, [], ◌∷◌, ◌++◌, length, slice_get, take, String, string_bytes, Option, Some, None, Result, Ok, Err, IsErr}
 use Rattle.std.specs.Io.KnownBytes.{Appends}
 use Rattle.std.specs.declared.alloc.Global.{Global}
+use Rattle.bh_base.specs.declared.props.GroupProps.{GroupProps}
 use Rattle.bh_base.specs.declared.step.Step.{Step}
 use Rattle.bh_core.specs.Groups.{Groups, Shows}
+use Rattle.bh_props.specs.Settings.{GroupSettings}
+use Rattle.bh_props.specs.Printed.{lines_of}
 use Rattle.bulkhead.specs.declared.port_error.PortError.{PortError}
 use Rattle.bulkhead.specs.declared.port_error.PortError.TheVariants.{Read, Write, Line, Memory}
+use Rattle.bulkhead.specs.SettingsFile.{names_in}
 use Rattle.bulkhead.specs.Lines.{Cut, line, ended, stopped, cut, has_line}
 use Rattle.bulkhead.specs.StepLine.{step_of}
 use Rattle.bulkhead.specs.ReplyLine.{reply_line}
@@ -34,46 +38,52 @@ IsLast rest (Err Write) = ⊥
 abbrev pub WritesFront : Option (List ℕ) → Option (List ℕ) → List ℕ → Type 0
 WritesFront old new bytes = (n : ℕ) × Appends old new (take n bytes)
 
--- each of so many groups looks as after its own steps of these
-pub record Agrees (count : ℕ) (core : Groups) (steps : List Step) : Type 0 where
-  pub shows : (group : ℕ) → group < count → Shows core group (group_after group steps)
+-- each group of the service looks as after its own steps of these
+pub record Agrees (service : GroupSettings) (core : Groups) (steps : List Step) : Type 0 where
+  pub shows : (group : ℕ) (g : List ℕ × GroupProps) → slice_get service.groups group ≡ Some g → Shows core group (group_after service g.1 group steps)
 
 -- the line says a step, and the line of the reply to it stands behind what was there
-pub record AnswersLine (names : List (List ℕ)) (before : List Step) (bytes : List ℕ) (core : Groups) (old new : List ℕ) : Type 0 where
+pub record AnswersLine (service : GroupSettings) (before : List Step) (bytes : List ℕ) (core : Groups) (old new : List ℕ) : Type 0 where
   pub step : Step
-  pub said : step_of names bytes ≡ Ok step
-  pub wrote : new ≡ old ++ reply_line (reply_to before step)
-  pub agrees : Agrees (length names) core (before ++ step ∷ [])
+  pub said : step_of (names_in service) bytes ≡ Ok step
+  pub wrote : new ≡ old ++ reply_line (reply_to service before step)
+  pub agrees : Agrees service core (before ++ step ∷ [])
 
 -- a line is answered, or it is faulty and nothing is added for it, or memory is refused
-abbrev pub LineOutcome : List (List ℕ) → List Step → List ℕ → Groups → List ℕ → List ℕ → Result (Unit {0}) PortError → Type 0
-LineOutcome names before bytes core old new (Ok x) = AnswersLine names before bytes core old new
-LineOutcome names before bytes core old new (Err Line) = IsErr (step_of names bytes) × (new ≡ old)
-LineOutcome names before bytes core old new (Err Memory) = new ≡ old
-LineOutcome names before bytes core old new (Err Read) = ⊥
-LineOutcome names before bytes core old new (Err Write) = ⊥
+abbrev pub LineOutcome : GroupSettings → List Step → List ℕ → Groups → List ℕ → List ℕ → Result (Unit {0}) PortError → Type 0
+LineOutcome service before bytes core old new (Ok x) = AnswersLine service before bytes core old new
+LineOutcome service before bytes core old new (Err Line) = IsErr (step_of (names_in service) bytes) × (new ≡ old)
+LineOutcome service before bytes core old new (Err Memory) = new ≡ old
+LineOutcome service before bytes core old new (Err Read) = ⊥
+LineOutcome service before bytes core old new (Err Write) = ⊥
 
 -- The lines that `old` begins with were answered, up to `new`, whatever bytes follow.
-pub record Answered (w0 w1 : Option (List ℕ)) (names : List (List ℕ)) (before : List Step) (core : Groups) (old new : List ℕ) : Type 0 where
+pub record Answered (w0 w1 : Option (List ℕ)) (service : GroupSettings) (before : List Step) (core : Groups) (old new : List ℕ) : Type 0 where
   pub out : List ℕ
   pub later : List Step
-  pub agrees : Agrees (length names) core later
+  pub agrees : Agrees service core later
   pub wrote : Appends w0 w1 out
-  pub text_is : (more : List ℕ) → text names before (cut (old ++ more)) ≡ out ++ text names later (cut (new ++ more))
-  pub stops_is : (more : List ℕ) → stops names (cut (old ++ more)) ≡ stops names (cut (new ++ more))
+  pub text_is : (more : List ℕ) → text service before (cut (old ++ more)) ≡ out ++ text service later (cut (new ++ more))
+  pub stops_is : (more : List ℕ) → stops service (cut (old ++ more)) ≡ stops service (cut (new ++ more))
 
 -- a run over bytes that are cut so, after these steps
-abbrev pub Outcome : Option (List ℕ) → Option (List ℕ) → List (List ℕ) → List Step → Cut → Result (Unit {0}) PortError → Type 0
-Outcome w0 w1 names before c (Ok x) = Appends w0 w1 (text names before c) × (stops names c ≡ false)
-Outcome w0 w1 names before c (Err Line) = Appends w0 w1 (text names before c) × (stops names c ≡ true)
-Outcome w0 w1 names before c (Err Memory) = WritesFront w0 w1 (text names before c)
-Outcome w0 w1 names before c (Err Read) = WritesFront w0 w1 (text names before c)
-Outcome w0 w1 names before c (Err Write) = WritesFront w0 w1 (text names before c)
+abbrev pub Outcome : Option (List ℕ) → Option (List ℕ) → GroupSettings → List Step → Cut → Result (Unit {0}) PortError → Type 0
+Outcome w0 w1 service before c (Ok x) = Appends w0 w1 (text service before c) × (stops service c ≡ false)
+Outcome w0 w1 service before c (Err Line) = Appends w0 w1 (text service before c) × (stops service c ≡ true)
+Outcome w0 w1 service before c (Err Memory) = WritesFront w0 w1 (text service before c)
+Outcome w0 w1 service before c (Err Read) = WritesFront w0 w1 (text service before c)
+Outcome w0 w1 service before c (Err Write) = WritesFront w0 w1 (text service before c)
 
 -- with status 0 the whole text was written and no line was faulty; with status 3 a front of it was written
-pub record IsRun (names : List (List ℕ)) (c : Cut) (w0 w1 : Option (List ℕ)) (status : ℕ) : Type 0 where
-  pub whole : status ≡ 0 → Appends w0 w1 (text names [] c) × (stops names c ≡ false)
-  pub front : status ≡ 3 → WritesFront w0 w1 (text names [] c)
+pub record IsRun (service : GroupSettings) (c : Cut) (w0 w1 : Option (List ℕ)) (status : ℕ) : Type 0 where
+  pub whole : status ≡ 0 → Appends w0 w1 (text service [] c) × (stops service c ≡ false)
+  pub front : status ≡ 3 → WritesFront w0 w1 (text service [] c)
+  pub not_refused : status ≢ 1
+
+-- with status 0 all lines of the settings were written; with status 3 a front of them was written
+pub record IsShown (service : GroupSettings) (w0 w1 : Option (List ℕ)) (status : ℕ) : Type 0 where
+  pub whole : status ≡ 0 → Appends w0 w1 (lines_of service)
+  pub front : status ≡ 3 → WritesFront w0 w1 (lines_of service)
   pub not_refused : status ≢ 1
 
 -- want of memory, or a line that is refused

@@ -1,11 +1,13 @@
 -- The step that a line says, or its fault.
-use Rattle.std.specs.Prelude.{ℕ, List, length, codes, Option, Some, None, option_and_then, Result, Ok, Err, Bool, true, ◌&&◌, nat_le, if◌then◌else◌}
+use Rattle.std.specs.Prelude.{ℕ, List, length, codes, Option, Some, None, option_and_then, option_map, Result, Ok, Err, Bool, true, ◌&&◌, nat_le, if◌then◌else◌}
 use Rattle.std.specs.List.{position_from}
 use Rattle.std.specs.Str.{bytes_eq}
 use Rattle.std.specs.Borrow.{Bor}
 use Rattle.serde_json.specs.Data.{Data}
-use Rattle.serde_json.specs.Find.{get, as_str, as_number, as_u64}
+use Rattle.serde_json.specs.Find.{get, as_str, as_bool, as_number, as_u64}
 use Rattle.serde_json.specs.Read.{read}
+use Rattle.bh_base.specs.declared.step.FallbackEnd.{FallbackEnd}
+use Rattle.bh_base.specs.declared.step.FallbackEnd.TheVariants as ends
 use Rattle.bh_base.specs.declared.step.Op.{Op}
 use Rattle.bh_base.specs.declared.step.Op.TheVariants as op
 use Rattle.bh_base.specs.declared.step.Step.{Step}
@@ -13,6 +15,8 @@ use Rattle.bulkhead.specs.declared.step_line.Fault.{Fault}
 use Rattle.bulkhead.specs.declared.step_line.Fault.TheVariants as faults
 use Rattle.bulkhead.specs.declared.step_line.OpWord.{OpWord}
 use Rattle.bulkhead.specs.declared.step_line.OpWord.TheVariants as words
+use Rattle.bulkhead.specs.declared.step_line.EndLine.{EndLine}
+use Rattle.bulkhead.specs.declared.step_line.EndLine.TheVariants as end_lines
 use Rattle.bulkhead.specs.declared.step_line.OpLine.{OpLine}
 use Rattle.bulkhead.specs.declared.step_line.OpLine.TheVariants as lines
 
@@ -23,6 +27,10 @@ text_at name d = option_and_then as_str (get name d)
 -- a member that is a whole number of 64 bits
 abbrev pub number_at : List ℕ → Data → Option ℕ
 number_at name d = option_and_then as_u64 (option_and_then as_number (get name d))
+
+-- a member that is a truth value
+abbrev pub truth_at : List ℕ → Data → Option Bool
+truth_at name d = option_and_then as_bool (get name d)
 
 infixl 10 ◌>>=◌
 -- goes on unless there is a fault
@@ -41,8 +49,12 @@ op_word s =
     if bytes_eq s (codes "submit") then Some words.Submit else
     (if bytes_eq s (codes "start") then Some words.Start else
     (if bytes_eq s (codes "finish") then Some words.Finish else
+    (if bytes_eq s (codes "fail") then Some words.Fail else
+    (if bytes_eq s (codes "expire") then Some words.Expire else
     (if bytes_eq s (codes "collect") then Some words.Collect else
-    (if bytes_eq s (codes "read") then Some words.Read else None))))
+    (if bytes_eq s (codes "fallback") then Some words.FallbackDone else
+    (if bytes_eq s (codes "close") then Some words.Close else
+    (if bytes_eq s (codes "read") then Some words.Read else None))))))))
 
 -- the context and the key of a submit: both or neither
 abbrev pub cache_of : Option Data → Option Data → Result (Option (ℕ × List ℕ)) Fault
@@ -53,6 +65,13 @@ cache_of (Some c) (Some k) = do
   Ok (Some (context, key))
 cache_of (Some c) None = Err faults.Field
 cache_of None (Some k) = Err faults.Field
+
+-- how a fallback ended, by its word: the value stands beside a success, and nothing is read beside another end
+abbrev pub end_of : List ℕ → Data → Result FallbackEnd Fault
+end_of word d =
+    if bytes_eq word (codes "success") then or_fault faults.Field (option_map ends.Success (text_at (codes "body") d)) else
+    (if bytes_eq word (codes "failure") then Ok ends.Failure else
+    (if bytes_eq word (codes "missing") then Ok ends.Missing else Err faults.Field))
 
 -- the operation that an object says, with texts of any length
 abbrev pub op_at : OpWord → Data → Result Op Fault
@@ -65,9 +84,22 @@ op_at words.Finish d = do
   ticket ← or_fault faults.Field (number_at (codes "ticket") d)
   body ← or_fault faults.Field (text_at (codes "body") d)
   Ok (op.Finish ticket body)
+op_at words.Fail d = do
+  ticket ← or_fault faults.Field (number_at (codes "ticket") d)
+  bad ← or_fault faults.Field (truth_at (codes "bad") d)
+  Ok (op.Fail ticket bad)
+op_at words.Expire d = Ok op.Expire
 op_at words.Collect d = do
   ticket ← or_fault faults.Field (number_at (codes "ticket") d)
   Ok (op.Collect ticket)
+op_at words.FallbackDone d = do
+  ticket ← or_fault faults.Field (number_at (codes "ticket") d)
+  word ← or_fault faults.Field (text_at (codes "end") d)
+  end ← end_of word d
+  Ok (op.FallbackDone ticket end)
+op_at words.Close d = do
+  context ← or_fault faults.Field (number_at (codes "context") d)
+  Ok (op.Close context)
 op_at words.Read d = Ok op.Read
 
 -- a key is of at most 32 bytes
@@ -75,10 +107,16 @@ abbrev pub is_short_name : Option (ℕ × List ℕ) → Bool
 is_short_name None = true
 is_short_name (Some name) = nat_le (length name.1) 32
 
+-- the value of a fallback is of at most 256 bytes
+abbrev pub is_short_end : FallbackEnd → Bool
+is_short_end (ends.Success body) = nat_le (length body) 256
+is_short_end _ = true
+
 -- an argument is of at most 64 bytes, and a body of at most 256
 abbrev pub is_short : Op → Bool
 is_short (op.Submit request) = is_short_name request.cache && nat_le (length request.arg) 64
 is_short (op.Finish ticket body) = nat_le (length body) 256
+is_short (op.FallbackDone ticket end) = is_short_end end
 is_short _ = true
 
 -- the operation, unless a text is too long
@@ -115,12 +153,22 @@ abbrev pub cache_view : Option (ℕ × Bor (List ℕ)) → Option (ℕ × List �
 cache_view None = None
 cache_view (Some name) = Some (name.0, name.1.now)
 
+-- the end of a fallback that the code found
+abbrev pub end_view : EndLine → FallbackEnd
+end_view (end_lines.Success body) = ends.Success body.now
+end_view end_lines.Failure = ends.Failure
+end_view end_lines.Missing = ends.Missing
+
 -- the operation that the code found
 abbrev pub op_view : OpLine → Op
 op_view (lines.Submit cache arg) = op.Submit (record { cache = cache_view cache; arg = arg.now })
 op_view lines.Start = op.Start
 op_view (lines.Finish ticket body) = op.Finish ticket body.now
+op_view (lines.Fail ticket bad) = op.Fail ticket bad
+op_view lines.Expire = op.Expire
 op_view (lines.Collect ticket) = op.Collect ticket
+op_view (lines.FallbackDone ticket end) = op.FallbackDone ticket (end_view end)
+op_view (lines.Close context) = op.Close context
 op_view lines.Read = op.Read
 
 -- the operation that the code found, or the fault
@@ -132,3 +180,8 @@ found_op (Err fault) = Err fault
 abbrev pub found_cache : Result (Option (ℕ × Bor (List ℕ))) Fault → Result (Option (ℕ × List ℕ)) Fault
 found_cache (Ok cache) = Ok (cache_view cache)
 found_cache (Err fault) = Err fault
+
+-- the end of a fallback that the code found, or the fault
+abbrev pub found_end : Result EndLine Fault → Result FallbackEnd Fault
+found_end (Ok end) = Ok (end_view end)
+found_end (Err fault) = Err fault

@@ -2,7 +2,8 @@
 
 ghost use Rattle.std.specs.Prelude.{◌≡◌, ◌<◌, ◌++◌, ◌∷◌, ℕ, List, [], length, true, false, Some, Err, IsErr, OnOk, OnErr, IfErr};
 ghost use Rattle.bh_base.specs.declared.step.Step.{Step};
-ghost use Rattle.bh_core.specs.InForce.{is_built};
+ghost use Rattle.bh_props.specs.Seen.{settings_seen};
+ghost use Rattle.bh_props.specs.Settings.{GroupSettings};
 ghost use Rattle.bulkhead.specs.Lines.{cut, has_line};
 ghost use Rattle.bulkhead.specs.StepLine.{step_of};
 ghost use Rattle.bulkhead.specs.ReplyLine.{reply_line};
@@ -13,28 +14,29 @@ use crate::lines::{last_line, next_line};
 use crate::port_error::PortError;
 use crate::reply_line::reply_line;
 use crate::step_line::step_of;
-use bh_base::{Step, Text};
+use bh_base::Step;
 use bh_core::Core;
+use bh_props::Settings;
 use bytes::BytesMut;
 use std::alloc::{AllocError, Global};
 
 // Answers each line that has ended, behind what is in `out`, and keeps the bytes that follow the last of them.
 pub fn answer_lines(
     alloc: Global,
-    names: &[Text<32>],
+    settings: &Settings,
     core: &mut Core,
     buffer: &mut BytesMut,
     out: &mut Vec<u8>,
 ) -> Result<(), PortError>
-    ensures answered { OnOk result ((before : List Step) → Agrees (length names.now) core.old before →
-        Answered (Some out.old.items) (Some out.new.items) names.now before core.new buffer.old.items buffer.new.items) }
+    ensures answered { OnOk result ((before : List Step) → Agrees (settings_seen settings.now) core.old before →
+        Answered (Some out.old.items) (Some out.new.items) (settings_seen settings.now) before core.new buffer.old.items buffer.new.items) }
     ensures none_left { OnOk result (has_line buffer.new.items ≡ false) }
     ensures kinds { IfErr result IsMemoryOrLine }
-    ensures stopped { IfErr result (λ e. (before : List Step) (more : List ℕ) → Agrees (length names.now) core.old before →
-        Outcome (Some out.old.items) (Some out.new.items) names.now before (cut (buffer.old.items ++ more)) (Err e)) }
+    ensures stopped { IfErr result (λ e. (before : List Step) (more : List ℕ) → Agrees (settings_seen settings.now) core.old before →
+        Outcome (Some out.old.items) (Some out.new.items) (settings_seen settings.now) before (cut (buffer.old.items ++ more)) (Err e)) }
 {
     while let Some(line) = next_line(buffer)? {
-        answer_line(alloc, names, core, line.as_str(), out)?;
+        answer_line(alloc, settings, core, line.as_str(), out)?;
     }
     Ok(())
 }
@@ -42,18 +44,18 @@ pub fn answer_lines(
 // Answers the line at the end of the input that no line feed ended, if any.
 pub fn answer_last(
     alloc: Global,
-    names: &[Text<32>],
+    settings: &Settings,
     core: &mut Core,
     buffer: &mut BytesMut,
     out: &mut Vec<u8>,
 ) -> Result<(), PortError>
     requires { has_line buffer.old.items ≡ false }
     ensures kinds { IfErr result IsMemoryOrLine }
-    ensures outcome { (before : List Step) → Agrees (length names.now) core.old before →
-        Outcome (Some out.old.items) (Some out.new.items) names.now before (cut buffer.old.items) result }
+    ensures outcome { (before : List Step) → Agrees (settings_seen settings.now) core.old before →
+        Outcome (Some out.old.items) (Some out.new.items) (settings_seen settings.now) before (cut buffer.old.items) result }
 {
     match last_line(buffer) {
-        Ok(Some(line)) => answer_line(alloc, names, core, line.as_str(), out),
+        Ok(Some(line)) => answer_line(alloc, settings, core, line.as_str(), out),
         Ok(None) => Ok(()),
         Err(error) => Err(error),
     }
@@ -62,16 +64,16 @@ pub fn answer_last(
 // Answers a line that says a step.
 fn answer_line(
     alloc: Global,
-    names: &[Text<32>],
+    settings: &Settings,
     core: &mut Core,
     line: &str,
     out: &mut Vec<u8>,
 ) -> Result<(), PortError>
-    ensures outcome { (before : List Step) → Agrees (length names.now) core.old before →
-        LineOutcome names.now before line.now core.new out.old.items out.new.items result }
+    ensures outcome { (before : List Step) → Agrees (settings_seen settings.now) core.old before →
+        LineOutcome (settings_seen settings.now) before line.now core.new out.old.items out.new.items result }
     ensures kinds { IfErr result IsMemoryOrLine }
 {
-    match step_of(alloc, names, line) {
+    match step_of(alloc, settings, line) {
         Ok(Ok(step)) => match answer_step(alloc, core, step, out) {
             Ok(()) => Ok(()),
             Err(_) => Err(PortError::Memory),
@@ -88,11 +90,10 @@ fn answer_step(
     step: Step,
     out: &mut Vec<u8>,
 ) -> Result<(), AllocError>
-    requires { is_built step.op ≡ true }
-    ensures wrote { OnOk result ((count : ℕ) (before : List Step) → step.group.0 < count → Agrees count core.old before →
-        out.new.items ≡ out.old.items ++ reply_line (reply_to before step)) }
-    ensures agrees { OnOk result ((count : ℕ) (before : List Step) → step.group.0 < count → Agrees count core.old before →
-        Agrees count core.new (before ++ step ∷ [])) }
+    ensures wrote { OnOk result ((service : GroupSettings) (before : List Step) → step.group.0 < length service.groups → Agrees service core.old before →
+        out.new.items ≡ out.old.items ++ reply_line (reply_to service before step)) }
+    ensures agrees { OnOk result ((service : GroupSettings) (before : List Step) → Agrees service core.old before →
+        Agrees service core.new (before ++ step ∷ [])) }
     ensures kept { OnErr result (out.new.items ≡ out.old.items) }
 {
     let reply = core.apply(step);

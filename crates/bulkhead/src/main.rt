@@ -2,8 +2,7 @@
 #![tactic(auto)]
 
 mod answers;
-pub mod built_in;
-pub mod group_names;
+pub mod check;
 mod lines;
 mod members;
 pub mod port_error;
@@ -12,14 +11,16 @@ pub mod reply_line;
 mod report;
 pub mod run;
 pub mod script;
+pub mod settings_file;
 pub mod step_line;
 #[cfg(test)]
 mod tests;
 pub mod writer;
 
-use crate::group_names::SettingsError;
+use bh_props::SettingsError;
 use clap::{Arg, ArgAction, Command};
-use std::alloc::AllocError;
+use std::alloc::{AllocError, Global};
+use std::io::Write;
 use std::process::ExitCode;
 use std::{env, fs, io};
 
@@ -45,18 +46,7 @@ fn words(rt: &HostRuntime) -> io::Result<Vec<String>> {
 
 // Does what the words say, and answers the exit status.
 fn run_words(rt: &HostRuntime, words: &[String]) -> Result<u8, AllocError> {
-    let alloc = rt.alloc();
-    let file = Arg::new(alloc, "FILE")
-        .help("The settings, as TOML")
-        .required(true)
-        .action(ArgAction::Set);
-    let run = Command::new(alloc, "run")
-        .about("Answers each line of standard input by a line")
-        .arg(file)?;
-    let command = Command::new(alloc, "bulkhead")
-        .about("A command service")
-        .subcommand_required(true)
-        .subcommand(run)?;
+    let command = command(rt.alloc())?;
     let matches = match command.try_get_matches_from(words) {
         Ok(matches) => matches,
         Err(error) => {
@@ -65,8 +55,45 @@ fn run_words(rt: &HostRuntime, words: &[String]) -> Result<u8, AllocError> {
         }
     };
     match matches.subcommand() {
+        Some(("check", found)) => Ok(check_path(rt, found.get_str("FILE").unwrap_or(""))),
         Some(("run", found)) => Ok(run_path(rt, found.get_str("FILE").unwrap_or(""))),
         _ => Ok(BAD_WORDS),
+    }
+}
+
+// The words that may be given.
+fn command<'a>(alloc: Global) -> Result<Command<'a>, AllocError> {
+    Command::new(alloc, "bulkhead")
+        .about("A command service")
+        .subcommand_required(true)
+        .subcommand(with_file(alloc, "check", "Prints each property of each group")?)?
+        .subcommand(with_file(
+            alloc,
+            "run",
+            "Answers each line of standard input by a line",
+        )?)
+}
+
+// A subcommand over a settings file.
+fn with_file<'a>(alloc: Global, name: &'a str, about: &'a str) -> Result<Command<'a>, AllocError> {
+    let file = Arg::new(alloc, "FILE")
+        .help("The settings, as TOML")
+        .required(true)
+        .action(ArgAction::Set);
+    Command::new(alloc, name).about(about).arg(file)
+}
+
+// Prints what is in force under the settings of the file.
+fn check_path(rt: &HostRuntime, path: &str) -> u8 {
+    let mut errors = rt.stderr();
+    match fs::read(rt, path) {
+        Ok(settings) => check::check_file(
+            rt.alloc(),
+            settings.as_slice(),
+            &mut io::writer(rt),
+            &mut errors,
+        ),
+        Err(error) => unreadable(&mut errors, &error),
     }
 }
 
@@ -81,9 +108,14 @@ fn run_path(rt: &HostRuntime, path: &str) -> u8 {
             &mut io::writer(rt),
             &mut errors,
         ),
-        Err(error) => match error.kind() {
-            io::ErrorKind::OutOfMemory => report::settings(&mut errors, SettingsError::Memory),
-            _ => report::file(&mut errors),
-        },
+        Err(error) => unreadable(&mut errors, &error),
+    }
+}
+
+// Says why the settings file can't be read, and answers the exit status.
+fn unreadable<E: Write>(errors: &mut E, error: &io::Error) -> u8 {
+    match error.kind() {
+        io::ErrorKind::OutOfMemory => report::settings(errors, SettingsError::Memory),
+        _ => report::file(errors),
     }
 }

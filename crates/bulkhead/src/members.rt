@@ -3,7 +3,7 @@
 ghost use Rattle.std.specs.Prelude.{◌≡◌, option_map};
 ghost use Rattle.serde_json.specs.View.{view};
 ghost use Rattle.serde_json.specs.Find.{get};
-ghost use Rattle.bulkhead.specs.StepLine.{text_at, number_at};
+ghost use Rattle.bulkhead.specs.StepLine.{text_at, number_at, truth_at};
 
 use serde_json::Value;
 
@@ -30,6 +30,16 @@ pub fn number_at(value: &Value, name: &str) -> Option<u64>
 {
     match value.get(name) {
         Some(member) => member.as_u64(),
+        None => None,
+    }
+}
+
+// The member, where it is a truth value.
+pub fn truth_at(value: &Value, name: &str) -> Option<bool>
+    ensures { result ≡ truth_at name.now (view value.now) }
+{
+    match value.get(name) {
+        Some(member) => member.as_bool(),
         None => None,
     }
 }

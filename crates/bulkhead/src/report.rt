@@ -5,8 +5,8 @@
 ghost use Rattle.std.specs.Prelude.{◌≡◌};
 ghost use Rattle.bulkhead.specs.Status.{settings_status};
 
-use crate::group_names::SettingsError;
 use crate::port_error::PortError;
+use bh_props::SettingsError;
 use std::io::Write;
 
 /// The status where the settings are refused.

@@ -1,16 +1,19 @@
 //! A run of the service over a script.
 
-ghost use Rattle.std.specs.Prelude.{◌≡◌, ◌⊎◌, IfSome, IfOk, IsErr};
-ghost use Rattle.bulkhead.specs.GroupNames.{group_names};
+ghost use Rattle.std.specs.Prelude.{◌≡◌, ◌⊎◌, All, IfSome, IfOk, IsErr};
+ghost use Rattle.bh_base.specs.Ranges.{IsInRange};
+ghost use Rattle.bh_props.specs.Seen.{settings_seen};
+ghost use Rattle.bh_props.specs.Settings.{IsAuditLimit};
+ghost use Rattle.bulkhead.specs.SettingsFile.{settings_in};
 ghost use Rattle.bulkhead.specs.Lines.{cut};
 ghost use Rattle.bulkhead.specs.Port.{IsRun};
 
-use crate::group_names::group_names;
 use crate::reader::ReadWatch;
 use crate::report;
 use crate::script::script;
+use crate::settings_file::settings_in;
 use crate::writer::WriteWatch;
-use bh_base::Text;
+use bh_props::Settings;
 use std::alloc::Global;
 use std::io::{Read, Write};
 
@@ -29,38 +32,40 @@ pub fn run_file<R: Read, W: Write, E: Write>(
     errors: &mut E,
 ) -> u8
     ensures status { (result ≡ 0) ⊎ ((result ≡ 1) ⊎ (result ≡ 3)) }
-    ensures refused_only { result ≡ 1 → IsErr (group_names settings.now) }
-    ensures refused { IsErr (group_names settings.now) → ((result ≡ 1) ⊎ (result ≡ 3)) × (reader.new ≡ reader.old) × (writer.new ≡ writer.old) }
+    ensures refused_only { result ≡ 1 → IsErr (settings_in settings.now) }
+    ensures refused { IsErr (settings_in settings.now) → ((result ≡ 1) ⊎ (result ≡ 3)) × (reader.new ≡ reader.old) × (writer.new ≡ writer.old) }
     ensures quiet { result ≡ 0 → errors.new ≡ errors.old }
-    ensures run { IfOk (group_names settings.now) (λ names. IfSome (R.remaining reader.old) (λ input.
-        IsRun names (cut input) (W.contents writer.old) (W.contents writer.new) result)) }
+    ensures run { IfOk (settings_in settings.now) (λ service. IfSome (R.remaining reader.old) (λ input.
+        IsRun service (cut input) (W.contents writer.old) (W.contents writer.new) result)) }
 {
-    match group_names(alloc, settings) {
-        Ok(names) => run_script(alloc, names.as_slice(), reader, writer, errors),
+    match settings_in(alloc, settings) {
+        Ok(settings) => run_script(alloc, &settings, reader, writer, errors),
         Err(error) => report::settings(errors, error),
     }
 }
 
-// Runs the lines of the reader for the groups.
+// Runs the lines of the reader for the groups of the settings.
 fn run_script<R: Read, W: Write, E: Write>(
     alloc: Global,
-    names: &[Text<32>],
+    settings: &Settings,
     reader: &mut R,
     writer: &mut W,
     errors: &mut E,
 ) -> u8
+    requires in_range { All (λ group. IsInRange group.1) settings.now.groups.entries }
+    requires audit { IfSome settings.now.audit_steps IsAuditLimit }
     ensures status { (result ≡ 0) ⊎ (result ≡ 3) }
     ensures quiet { result ≡ 0 → errors.new ≡ errors.old }
     ensures run { IfSome (R.remaining reader.old) (λ input.
-        IsRun names.now (cut input) (W.contents writer.old) (W.contents writer.new) result) }
+        IsRun (settings_seen settings.now) (cut input) (W.contents writer.old) (W.contents writer.new) result) }
 {
     let mut read_watch = ReadWatch::new();
     let mut write_watch = WriteWatch::new();
     match script(
         alloc,
-        names,
         reader,
         writer,
+        settings,
         &mut read_watch,
         &mut write_watch,
     ) {

@@ -5,11 +5,13 @@ ghost use Rattle.std.specs.Str.{bytes_eq};
 ghost use Rattle.serde_json.specs.View.{view};
 ghost use Rattle.serde_json.specs.Find.{get};
 ghost use Rattle.serde_json.specs.Read.{read};
-ghost use Rattle.bh_core.specs.InForce.{is_built};
-ghost use Rattle.bulkhead.specs.StepLine.{op_word, cache_of, op_at, if_short, group_number, step_at, step_in, step_of, op_view, cache_view, found_op, found_cache, is_short_name};
+ghost use Rattle.bh_props.specs.Seen.{settings_seen};
+ghost use Rattle.bulkhead.specs.SettingsFile.{names_in};
+ghost use Rattle.bulkhead.specs.StepLine.{op_word, cache_of, op_at, if_short, group_number, step_at, step_in, step_of, op_view, cache_view, found_op, found_cache, is_short_name, end_of, end_view, found_end, is_short_end};
 
-use crate::members::{data_at, number_at, text_at};
-use bh_base::{GroupId, Op, Request, Step, Text};
+use crate::members::{data_at, number_at, text_at, truth_at};
+use bh_base::{FallbackEnd, GroupId, Op, Request, Step, Text};
+use bh_props::Settings;
 use serde_json::Value;
 use std::alloc::{AllocError, Global};
 
@@ -18,7 +20,8 @@ use std::alloc::{AllocError, Global};
 pub enum Fault {
     /// The line is no JSON.
     Syntax,
-    /// A member is missing or of another type, or a context stands without a key or a key without a context.
+    /// A member is missing or of another type, a context stands without a key or a key without a context, or a
+    /// fallback has an end of no known name.
     Field,
     /// No operation has this name.
     Op,
@@ -34,8 +37,20 @@ pub enum OpWord {
     Submit,
     Start,
     Finish,
+    Fail,
+    Expire,
     Collect,
+    FallbackDone,
+    Close,
     Read,
+}
+
+/// How a line says that a fallback ended, with its text where it stands, of any length.
+#[derive(Clone, Copy, Debug)]
+pub enum EndLine<'a> {
+    Success(&'a str),
+    Failure,
+    Missing,
 }
 
 /// The operation that a line says, with its texts where they stand, of any length.
@@ -50,25 +65,36 @@ pub enum OpLine<'a> {
         ticket: u64,
         body: &'a str,
     },
+    Fail {
+        ticket: u64,
+        bad: bool,
+    },
+    Expire,
     Collect {
         ticket: u64,
+    },
+    FallbackDone {
+        ticket: u64,
+        end: EndLine<'a>,
+    },
+    Close {
+        context: u64,
     },
     Read,
 }
 
 #[tactic(auto, unfolding(crate::specs::StepLine::step_of))]
-/// The step that a line says to a service of groups with these names, in the order of their numbers.
+/// The step that a line says to a service of the groups of the settings, each by its place.
 pub fn step_of(
     alloc: Global,
-    names: &[Text<32>],
+    settings: &Settings,
     line: &str,
 ) -> Result<Result<Step, Fault>, AllocError>
-    ensures said { IfOk result (λ said. said ≡ step_of names.now line.now) }
-    ensures built { IfOk result (λ said. IfOk said (λ step. is_built step.op ≡ true)) }
-    ensures group { IfOk result (λ said. IfOk said (λ step. step.group.0 < length names.now)) }
+    ensures said { IfOk result (λ said. said ≡ step_of (names_in (settings_seen settings.now)) line.now) }
+    ensures group { IfOk result (λ said. IfOk said (λ step. step.group.0 < length settings.now.groups.entries)) }
 {
     match value_of(alloc, line)? {
-        Some(value) => Ok(step_at(names, &value)),
+        Some(value) => Ok(step_at(settings, &value)),
         None => Ok(Err(Fault::Syntax)),
     }
 }
@@ -85,17 +111,16 @@ fn value_of(alloc: Global, line: &str) -> Result<Option<Value>, AllocError>
 }
 
 // The step that a value says.
-fn step_at(names: &[Text<32>], value: &Value) -> Result<Step, Fault>
-    ensures said { result ≡ step_at names.now (view value.now) }
-    ensures built { IfOk result (λ step. is_built step.op ≡ true) }
-    ensures group { IfOk result (λ step. step.group.0 < length names.now) }
+fn step_at(settings: &Settings, value: &Value) -> Result<Step, Fault>
+    ensures said { result ≡ step_at (names_in (settings_seen settings.now)) (view value.now) }
+    ensures group { IfOk result (λ step. step.group.0 < length settings.now.groups.entries) }
 {
     let word = text_at(value, "op").ok_or(Fault::Field)?;
     let kind = op_word(word).ok_or(Fault::Op)?;
     let name = text_at(value, "group").ok_or(Fault::Field)?;
     let now = number_at(value, "now").ok_or(Fault::Field)?;
     let said = op_at(kind, value)?;
-    let group = group_number(names, name).ok_or(Fault::Group)?;
+    let group = group_number(settings, name).ok_or(Fault::Group)?;
     let op = if_short(said)?;
     Ok(Step {
         group: GroupId(group),
@@ -111,7 +136,11 @@ fn op_word(word: &str) -> Option<OpWord>
         "submit" => Some(OpWord::Submit),
         "start" => Some(OpWord::Start),
         "finish" => Some(OpWord::Finish),
+        "fail" => Some(OpWord::Fail),
+        "expire" => Some(OpWord::Expire),
         "collect" => Some(OpWord::Collect),
+        "fallback" => Some(OpWord::FallbackDone),
+        "close" => Some(OpWord::Close),
         "read" => Some(OpWord::Read),
         _ => None,
     }
@@ -131,11 +160,38 @@ fn op_at(word: OpWord, value: &Value) -> Result<OpLine<'_>, Fault>
             ticket: number_at(value, "ticket").ok_or(Fault::Field)?,
             body: text_at(value, "body").ok_or(Fault::Field)?,
         },
+        OpWord::Fail => OpLine::Fail {
+            ticket: number_at(value, "ticket").ok_or(Fault::Field)?,
+            bad: truth_at(value, "bad").ok_or(Fault::Field)?,
+        },
+        OpWord::Expire => OpLine::Expire,
         OpWord::Collect => OpLine::Collect {
             ticket: number_at(value, "ticket").ok_or(Fault::Field)?,
         },
+        OpWord::FallbackDone => OpLine::FallbackDone {
+            ticket: number_at(value, "ticket").ok_or(Fault::Field)?,
+            end: end_of(text_at(value, "end").ok_or(Fault::Field)?, value)?,
+        },
+        OpWord::Close => OpLine::Close {
+            context: number_at(value, "context").ok_or(Fault::Field)?,
+        },
         OpWord::Read => OpLine::Read,
     })
+}
+
+// How a fallback ended, by its word; only a success has a body.
+fn end_of<'a>(word: &str, value: &'a Value) -> Result<EndLine<'a>, Fault>
+    ensures { found_end result ≡ end_of word.now (view value.now) }
+{
+    match word {
+        "success" => match text_at(value, "body") {
+            Some(body) => Ok(EndLine::Success(body)),
+            None => Err(Fault::Field),
+        },
+        "failure" => Ok(EndLine::Failure),
+        "missing" => Ok(EndLine::Missing),
+        _ => Err(Fault::Field),
+    }
 }
 
 // The context and the key: both or neither.
@@ -157,11 +213,11 @@ fn cache_of<'a>(
 }
 
 // The number of the group of the name.
-fn group_number(names: &[Text<32>], name: &str) -> Option<u64>
-    ensures number { result ≡ group_number names.now name.now }
-    ensures within { IfSome result (λ number. number < length names.now) }
+fn group_number(settings: &Settings, name: &str) -> Option<u64>
+    ensures number { result ≡ group_number (names_in (settings_seen settings.now)) name.now }
+    ensures within { IfSome result (λ number. number < length settings.now.groups.entries) }
 {
-    for (i, other) in names.iter().enumerate() {
+    for (i, other) in settings.groups.keys().enumerate() {
         if other.as_str() == name {
             return Some(i as u64);
         }
@@ -171,8 +227,7 @@ fn group_number(names: &[Text<32>], name: &str) -> Option<u64>
 
 // The operation, unless a text is too long.
 fn if_short(said: OpLine<'_>) -> Result<Op, Fault>
-    ensures said { result ≡ if_short (op_view said.entry) }
-    ensures built { IfOk result (λ o. is_built o ≡ true) }
+    ensures { result ≡ if_short (op_view said.entry) }
 {
     match said {
         OpLine::Submit { cache, arg } => {
@@ -188,7 +243,20 @@ fn if_short(said: OpLine<'_>) -> Result<Op, Fault>
             }),
             Err(_) => Err(Fault::Long),
         },
+        OpLine::Fail { ticket, bad } => Ok(Op::Fail {
+            serial: ticket,
+            bad,
+        }),
+        OpLine::Expire => Ok(Op::Expire),
         OpLine::Collect { ticket } => Ok(Op::Collect { serial: ticket }),
+        OpLine::FallbackDone { ticket, end } => {
+            let end = short_end(end)?;
+            Ok(Op::FallbackDone {
+                serial: ticket,
+                end,
+            })
+        }
+        OpLine::Close { context } => Ok(Op::Close { context }),
         OpLine::Read => Ok(Op::Read),
     }
 }
@@ -203,5 +271,19 @@ fn short_name(cache: Option<(u64, &str)>) -> Result<Option<(u64, Text<32>)>, Fau
     match Text::new(key) {
         Ok(key) => Ok(Some((context, key))),
         Err(_) => Err(Fault::Long),
+    }
+}
+
+// How the fallback ended, unless its value is too long.
+fn short_end(end: EndLine<'_>) -> Result<FallbackEnd, Fault>
+    ensures { result ≡ (if is_short_end (end_view end.entry) then Ok (end_view end.entry) else Err Fault.Long) }
+{
+    match end {
+        EndLine::Success(body) => match Text::new(body) {
+            Ok(body) => Ok(FallbackEnd::Success(body)),
+            Err(_) => Err(Fault::Long),
+        },
+        EndLine::Failure => Ok(FallbackEnd::Failure),
+        EndLine::Missing => Ok(FallbackEnd::Missing),
     }
 }

@@ -1,5 +1,8 @@
 //! Whole runs over memory.
 
+mod operations;
+mod settings;
+
 use crate::run::run_file;
 use std::alloc::Global;
 use std::io;
@@ -28,46 +31,6 @@ const TWO_GROUPS_OUTPUT: &str = r#"{"reply":"queued","ticket":1}
 {"reply":"done"}
 {"body":"one","reply":"value"}
 {"body":"two","reply":"value"}
-"#;
-
-const WINDOW_INPUT: &str = r#"{"op":"submit","group":"a","now":0,"arg":"x"}
-{"op":"start","group":"a","now":0}
-{"op":"finish","group":"a","now":0,"ticket":1,"body":"r"}
-{"op":"read","group":"a","now":9999}
-{"op":"read","group":"a","now":10000}
-{"op":"collect","group":"a","now":10000,"ticket":1}
-{"op":"collect","group":"a","now":10000,"ticket":1}
-{"op":"submit","group":"a","now":10000,"arg":"x"}
-{"op":"submit","group":"a","now":10000,"arg":"x"}
-{"op":"submit","group":"a","now":10000,"arg":"x"}
-{"op":"submit","group":"a","now":10000,"arg":"x"}
-{"op":"submit","group":"a","now":10000,"arg":"x"}
-{"op":"submit","group":"a","now":10000,"arg":"x"}
-{"op":"submit","group":"a","now":10000,"arg":"x"}
-{"op":"submit","group":"a","now":10000,"arg":"x"}
-{"op":"submit","group":"a","now":10000,"arg":"x"}
-{"op":"submit","group":"a","now":10000,"arg":"x"}
-{"op":"submit","group":"a","now":10000,"arg":"x"}
-"#;
-
-const WINDOW_OUTPUT: &str = r#"{"reply":"queued","ticket":1}
-{"arg":"x","reply":"assigned","ticket":1}
-{"reply":"done"}
-{"busy":0,"circuit":"closed","errors":0,"events":{"SUCCESS":1},"free":9,"percent":0,"queued":0,"reply":"metrics","total":1}
-{"busy":0,"circuit":"closed","errors":0,"events":{},"free":9,"percent":0,"queued":0,"reply":"metrics","total":0}
-{"body":"r","reply":"value"}
-{"reply":"no-ticket"}
-{"reply":"queued","ticket":2}
-{"reply":"queued","ticket":3}
-{"reply":"queued","ticket":4}
-{"reply":"queued","ticket":5}
-{"reply":"queued","ticket":6}
-{"reply":"queued","ticket":7}
-{"reply":"queued","ticket":8}
-{"reply":"queued","ticket":9}
-{"reply":"queued","ticket":10}
-{"reply":"queued","ticket":11}
-{"reply":"group-full"}
 "#;
 
 // Runs the input under the settings, and asserts what comes of it.
@@ -102,19 +65,6 @@ fn assert_faulty(rt: &impl Abort, alloc: Global, input: &[u8], output: &str) {
     );
 }
 
-// Asserts that the settings are refused so, and that nothing is written.
-fn assert_refused(rt: &impl Abort, alloc: Global, settings: &[u8], text: &str) {
-    assert_run(
-        rt,
-        alloc,
-        settings,
-        TWO_GROUPS_INPUT.as_bytes(),
-        1,
-        "",
-        text,
-    );
-}
-
 #[test]
 fn no_line_is_answered_by_nothing(rt: HostRuntime) {
     assert_run(&rt, rt.alloc(), ONE_GROUP.as_bytes(), b"", 0, "", "");
@@ -130,61 +80,6 @@ fn each_group_counts_its_own_tickets(rt: HostRuntime) {
         0,
         TWO_GROUPS_OUTPUT,
         "",
-    );
-}
-
-#[test]
-fn the_window_forgets_and_the_slots_fill(rt: HostRuntime) {
-    assert_run(
-        &rt,
-        rt.alloc(),
-        ONE_GROUP.as_bytes(),
-        WINDOW_INPUT.as_bytes(),
-        0,
-        WINDOW_OUTPUT,
-        "",
-    );
-}
-
-#[test]
-fn settings_are_refused_in_order(rt: HostRuntime) {
-    assert_refused(
-        &rt,
-        rt.alloc(),
-        b"service.groups = [",
-        "settings refused: 1 syntax\n",
-    );
-    assert_refused(&rt, rt.alloc(), b"\xff", "settings refused: 1 syntax\n");
-    assert_refused(&rt, rt.alloc(), b"", "settings refused: 2 no groups\n");
-    assert_refused(
-        &rt,
-        rt.alloc(),
-        b"service.groups = []",
-        "settings refused: 2 no groups\n",
-    );
-    assert_refused(
-        &rt,
-        rt.alloc(),
-        b"service.groups = [\"a b\", 1]",
-        "settings refused: 2 no groups\n",
-    );
-    assert_refused(
-        &rt,
-        rt.alloc(),
-        b"service.groups = [\"default\"]",
-        "settings refused: 3 bad name at 1\n",
-    );
-    assert_refused(
-        &rt,
-        rt.alloc(),
-        b"service.groups = [\"a\", \"a\", \"b c\"]",
-        "settings refused: 3 bad name at 3\n",
-    );
-    assert_refused(
-        &rt,
-        rt.alloc(),
-        b"service.groups = [\"a\", \"b\", \"a\"]",
-        "settings refused: 4 twice named at 3\n",
     );
 }
 
@@ -207,14 +102,22 @@ fn lines_end_by_line_feed_or_with_the_input(rt: HostRuntime) {
 
 #[test]
 fn a_faulty_line_ends_the_run(rt: HostRuntime) {
-    let faulty: [&str; 10] = [
+    let faulty: [&str; 18] = [
         "",
         "{",
         "[]",
         r#"{"op":"start","group":"a"}"#,
         r#"{"op":"start","group":"a","now":-1}"#,
         r#"{"op":"submit","group":"a","now":0,"arg":"x","context":1}"#,
-        r#"{"op":"expire","group":"a","now":0}"#,
+        r#"{"op":"jump","group":"a","now":0}"#,
+        r#"{"op":"fail","group":"a","now":0,"ticket":1}"#,
+        r#"{"op":"fail","group":"a","now":0,"ticket":1,"bad":1}"#,
+        r#"{"op":"fallback","group":"a","now":0,"ticket":1}"#,
+        r#"{"op":"fallback","group":"a","now":0,"ticket":1,"end":"ended"}"#,
+        r#"{"op":"fallback","group":"a","now":0,"ticket":1,"end":"success"}"#,
+        r#"{"op":"fallback","group":"a","now":0,"end":"failure"}"#,
+        r#"{"op":"close","group":"a","now":0}"#,
+        r#"{"op":"close","group":"a","now":0,"ticket":1}"#,
         r#"{"op":"start","group":"b","now":0}"#,
         r#"{"op":"submit","group":"a","now":0,"arg":"xxxxxxxxxxxxxxxxxxxxxxxxxxxxxxxxxxxxxxxxxxxxxxxxxxxxxxxxxxxxxxxxx"}"#,
         r#"{"op":"submit","group":"a","now":0,"arg":"x","context":1,"key":"kkkkkkkkkkkkkkkkkkkkkkkkkkkkkkkkk"}"#,
@@ -244,6 +147,32 @@ fn a_line_is_short_and_utf8(rt: HostRuntime) {
         b"{\"op\":\"start\",\"group\":\"a\",\"now\":0}\n\xff\n",
         "{\"reply\":\"idle\"}\n",
     );
+}
+
+#[test]
+fn a_value_of_a_fallback_is_short(rt: HostRuntime) {
+    for (length, status) in [(256, 0), (257, 3)] {
+        let mut body = String::new(rt.alloc());
+        for _ in 0..length {
+            body.push('x').expect(&rt, "memory");
+        }
+        let input = format!(in rt.alloc();
+            r#"{{"op":"fallback","group":"a","now":0,"ticket":1,"end":"success","body":"{body}"}}"#
+        ).expect(&rt, "memory");
+        let (output, errors) = match status {
+            0 => ("{\"reply\":\"not-in-fallback\"}\n", ""),
+            _ => ("", "fault: line\n"),
+        };
+        assert_run(
+            &rt,
+            rt.alloc(),
+            ONE_GROUP.as_bytes(),
+            input.as_str().as_bytes(),
+            status,
+            output,
+            errors,
+        );
+    }
 }
 
 // A reader that gives one piece, and then fails.

@@ -1,7 +1,11 @@
-use Rattle.std.proofs.Common.{◌≡◌, drop}
+use Rattle.std.proofs.Common.{◌≡◌}
 use Rattle.std.specs.List.{position_from}
 use Rattle.std.specs.Str.{bytes_eq}
+use Rattle.bh_props.specs.Seen.{settings_seen}
+use Rattle.bulkhead.specs.SettingsFile.{names_in}
+use Rattle.bulkhead.specs.StepLine.{group_number}
 use Rattle.bulkhead.proofs.step_line.group_number.Given as goal
 
 abbrev pub invariant-loop-i : goal.invariant-loop-i
-invariant-loop-i l = position_from (λ n. bytes_eq n l.name) l.i (drop l.i l.names) ≡ position_from (λ n. bytes_eq n l.name) 0 l.names
+invariant-loop-i l =
+    position_from (λ n. bytes_eq n l.name) l.i-iterator.count l.i-iterator.iter ≡ group_number (names_in (settings_seen l.settings)) l.name

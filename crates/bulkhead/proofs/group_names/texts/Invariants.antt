@@ -1,8 +1,0 @@
-use Rattle.std.proofs.Common.{◌≡◌, ◌++◌, drop, map, option_map}
-use Rattle.toml.specs.View.{items_view}
-use Rattle.bulkhead.specs.GroupNames.{texts}
-use Rattle.bulkhead.proofs.group_names.texts.Given as goal
-
-abbrev pub invariant-loop-value : goal.invariant-loop-value
-invariant-loop-value l =
-    option_map (λ rest. map (λ s. s.now) l.names.items ++ rest) (texts (items_view (drop l.value-index l.values))) ≡ texts (items_view l.values)
