@@ -3,6 +3,8 @@
 ghost use Rattle.std.specs.Prelude.{◌≡◌};
 ghost use Rattle.bh_base.specs.Ranges.{IsInRange};
 
+mod random;
+
 use crate::{Core, RegisterError};
 use bh_base::{GroupId, GroupProps, Op, Reply, Request, Step, Strategy, Text};
 use std::test::Fail;

@@ -64,20 +64,24 @@ fn run_words(rt: &HostRuntime, words: &[String]) -> Result<u8, AllocError> {
 // The words that may be given.
 fn command<'a>(alloc: Global) -> Result<Command<'a>, AllocError> {
     Command::new(alloc, "bulkhead")
-        .about("A command service")
+        .about("Runs commands in groups that cannot take from one another")
         .subcommand_required(true)
-        .subcommand(with_file(alloc, "check", "Prints each property of each group")?)?
+        .subcommand(with_file(
+            alloc,
+            "check",
+            "Prints every property in force for each group of the settings",
+        )?)?
         .subcommand(with_file(
             alloc,
             "run",
-            "Answers each line of standard input by a line",
+            "Answers each step on standard input, a line of JSON, by a line",
         )?)
 }
 
 // A subcommand over a settings file.
 fn with_file<'a>(alloc: Global, name: &'a str, about: &'a str) -> Result<Command<'a>, AllocError> {
     let file = Arg::new(alloc, "FILE")
-        .help("The settings, as TOML")
+        .help("The settings file, as TOML")
         .required(true)
         .action(ArgAction::Set);
     Command::new(alloc, name).about(about).arg(file)

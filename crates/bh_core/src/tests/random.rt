@@ -1,0 +1,184 @@
+//! Random steps of three groups: each is told what a core tells it in which it stands alone.
+
+ghost use Rattle.std.specs.Prelude.{◌<◌, ◌≤◌, length};
+ghost use Rattle.bh_base.specs.Ranges.{IsInRange};
+
+use super::step;
+use crate::Core;
+use bh_base::{FallbackEnd, GroupProps, Op, Reply, Request, Serial, Strategy, Text};
+use rand_core::{Rng, SeedableRng};
+use rand_xoshiro::Xoshiro256PlusPlus;
+use std::test::Fail;
+
+/// Limits so small that each of them is met every few steps.
+fn small(strategy: Strategy) -> GroupProps
+    ensures { IsInRange result }
+{
+    GroupProps {
+        slots: 5,
+        strategy,
+        timeout_ms: 4,
+        timeout_on: true,
+        semaphore: 2,
+        fallback_permits: 1,
+        fallback_on: true,
+        circuit_on: true,
+        volume: 3,
+        sleep_ms: 6,
+        percent: 40,
+        force_open: false,
+        force_closed: false,
+        window_ms: 20,
+        buckets: 4,
+        health_ms: 3,
+        cache_on: true,
+        core: 2,
+        max_queue: Some(2),
+        queue_threshold: 1,
+    }
+}
+
+/// A number below the limit.
+fn below(rng: &mut Xoshiro256PlusPlus, limit: u64) -> u64
+    requires some { 0 < limit }
+    ensures { result < limit }
+{
+    rng.next_u64() % limit
+}
+
+/// The text, which has to fit.
+fn text<const N: usize>(of: &str) -> Text<N>
+    requires fits { length of.now ≤ N }
+{
+    Text::new(of).unwrap()
+}
+
+/// A request, cached in one of two contexts or not at all.
+fn request(rng: &mut Xoshiro256PlusPlus) -> Request {
+    let cache = match below(rng, 4) {
+        context @ 0..=1 => Some((context, text("key"))),
+        _ => None,
+    };
+    let arg = text("arg");
+    Request { cache, arg }
+}
+
+/// How a fallback ends, each way about as often.
+fn fallback_end(rng: &mut Xoshiro256PlusPlus) -> FallbackEnd {
+    match below(rng, 3) {
+        0 => FallbackEnd::Success(text("instead")),
+        1 => FallbackEnd::Failure,
+        _ => FallbackEnd::Missing,
+    }
+}
+
+/// The ticket that the step made.
+fn made(told: &Reply) -> Option<Serial> {
+    match told {
+        Reply::Queued(serial) | Reply::Inline(serial) | Reply::FallbackDue { serial, .. } => {
+            Some(*serial)
+        }
+        _ => None,
+    }
+}
+
+fn is_answer(told: &Reply) -> bool {
+    matches!(told, Reply::Answered(_))
+}
+
+/// An operation, on the ticket where it is about one.
+fn operation(rng: &mut Xoshiro256PlusPlus, serial: u64) -> Op {
+    match below(rng, 12) {
+        0..=2 => Op::Submit(request(rng)),
+        3..=4 => Op::Start,
+        5 => Op::Finish {
+            serial,
+            body: text("body"),
+        },
+        6 => Op::Fail {
+            serial,
+            bad: below(rng, 2) == 0,
+        },
+        7 => Op::Expire,
+        8..=9 => Op::Collect { serial },
+        10 => Op::FallbackDone {
+            serial,
+            end: fallback_end(rng),
+        },
+        _ => match below(rng, 2) {
+            0 => Op::Close {
+                context: below(rng, 2),
+            },
+            _ => Op::Read,
+        },
+    }
+}
+
+/// What one random step was answered.
+#[derive(Clone, Copy)]
+struct Told {
+    /// The group in the midst of others was told what it was told alone.
+    alike: bool,
+    /// The ticket that was made.
+    made: Option<Serial>,
+    is_answer: bool,
+}
+
+fn compare(told: Reply, told_alone: Reply) -> Told {
+    Told {
+        alike: told == told_alone,
+        made: made(&told),
+        is_answer: is_answer(&told),
+    }
+}
+
+/// A random step of the group in the core of all groups, and of the same group where it stands alone.
+fn step_both(
+    rng: &mut Xoshiro256PlusPlus,
+    all: &mut Core,
+    single: &mut Core,
+    group: u64,
+    now: u64,
+    serial: Serial,
+) -> Told {
+    let op = operation(rng, serial);
+    compare(
+        all.apply(step(group, now, &op)),
+        single.apply(step(0, now, &op)),
+    )
+}
+
+#[test]
+fn three_groups_are_told_what_each_is_told_alone(rt: HostRuntime) -> Result<(), Fail> {
+    let mut rng = Xoshiro256PlusPlus::seed_from_u64(7);
+    let mut all = Core::new(rt.alloc(), 100);
+    let mut first = Core::new(rt.alloc(), 100);
+    let mut second = Core::new(rt.alloc(), 100);
+    let mut third = Core::new(rt.alloc(), 100);
+    for strategy in [Strategy::Thread, Strategy::Semaphore, Strategy::Thread] {
+        all.register(small(strategy), 1024)?;
+    }
+    first.register(small(Strategy::Thread), 1024)?;
+    second.register(small(Strategy::Semaphore), 1024)?;
+    third.register(small(Strategy::Thread), 1024)?;
+    let mut newest = [0_u64; 3];
+    let mut answers = 0_u64;
+    for i in 0..3000_u64 {
+        let group = below(&mut rng, 3);
+        let now = i + below(&mut rng, 6);
+        let single = match group {
+            0 => &mut first,
+            1 => &mut second,
+            _ => &mut third,
+        };
+        let serial = newest[group as usize].saturating_sub(below(&mut rng, 5));
+        let told = step_both(&mut rng, &mut all, single, group, now, serial);
+        assert!(rt; told.alike, "step {i}");
+        if let Some(serial) = told.made {
+            newest[group as usize] = serial;
+        }
+        answers = answers.saturating_add(u64::from(told.is_answer));
+    }
+    assert!(rt; answers > 100);
+    Ok(())
+}
