@@ -9,3 +9,4 @@ pub mod OneOfMany
 pub mod Refused
 pub mod Whole
 pub mod TwoWorlds
+pub mod Looks

@@ -41,6 +41,16 @@ step_view ds i d e s o now inside is did sound shown =
     view_at (set ds i e) i e longer (set_read ds i e inside)
     ∙ ap Some (did ∙ ap (λ v. view_after v o now) (one_view _ _ _ (view_at ds i d inside is) shown) ∙ sym (after_seen s o now sound))
 
+-- by the view alone
+pub seen_reply : (ds : List Desk) (i : ℕ) (d : Desk) (v : View) (o : Op) (now : ℕ) (r : Reply) → i < length ds → d ≡ get_or ds i d → r ≡ view_reply d.view o now → slice_get (views_of ds) i ≡ Some v → r ≡ view_reply v o now
+seen_reply ds i d v o now r inside is said shown = said ∙ ap (λ u. view_reply u o now) (one_view _ _ _ (view_at ds i d inside is) shown)
+
+pub seen_view : (ds : List Desk) (i : ℕ) (d e : Desk) (v : View) (o : Op) (now : ℕ) → i < length ds → d ≡ get_or ds i d → e.view ≡ view_after d.view o now → slice_get (views_of ds) i ≡ Some v → slice_get (views_of (set ds i e)) i ≡ Some (view_after v o now)
+seen_view ds i d e v o now inside is did shown =
+    let longer : i < length (set ds i e) = omega (arith, length-set ds i e) in
+    view_at (set ds i e) i e longer (set_read ds i e inside)
+    ∙ ap Some (did ∙ ap (λ u. view_after u o now) (one_view _ _ _ (view_at ds i d inside is) shown))
+
 slice_get-set_other : {X : Type 0} (xs : List X) (i : ℕ) (x : X) (j : ℕ) → j ≢ i → slice_get (set xs i x) j ≡ slice_get xs j
 slice_get-set_other [] i x j differ = refl
 slice_get-set_other (y ∷ ys) zero x zero differ = absurd (differ refl)

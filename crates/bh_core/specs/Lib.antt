@@ -1,4 +1,5 @@
 pub mod Groups
+pub mod Looks
 pub mod Past
 pub mod Events
 pub mod Changes

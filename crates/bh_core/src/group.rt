@@ -8,6 +8,7 @@ ghost use Rattle.bh_core.specs.Desk.{Begins, HasRoom, IsDone, IsServed, IsSteady
 
 mod expire;
 mod fallback;
+mod looks;
 mod runs;
 mod submit;
 

@@ -1,12 +1,15 @@
 //! All groups: each step goes to its own group and leaves the others as they are.
 
-ghost use Rattle.std.specs.Prelude.{◌≡◌, ◌≢◌, ◌↔◌, ℕ, ◌+◌, ◌<◌, ◌≤◌, [], ◌∷◌, ◌++◌, length, map, IfOk, OnOk, OnErr, Err, None, slice_get, true};
+ghost use Rattle.std.specs.Prelude.{◌≡◌, ◌≢◌, ◌↔◌, ℕ, ◌+◌, ◌<◌, ◌≤◌, [], ◌∷◌, ◌++◌, length, map, IfOk, OnOk, OnErr, Err, None, Some, slice_get, true};
 ghost use Rattle.bh_base.specs.declared.reply.Reply.{Reply};
 ghost use Rattle.bh_base.specs.Ranges.{IsInRange};
 ghost use Rattle.bh_base.specs.Replies.{can_reply};
-ghost use Rattle.bh_base.specs.Runs.{State, moved_on, own, replies, state_after, opened, view};
+ghost use Rattle.bh_base.specs.Runs.{State, View, moved_on, own, replies, state_after, opened, view};
 ghost use Rattle.bh_base.specs.Runs.{step as machine_step};
+ghost use Rattle.bh_base.specs.Seen.{view_after, view_reply};
 ghost use Rattle.bh_core.specs.Groups.{Groups, Shows, own_replies, slots_in};
+
+mod looks;
 
 use crate::group::Group;
 use crate::room::push_within;
@@ -109,7 +112,9 @@ impl Core {
         ensures no_group { result ≡ Reply.NoGroup → self.new ≡ self.old }
         ensures full { result ≡ Reply.GroupFull → (s : State) → Shows self.old step.group.0 s → Shows self.new step.group.0 (moved_on s step.now) }
 
-        // What can be said with no state at hand.
+        // What can be said with no state at hand: the step by the view alone, and the kinds of replies.
+        ensures seen { (v : View) → slice_get self.old.views step.group.0 ≡ Some v →
+            (result ≡ view_reply v step.op step.now) × (slice_get self.new.views step.group.0 ≡ Some (view_after v step.op step.now)) }
         ensures kinds { can_reply step.op result ≡ true }
     {
         let place = step.group.0;

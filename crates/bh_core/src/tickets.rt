@@ -5,7 +5,7 @@ ghost use Rattle.bh_base.specs.declared.ticket.Ticket.{Ticket};
 ghost use Rattle.bh_base.specs.declared.ticket.TicketState.TheVariants as ticket;
 ghost use Rattle.bh_base.specs.Machine.{released_by_one};
 ghost use Rattle.bh_base.specs.Tickets.{in_state, is_busy_at, is_cached_as, is_cached_in, is_held_at, is_in_fallback, is_in_fallback_at, is_kept, is_queued, is_running};
-ghost use Rattle.bh_core.specs.Changes.{answered, joined, is_due_by, timed_out_by, run_ended, run_started, run_stopped, fallback_started};
+ghost use Rattle.bh_core.specs.Changes.{answered, joined, is_due_by, is_unanswered, timed_out_by, run_ended, run_started, run_stopped, fallback_started};
 ghost use Rattle.bh_cache.specs.Cache.{uncached_in};
 ghost use Rattle.std.specs.List.{list_any};
 
@@ -115,6 +115,20 @@ impl Tickets {
         ensures { result ≡ list_any (λ t. t.serial == serial) (filter (is_due_by due.now) self.now.items) }
     {
         is_due_in(&self.items, serial, due)
+    }
+
+    /// Whether a ticket waits for a worker.
+    pub fn any_queued(&self) -> bool
+        ensures { result ≡ list_any is_queued self.now.items }
+    {
+        any_queued(&self.items)
+    }
+
+    /// Whether a ticket has timed out.
+    pub fn any_due(&self, due: &DueRule) -> bool
+        ensures { result ≡ list_any (is_due_by due.now) self.now.items }
+    {
+        any_due(&self.items, due)
     }
 
     /// The place of the ticket of the serial, where a holder runs its fallback.
@@ -273,6 +287,16 @@ pub fn is_running(ticket: &Ticket) -> bool
     matches!(ticket.state, TicketState::Running)
 }
 
+/// Whether a holder that collects gets no answer yet, and no fallback to run.
+pub fn is_unanswered(ticket: &Ticket) -> bool
+    ensures { result ≡ is_unanswered ticket.now }
+{
+    matches!(
+        ticket.state,
+        TicketState::Queued | TicketState::Running | TicketState::InFallback(_)
+    )
+}
+
 fn busy_count(tickets: &[Ticket]) -> u64
     ensures { result ≡ count_by (λ t. t.busy) tickets.now }
 {
@@ -345,6 +369,20 @@ fn is_due_in(tickets: &[Ticket], serial: Serial, due: &DueRule) -> bool
         .iter()
         .filter(|t| is_due(t, due))
         .any(|t| t.serial == serial)
+}
+
+fn any_queued(tickets: &[Ticket]) -> bool
+    ensures { result ≡ list_any is_queued tickets.now }
+{
+    tickets
+        .iter()
+        .any(|t| matches!(t.state, TicketState::Queued))
+}
+
+fn any_due(tickets: &[Ticket], due: &DueRule) -> bool
+    ensures { result ≡ list_any (is_due_by due.now) tickets.now }
+{
+    tickets.iter().any(|t| is_due(t, due))
 }
 
 fn due_count(tickets: &[Ticket], due: &DueRule) -> u64

@@ -21,8 +21,8 @@ impl Group {
         Reply::Expired(count)
     }
 
-    // Which tickets are due at the step's moment.
-    fn due_rule(&self) -> DueRule
+    // Which tickets are due at the latest moment.
+    pub fn due_rule(&self) -> DueRule
         ensures { result ≡ due_rule_of self.now.view.present }
     {
         DueRule {

@@ -4,7 +4,7 @@ use Rattle.bh_base.specs.Runs.{State, View, IsSound, view}
 use Rattle.bh_base.proofs.Answering.{view_reply_fits}
 use Rattle.bh_base.proofs.Views.{step_sound}
 use Rattle.bh_core.specs.Groups.{Groups}
-use Rattle.bh_core.proofs.OneOfMany.{step_reply, step_view, step_others, step_slots, known, past_last}
+use Rattle.bh_core.proofs.OneOfMany.{seen_reply, seen_view, step_reply, step_view, step_others, step_slots, known, past_last}
 use Rattle.bh_core.proofs.Refused.{worn_leaves, not_unknown, full_moves_on}
 use Rattle.bh_core.proofs.Steady.{steady_at, steady_set}
 use Rattle.bh_core.proofs.service.Core.apply.Goals as goal
@@ -56,6 +56,17 @@ returns-clause-full c = λ full s shows.
     let own = returns-clause-own c s shows in
     let left = full_moves_on c.self.inside.groups.items c.args.step.group.0 c.index_mut-group.result.now s c.args.step.op c.args.step.now (omega arith) c.index_mut-group.ensures.value (steady_at c.self.inside.groups.items c.args.step.group.0 c.index_mut-group.result.now (omega arith) c.index_mut-group.ensures.value c.self.invariant.steady) (rw (← c.self.view_is) at shows.view_is) (sym told ∙ full) in
     record { sound = subst IsSound left own.sound; view_is = own.view_is ∙ ap (λ (t : State). Some (view t)) left }
+
+pub returns-then-place-len-clause-seen : goal.returns-then-place-len-clause-seen
+returns-then-place-len-clause-seen c = λ v shown.
+    absurd (past_last c.self.inside.groups.items c.args.step.group.0 v (omega (arith, c.len.ensures, c.self.inside.groups.ok.0)) (rw (← c.self.view_is) at shown))
+
+pub returns-clause-seen : goal.returns-clause-seen
+returns-clause-seen c = λ v shown.
+    let before = rw (← c.self.view_is) at shown in (
+      seen_reply c.self.inside.groups.items c.args.step.group.0 c.index_mut-group.result.now v c.args.step.op c.args.step.now c.apply.result (omega arith) c.index_mut-group.ensures.value c.apply.ensures.reply before,
+      seen_view c.self.inside.groups.items c.args.step.group.0 c.index_mut-group.result.now c.apply.new.self v c.args.step.op c.args.step.now (omega arith) c.index_mut-group.ensures.value c.apply.ensures.view before,
+    )
 
 pub returns-clause-kinds : goal.returns-clause-kinds
 returns-clause-kinds c =

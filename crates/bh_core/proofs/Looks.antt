@@ -1,0 +1,127 @@
+-- What a step would be answered, by what the code looks at.
+use Rattle.std.proofs.Common.{◌≡◌, ℕ, ◌+◌, ◌<◌, Bool, true, false, not, cond, List, [], ◌∷◌, filter, length, Option, Some, None, refl, ◌∙◌, sym, ap, arith}
+use Rattle.std.specs.Prelude.{◌&&◌, ◌||◌, find, max, nat_lt, nat_le, if◌then◌else◌}
+use Rattle.std.specs.List.{list_any}
+use Rattle.std.proofs.lemmas.Bool.Decides.{nat_tests}
+use Rattle.bh_base.specs.declared.reply.Reply.{Reply}
+use Rattle.bh_base.specs.declared.reply.Reply.TheVariants as reply
+use Rattle.bh_base.specs.declared.step.Op.{Op}
+use Rattle.bh_base.specs.declared.step.Op.TheVariants as op
+use Rattle.bh_base.specs.declared.ticket.Ticket.{Ticket}
+use Rattle.bh_base.specs.declared.ticket.TicketState.{TicketState}
+use Rattle.bh_base.specs.declared.ticket.TicketState.TheVariants as ticket
+use Rattle.bh_base.specs.Machine.{Present, Outcome, busy_count, collected, collected_in, in_fallback_count, is_due, outcome, started}
+use Rattle.bh_base.specs.Replies.{is_answer_to}
+use Rattle.bh_base.specs.Runs.{View, begun, is_worn}
+use Rattle.bh_base.specs.Seen.{view_outcome, view_reply}
+use Rattle.bh_base.specs.Tickets.{in_state, is_held_at, is_queued}
+use Rattle.bh_base.proofs.Answering.{outcome_answers}
+use Rattle.bh_core.specs.Changes.{is_due_by, is_unanswered}
+use Rattle.bh_core.specs.Desk.{due_rule_of}
+use Rattle.bh_core.specs.declared.tickets.DueRule.{DueRule}
+use Rattle.bh_core.specs.Looks.{expires_some, is_assigned, is_pending, is_worn_out}
+
+-- an operation's own reply is not Worn
+own_answer : (o : Op) (r : Reply) → is_answer_to o r ≡ true → is_worn_out r ≡ false
+own_answer (op.Submit request) reply.Worn is = absurd cc
+own_answer op.Start reply.Worn is = absurd cc
+own_answer (op.Finish serial body) reply.Worn is = absurd cc
+own_answer (op.Fail serial bad) reply.Worn is = absurd cc
+own_answer op.Expire reply.Worn is = absurd cc
+own_answer (op.Collect serial) reply.Worn is = absurd cc
+own_answer (op.FallbackDone serial e) reply.Worn is = absurd cc
+own_answer (op.Close context) reply.Worn is = absurd cc
+own_answer op.Read reply.Worn is = absurd cc
+own_answer o (reply.Queued serial) is = refl
+own_answer o (reply.Inline serial) is = refl
+own_answer o (reply.FallbackDue serial cause) is = refl
+own_answer o (reply.Joined serial) is = refl
+own_answer o reply.GroupFull is = refl
+own_answer o (reply.Assigned serial arg) is = refl
+own_answer o reply.Idle is = refl
+own_answer o reply.Done is = refl
+own_answer o reply.Late is = refl
+own_answer o reply.NotRunning is = refl
+own_answer o (reply.Expired number) is = refl
+own_answer o reply.Pending is = refl
+own_answer o (reply.RunFallback cause) is = refl
+own_answer o (reply.Answered answer) is = refl
+own_answer o reply.NoTicket is = refl
+own_answer o reply.NotInFallback is = refl
+own_answer o (reply.Closed number) is = refl
+own_answer o (reply.Metrics metrics) is = refl
+own_answer o reply.NoGroup is = refl
+
+-- the group is worn exactly where a step is answered so
+pub worn_seen : (v : View) (o : Op) (now : ℕ) → is_worn v.present ≡ is_worn_out (view_reply v o now)
+worn_seen v o now = at (is_worn v.present)
+  where
+    at : (worn : Bool) → worn ≡ is_worn_out (if worn then reply.Worn else (view_outcome v o now).reply)
+    at true = refl
+    at false = sym (own_answer o _ (outcome_answers o _ (begun now v.present)))
+
+-- what is told of the reply of a group that is not worn
+reply_fresh : (p : Reply → Bool) (v : View) (o : Op) (now : ℕ) → is_worn v.present ≡ false → p (view_reply v o now) ≡ p (view_outcome v o now).reply
+reply_fresh p v o now fresh = ap (λ b. p (if b then reply.Worn else (view_outcome v o now).reply)) fresh
+
+-- Start
+
+started_with : (ts : List Ticket) (g : Present) → list_any is_queued ts ≡ is_assigned (started (find is_queued ts) g).reply
+started_with [] g = refl
+started_with (t ∷ ts) g = at (is_queued t) (started_with ts g)
+  where
+    at : (b : Bool) → list_any is_queued ts ≡ is_assigned (started (find is_queued ts) g).reply → (b || list_any is_queued ts) ≡ is_assigned (started (cond b (Some t) (find is_queued ts)) g).reply
+    at true h = refl
+    at false h = h
+
+-- a worker that is free gets a run where a ticket is queued
+pub start_seen : (v : View) (now : ℕ) → is_worn v.present ≡ false → busy_count v.present < v.present.props.core → list_any is_queued v.present.tickets ≡ is_assigned (view_reply v op.Start now)
+start_seen v now fresh room =
+    let free : nat_lt (busy_count v.present) v.present.props.core ≡ true = grind (arith, nat_tests) in
+    started_with v.present.tickets (begun now v.present)
+    ∙ sym (reply_fresh is_assigned v op.Start now fresh ∙ ap (λ b. is_assigned (started (if b then find is_queued v.present.tickets else None) (begun now v.present)).reply) free)
+
+-- Collect
+
+not_pending : (b : Bool) (x y : Outcome) → is_pending x.reply ≡ false → is_pending y.reply ≡ false → is_pending (if b then x else y).reply ≡ false
+not_pending true x y h k = h
+not_pending false x y h k = k
+
+collected_with : (t : Ticket) (serial : ℕ) (g : Present) → is_unanswered t ≡ is_pending (collected (Some t) serial g).reply
+collected_with t serial g = at t.state
+  where
+    at : (s : TicketState) → is_unanswered (in_state s t) ≡ is_pending (collected_in s serial g).reply
+    at ticket.Queued = refl
+    at ticket.Running = refl
+    at (ticket.InFallback cause) = refl
+    at (ticket.Answered answer) = refl
+    at (ticket.NeedsFallback cause) = sym (not_pending (not g.props.fallback_on) _ _ refl (not_pending (nat_le g.props.fallback_permits (in_fallback_count g)) _ _ refl refl))
+
+-- a serial that nobody holds is not Pending
+pub unheld_not_pending : (v : View) (serial now : ℕ) → is_worn v.present ≡ false → find (is_held_at serial) v.present.tickets ≡ None → false ≡ is_pending (view_reply v (op.Collect serial) now)
+unheld_not_pending v serial now fresh none =
+    sym (reply_fresh is_pending v (op.Collect serial) now fresh ∙ ap (λ o. is_pending (collected o serial (begun now v.present)).reply) none)
+
+-- a held ticket is Pending until it is answered or needs its fallback
+pub collect_seen : (v : View) (serial now : ℕ) (t : Ticket) → is_worn v.present ≡ false → find (is_held_at serial) v.present.tickets ≡ Some t → is_unanswered t ≡ is_pending (view_reply v (op.Collect serial) now)
+collect_seen v serial now t fresh held =
+    collected_with t serial (begun now v.present)
+    ∙ sym (reply_fresh is_pending v (op.Collect serial) now fresh ∙ ap (λ o. is_pending (collected o serial (begun now v.present)).reply) held)
+
+-- Expire
+
+any_filtered : (p : Ticket → Bool) (ts : List Ticket) → list_any p ts ≡ nat_lt 0 (length (filter p ts))
+any_filtered p [] = refl
+any_filtered p (t ∷ ts) = at (p t) (any_filtered p ts)
+  where
+    at : (b : Bool) → list_any p ts ≡ nat_lt 0 (length (filter p ts)) → (b || list_any p ts) ≡ nat_lt 0 (length (cond b (t ∷ filter p ts) (filter p ts)))
+    at true h = grind (arith, nat_tests)
+    at false h = h
+
+-- the rule by which tickets are due in a step at the moment
+abbrev pub due_rule_then : View → ℕ → DueRule
+due_rule_then v now = record (due_rule_of v.present) { moment = max v.present.latest now }
+
+-- tickets time out where one is due at the step's moment
+pub expire_seen : (v : View) (now : ℕ) → is_worn v.present ≡ false → list_any (is_due_by (due_rule_then v now)) v.present.tickets ≡ expires_some (view_reply v op.Expire now)
+expire_seen v now fresh = any_filtered (is_due (begun now v.present)) v.present.tickets ∙ sym (reply_fresh expires_some v op.Expire now fresh)
