@@ -8,12 +8,13 @@ use Rattle.std.specs.Io.KnownBytes.{Appends}
 use Rattle.std.specs.declared.alloc.Global.{Global}
 use Rattle.bh_base.specs.declared.step.Step.{Step}
 use Rattle.bh_core.specs.Groups.{Groups}
-use Rattle.bulkhead.specs.declared.port_error.PortError.{PortError}
-use Rattle.bulkhead.specs.declared.port_error.PortError.TheVariants.{Read, Write, Line, Memory}
-use Rattle.bulkhead.specs.Lines.{Cut, line, ended, cut}
-use Rattle.bulkhead.specs.ReplyLine.{reply_line}
+use Rattle.bh_lines.specs.declared.port_error.PortError.{PortError}
+use Rattle.bh_lines.specs.declared.port_error.PortError.TheVariants.{Read, Write, Line, Memory}
+use Rattle.bh_lines.specs.Lines.{Cut, line, ended, cut}
+use Rattle.bh_lines.specs.ReplyLine.{reply_line}
 use Rattle.bulkhead.specs.Text.{reply_to, text, stops}
-use Rattle.bulkhead.specs.Port.{Agrees, AnswersLine, LineOutcome, TakesLine, IsLast, WritesFront, Answered, Outcome, IsMemoryOrLine}
+use Rattle.bh_lines.specs.Taken.{TakesLine, IsLast, IsMemoryOrLine}
+use Rattle.bulkhead.specs.Port.{Agrees, AnswersLine, LineOutcome, WritesFront, Answered, Outcome}
 use Rattle.bulkhead.proofs.TextLaws.{text-said, stops-said, text-fault, stops-fault, text-ended, stops-ended, text-stopped, stops-stopped}
 use Rattle.bh_props.specs.Settings.{GroupSettings}
 

@@ -3,10 +3,11 @@ use Rattle.std.proofs.Common.{◌≡◌, ℕ, List, [], ◌++◌, Option, Some, 
 use Rattle.std.specs.Io.KnownBytes.{Appends}
 use Rattle.bh_base.specs.declared.step.Step.{Step}
 use Rattle.bh_core.specs.Groups.{Groups}
-use Rattle.bulkhead.specs.declared.port_error.PortError.{PortError}
-use Rattle.bulkhead.specs.declared.port_error.PortError.TheVariants.{Write}
-use Rattle.bulkhead.specs.Lines.{Cut, cut}
-use Rattle.bulkhead.specs.Port.{Agrees, WritesFront, Answered, Outcome, IsMemoryOrLine}
+use Rattle.bh_lines.specs.declared.port_error.PortError.{PortError}
+use Rattle.bh_lines.specs.declared.port_error.PortError.TheVariants.{Write}
+use Rattle.bh_lines.specs.Lines.{Cut, cut}
+use Rattle.bh_lines.specs.Taken.{IsMemoryOrLine}
+use Rattle.bulkhead.specs.Port.{Agrees, WritesFront, Answered, Outcome}
 use Rattle.bulkhead.proofs.Answering.{written-answered, unwritten-answered, written, unwritten}
 use Rattle.bh_props.specs.Settings.{GroupSettings}
 

@@ -1,7 +1,4 @@
 pub mod SettingsFile
-pub mod Floatless
-pub mod Cutting
-pub mod Taking
 pub mod Writing
 pub mod TextLaws
 pub mod OwnSteps

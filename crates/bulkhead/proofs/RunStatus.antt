@@ -1,11 +1,11 @@
 -- What the status of a run says of the text.
 use Rattle.std.proofs.Common.{◌≡◌, ℕ, List, [], Option, Some, None, Ok, Err, IfSome, arith, sym, subst}
-use Rattle.bulkhead.specs.declared.port_error.PortError.{PortError}
-use Rattle.bulkhead.specs.declared.port_error.PortError.TheVariants.{Read, Write, Line, Memory}
+use Rattle.bh_lines.specs.declared.port_error.PortError.{PortError}
+use Rattle.bh_lines.specs.declared.port_error.PortError.TheVariants.{Read, Write, Line, Memory}
 use Rattle.std.proofs.Math.Seq.{take-length}
 use Rattle.std.proofs.Common.{length}
 use Rattle.std.specs.Io.KnownBytes.{Appends}
-use Rattle.bulkhead.specs.Lines.{Cut, cut}
+use Rattle.bh_lines.specs.Lines.{Cut, cut}
 use Rattle.bulkhead.specs.Text.{text}
 use Rattle.bulkhead.specs.Port.{Outcome, WritesFront, IsRun}
 use Rattle.bh_props.specs.Settings.{GroupSettings}

@@ -4,9 +4,9 @@ use Rattle.std.proofs.KnownBytes.{Appends-trans, Appends-nil}
 use Rattle.std.specs.Io.KnownBytes.{Appends, Consumes, IsAtEnd}
 use Rattle.bh_base.specs.declared.step.Step.{Step}
 use Rattle.bh_core.specs.Groups.{Groups}
-use Rattle.bulkhead.specs.declared.port_error.PortError.{PortError}
-use Rattle.bulkhead.specs.declared.port_error.PortError.TheVariants.{Read, Write, Line, Memory}
-use Rattle.bulkhead.specs.Lines.{Cut, cut}
+use Rattle.bh_lines.specs.declared.port_error.PortError.{PortError}
+use Rattle.bh_lines.specs.declared.port_error.PortError.TheVariants.{Read, Write, Line, Memory}
+use Rattle.bh_lines.specs.Lines.{Cut, cut}
 use Rattle.bulkhead.specs.Text.{text, stops}
 use Rattle.bulkhead.specs.Port.{Agrees, WritesFront, Answered, Outcome, IsMemoryOrRead}
 use Rattle.bulkhead.proofs.Answering.{front-after, whole-front}

@@ -1,10 +1,10 @@
 -- The text of a script, by its first line.
 use Rattle.std.proofs.Common.{◌≡◌, ℕ, List, [], ◌∷◌, ◌++◌, true, false, Result, Ok, Err, IsErr, refl, ap}
 use Rattle.bh_base.specs.declared.step.Step.{Step}
-use Rattle.bulkhead.specs.declared.step_line.Fault.{Fault}
-use Rattle.bulkhead.specs.Lines.{Cut, line, ended, stopped}
-use Rattle.bulkhead.specs.StepLine.{step_of}
-use Rattle.bulkhead.specs.ReplyLine.{reply_line}
+use Rattle.bh_lines.specs.declared.fault.Fault.{Fault}
+use Rattle.bh_lines.specs.Lines.{Cut, line, ended, stopped}
+use Rattle.bh_lines.specs.StepLine.{step_of}
+use Rattle.bh_lines.specs.ReplyLine.{reply_line}
 use Rattle.bulkhead.specs.Text.{reply_to, on_step, text, stops}
 use Rattle.bh_props.specs.Settings.{GroupSettings}
 use Rattle.bulkhead.specs.SettingsFile.{names_in}

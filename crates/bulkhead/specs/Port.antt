@@ -7,32 +7,13 @@ use Rattle.bh_base.specs.declared.step.Step.{Step}
 use Rattle.bh_core.specs.Groups.{Groups, Shows}
 use Rattle.bh_props.specs.Settings.{GroupSettings}
 use Rattle.bh_props.specs.Printed.{lines_of}
-use Rattle.bulkhead.specs.declared.port_error.PortError.{PortError}
-use Rattle.bulkhead.specs.declared.port_error.PortError.TheVariants.{Read, Write, Line, Memory}
+use Rattle.bh_lines.specs.declared.port_error.PortError.{PortError}
+use Rattle.bh_lines.specs.declared.port_error.PortError.TheVariants.{Read, Write, Line, Memory}
 use Rattle.bulkhead.specs.SettingsFile.{names_in}
-use Rattle.bulkhead.specs.Lines.{Cut, line, ended, stopped, cut, has_line}
-use Rattle.bulkhead.specs.StepLine.{step_of}
-use Rattle.bulkhead.specs.ReplyLine.{reply_line}
+use Rattle.bh_lines.specs.Lines.{Cut, line, ended, stopped, cut, has_line}
+use Rattle.bh_lines.specs.StepLine.{step_of}
+use Rattle.bh_lines.specs.ReplyLine.{reply_line}
 use Rattle.bulkhead.specs.Text.{group_after, reply_to, text, stops}
-
--- what the next line of `old` is, whatever bytes follow, and what is left behind it
-abbrev pub TakesLine : List ℕ → Result (Option (String Global)) PortError → List ℕ → Type 0
-TakesLine old (Ok (Some s)) new =
-    (length new < length old) × ((more : List ℕ) → cut (old ++ more) ≡ line (string_bytes s) (cut (new ++ more)))
-TakesLine old (Ok None) new = (has_line old ≡ false) × (new ≡ old)
-TakesLine old (Err Line) new = (more : List ℕ) → cut (old ++ more) ≡ stopped
-TakesLine old (Err Memory) new = Unit {0}
-TakesLine old (Err Read) new = ⊥
-TakesLine old (Err Write) new = ⊥
-
--- what the last line of an input that ends with `rest` is
-abbrev pub IsLast : List ℕ → Result (Option (String Global)) PortError → Type 0
-IsLast rest (Ok (Some s)) = cut rest ≡ line (string_bytes s) ended
-IsLast rest (Ok None) = cut rest ≡ ended
-IsLast rest (Err Line) = cut rest ≡ stopped
-IsLast rest (Err Memory) = Unit {0}
-IsLast rest (Err Read) = ⊥
-IsLast rest (Err Write) = ⊥
 
 -- The front of `bytes` was written, or all of it, and nothing else.
 abbrev pub WritesFront : Option (List ℕ) → Option (List ℕ) → List ℕ → Type 0
@@ -85,13 +66,6 @@ pub record IsShown (service : GroupSettings) (w0 w1 : Option (List ℕ)) (status
   pub whole : status ≡ 0 → Appends w0 w1 (lines_of service)
   pub front : status ≡ 3 → WritesFront w0 w1 (lines_of service)
   pub not_refused : status ≢ 1
-
--- want of memory, or a line that is refused
-abbrev pub IsMemoryOrLine : PortError → Type 0
-IsMemoryOrLine Line = Unit {0}
-IsMemoryOrLine Memory = Unit {0}
-IsMemoryOrLine Read = ⊥
-IsMemoryOrLine Write = ⊥
 
 -- want of memory, or a reader that failed
 abbrev pub IsMemoryOrRead : PortError → Type 0

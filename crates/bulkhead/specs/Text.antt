@@ -7,10 +7,10 @@ use Rattle.bh_base.specs.declared.reply.Reply.TheVariants as reply
 use Rattle.bh_base.specs.Runs.{State, opened, step, state_after, own}
 use Rattle.bh_props.specs.Settings.{GroupSettings}
 use Rattle.bulkhead.specs.SettingsFile.{names_in, step_limit}
-use Rattle.bulkhead.specs.Lines.{Cut, line, ended, stopped}
-use Rattle.bulkhead.specs.declared.step_line.Fault.{Fault}
-use Rattle.bulkhead.specs.StepLine.{step_of}
-use Rattle.bulkhead.specs.ReplyLine.{reply_line}
+use Rattle.bh_lines.specs.Lines.{Cut, line, ended, stopped}
+use Rattle.bh_lines.specs.declared.fault.Fault.{Fault}
+use Rattle.bh_lines.specs.StepLine.{step_of}
+use Rattle.bh_lines.specs.ReplyLine.{reply_line}
 
 -- a new group of the properties in the service
 abbrev pub opened_group : GroupSettings → GroupProps → State

@@ -4,18 +4,17 @@ ghost use Rattle.std.specs.Prelude.{◌≡◌, ◌<◌, ◌++◌, ◌∷◌, ℕ
 ghost use Rattle.bh_base.specs.declared.step.Step.{Step};
 ghost use Rattle.bh_props.specs.Seen.{settings_seen};
 ghost use Rattle.bh_props.specs.Settings.{GroupSettings};
-ghost use Rattle.bulkhead.specs.Lines.{cut, has_line};
-ghost use Rattle.bulkhead.specs.StepLine.{step_of};
-ghost use Rattle.bulkhead.specs.ReplyLine.{reply_line};
+ghost use Rattle.bh_lines.specs.Lines.{cut, has_line};
+ghost use Rattle.bh_lines.specs.StepLine.{step_of};
+ghost use Rattle.bh_lines.specs.ReplyLine.{reply_line};
 ghost use Rattle.bulkhead.specs.Text.{reply_to};
-ghost use Rattle.bulkhead.specs.Port.{Agrees, LineOutcome, Answered, Outcome, IsMemoryOrLine};
+ghost use Rattle.bh_lines.specs.Taken.{IsMemoryOrLine};
+ghost use Rattle.bulkhead.specs.Port.{Agrees, LineOutcome, Answered, Outcome};
 
-use crate::lines::{last_line, next_line};
-use crate::port_error::PortError;
-use crate::reply_line::reply_line;
-use crate::step_line::step_of;
+use crate::steps::step_of;
 use bh_base::Step;
 use bh_core::Core;
+use bh_lines::{PortError, last_line, next_line, reply_line};
 use bh_props::Settings;
 use bytes::BytesMut;
 use std::alloc::{AllocError, Global};

@@ -5,10 +5,10 @@ ghost use Rattle.bh_props.specs.Seen.{settings_seen};
 ghost use Rattle.bulkhead.specs.SettingsFile.{settings_in};
 ghost use Rattle.bulkhead.specs.Port.{IsShown};
 
-use crate::port_error::PortError;
 use crate::report;
 use crate::settings_file::settings_in;
 use crate::writer::{WriteWatch, write};
+use bh_lines::PortError;
 use bh_props::Settings;
 use std::alloc::Global;
 use std::io::Write;

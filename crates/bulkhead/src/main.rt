@@ -3,16 +3,12 @@
 
 mod answers;
 pub mod check;
-mod lines;
-mod members;
-pub mod port_error;
 pub mod reader;
-pub mod reply_line;
 mod report;
 pub mod run;
 pub mod script;
 pub mod settings_file;
-pub mod step_line;
+mod steps;
 #[cfg(test)]
 mod tests;
 pub mod writer;

@@ -5,7 +5,7 @@ ghost use Rattle.std.specs.Io.{ReadsAtMost};
 ghost use Rattle.std.specs.Io.KnownBytes.{ReadConsumes, Consumes, IsAtEnd};
 ghost use Rattle.bulkhead.specs.Port.{IsMemoryOrRead};
 
-use crate::port_error::PortError;
+use bh_lines::PortError;
 use bytes::BytesMut;
 use std::io;
 use std::io::Read;

@@ -5,7 +5,7 @@
 ghost use Rattle.std.specs.Prelude.{◌≡◌};
 ghost use Rattle.bulkhead.specs.Status.{settings_status};
 
-use crate::port_error::PortError;
+use bh_lines::PortError;
 use bh_props::SettingsError;
 use std::io::Write;
 

@@ -5,7 +5,7 @@ ghost use Rattle.bh_base.specs.Ranges.{IsInRange};
 ghost use Rattle.bh_props.specs.Seen.{settings_seen};
 ghost use Rattle.bh_props.specs.Settings.{IsAuditLimit};
 ghost use Rattle.bulkhead.specs.SettingsFile.{settings_in};
-ghost use Rattle.bulkhead.specs.Lines.{cut};
+ghost use Rattle.bh_lines.specs.Lines.{cut};
 ghost use Rattle.bulkhead.specs.Port.{IsRun};
 
 use crate::reader::ReadWatch;

@@ -6,14 +6,14 @@ ghost use Rattle.bh_base.specs.Ranges.{IsInRange};
 ghost use Rattle.bh_props.specs.Seen.{settings_seen};
 ghost use Rattle.bh_props.specs.Settings.{IsAuditLimit};
 ghost use Rattle.bulkhead.specs.SettingsFile.{step_limit};
-ghost use Rattle.bulkhead.specs.Lines.{cut, has_line};
+ghost use Rattle.bh_lines.specs.Lines.{cut, has_line};
 ghost use Rattle.bulkhead.specs.Port.{Agrees, Answered, Outcome, IsNotRead, IsMemoryOrRead};
 
 use crate::answers::{answer_last, answer_lines};
-use crate::port_error::PortError;
 use crate::reader::{ReadWatch, fill};
 use crate::writer::{WriteWatch, write};
 use bh_core::Core;
+use bh_lines::PortError;
 use bh_props::Settings;
 use bytes::BytesMut;
 use std::alloc::Global;

@@ -5,7 +5,7 @@ ghost use Rattle.std.specs.Io.{WritesAtMost};
 ghost use Rattle.std.specs.Io.KnownBytes.{WriteAppends, Appends};
 ghost use Rattle.bulkhead.specs.Port.{WritesFront, took_none};
 
-use crate::port_error::PortError;
+use bh_lines::PortError;
 use std::io;
 use std::io::Write;
 

@@ -1,5 +1,5 @@
 use Rattle.std.proofs.Common.{◌∙◌, ◌++◌, ap}
-use Rattle.bulkhead.specs.ReplyLine.{reply_line}
+use Rattle.bh_lines.specs.ReplyLine.{reply_line}
 use Rattle.bulkhead.proofs.OwnSteps.{agrees-after, reply_to-shown}
 use Rattle.bulkhead.proofs.answers.answer_step.Goals as goal
 

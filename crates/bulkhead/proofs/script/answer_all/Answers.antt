@@ -1,7 +1,7 @@
 use Rattle.std.proofs.Common.{rules, arith, refl, Result, Ok, IfErr, ◌≡◌, Err}
 use Rattle.std.proofs.lemmas.Result.{err_from_is_err_and}
-use Rattle.bulkhead.specs.declared.port_error.PortError.TheVariants.{Read, Write, Line, Memory}
-use Rattle.bulkhead.specs.declared.port_error.PortError.{PortError}
+use Rattle.bh_lines.specs.declared.port_error.PortError.TheVariants.{Read, Write, Line, Memory}
+use Rattle.bh_lines.specs.declared.port_error.PortError.{PortError}
 use Rattle.bulkhead.specs.Port.{IsNotRead}
 use Rattle.bulkhead.proofs.Running.{progress-start, progress-lines, progress-read, progress-stops, progress-ends, progress-front}
 use Rattle.bulkhead.proofs.script.answer_all.Goals as goal

@@ -5,11 +5,11 @@ use Rattle.tokio_util.specs.declared.codec.lines_codec.LinesCodec.{LinesCodec}
 use Rattle.tokio_util.specs.declared.codec.lines_codec.LinesCodecError.{LinesCodecError}
 use Rattle.tokio_util.specs.Codec.Next.{Decodes, DecodesAtEnd, Resumes, partial}
 use Rattle.tokio_util.specs.Codec.Lines.{gives_lines, IsOutOfMemory}
-use Rattle.bulkhead.specs.declared.port_error.PortError.{PortError}
-use Rattle.bulkhead.specs.declared.port_error.PortError.TheVariants.{Read, Write, Line, Memory}
-use Rattle.bulkhead.specs.Lines.{has_line}
-use Rattle.bulkhead.specs.Port.{TakesLine, IsLast, IsMemoryOrLine}
-use Rattle.bulkhead.proofs.Cutting.{start, decoded-line, decoded-error, has_line-answers, no_line-partial, no_line-no_error, last-line, last-none, last-error}
+use Rattle.bh_lines.specs.declared.port_error.PortError.{PortError}
+use Rattle.bh_lines.specs.declared.port_error.PortError.TheVariants.{Read, Write, Line, Memory}
+use Rattle.bh_lines.specs.Lines.{has_line}
+use Rattle.bh_lines.specs.Taken.{TakesLine, IsLast, IsMemoryOrLine}
+use Rattle.bh_lines.proofs.Cutting.{start, decoded-line, decoded-error, has_line-answers, no_line-partial, no_line-no_error, last-line, last-none, last-error}
 use Rattle.tokio_util.specs.Codec.LinesLaws.{lines_partial}
 
 -- before more bytes come, what a codec may go on with is what one at the start of the line may

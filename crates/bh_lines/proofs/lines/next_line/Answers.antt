@@ -1,6 +1,6 @@
 use Rattle.std.proofs.Common.{rules}
-use Rattle.bulkhead.proofs.Taking.{takes-ok, takes-err}
-use Rattle.bulkhead.proofs.lines.next_line.Goals as goal
+use Rattle.bh_lines.proofs.Taking.{takes-ok, takes-err}
+use Rattle.bh_lines.proofs.lines.next_line.Goals as goal
 
 pub returns-in-Ok : goal.returns-in-Ok
 returns-in-Ok c = takes-ok _ _ _ c.decode.new.self _ c.new_with_max_length-codec.ensures (search rules) c.in-Ok.ensures.next

@@ -11,14 +11,15 @@ use Rattle.bh_base.specs.declared.step.FallbackEnd.TheVariants as ends
 use Rattle.bh_base.specs.declared.step.Op.{Op}
 use Rattle.bh_base.specs.declared.step.Op.TheVariants as op
 use Rattle.bh_base.specs.declared.step.Step.{Step}
-use Rattle.bulkhead.specs.declared.step_line.Fault.{Fault}
-use Rattle.bulkhead.specs.declared.step_line.Fault.TheVariants as faults
-use Rattle.bulkhead.specs.declared.step_line.OpWord.{OpWord}
-use Rattle.bulkhead.specs.declared.step_line.OpWord.TheVariants as words
-use Rattle.bulkhead.specs.declared.step_line.EndLine.{EndLine}
-use Rattle.bulkhead.specs.declared.step_line.EndLine.TheVariants as end_lines
-use Rattle.bulkhead.specs.declared.step_line.OpLine.{OpLine}
-use Rattle.bulkhead.specs.declared.step_line.OpLine.TheVariants as lines
+use Rattle.bh_lines.specs.declared.fault.Fault.{Fault}
+use Rattle.bh_lines.specs.declared.fault.Fault.TheVariants as faults
+use Rattle.bh_lines.specs.declared.step_line.OpWord.{OpWord}
+use Rattle.bh_lines.specs.declared.step_line.OpWord.TheVariants as words
+use Rattle.bh_lines.specs.declared.step_line.EndLine.{EndLine}
+use Rattle.bh_lines.specs.declared.step_line.EndLine.TheVariants as end_lines
+use Rattle.bh_lines.specs.declared.step_line.OpLine.{OpLine}
+use Rattle.bh_lines.specs.declared.step_line.OpLine.TheVariants as lines
+use Rattle.bh_lines.specs.declared.step_line.StepLine.{StepLine}
 
 -- a member that is text
 abbrev pub text_at : List ℕ → Data → Option (List ℕ)
@@ -127,17 +128,29 @@ if_short o = if is_short o then Ok o else Err faults.Long
 abbrev pub group_number : List (List ℕ) → List ℕ → Option ℕ
 group_number names name = position_from (λ n. bytes_eq n name) 0 names
 
--- the step that an object says
-abbrev pub step_at : List (List ℕ) → Data → Result Step Fault
-step_at names d = do
+-- a step as an object says it: the group by its name, the moment, and the operation with texts of any length
+pub record Said : Type 0 where
+  pub group : List ℕ
+  pub now : ℕ
+  pub op : Op
+
+-- what an object says, whatever groups there are
+abbrev pub said_at : Data → Result Said Fault
+said_at d = do
   word ← or_fault faults.Field (text_at (codes "op") d)
   kind ← or_fault faults.Op (op_word word)
-  name ← or_fault faults.Field (text_at (codes "group") d)
+  group ← or_fault faults.Field (text_at (codes "group") d)
   now ← or_fault faults.Field (number_at (codes "now") d)
-  said ← op_at kind d
-  group ← or_fault faults.Group (group_number names name)
-  o ← if_short said
-  Ok (record { group = record { 0 = group }; now = now; op = o })
+  o ← op_at kind d
+  Ok (record { group = group; now = now; op = o })
+
+-- the step that an object says: its group is looked up before its texts are measured
+abbrev pub step_at : List (List ℕ) → Data → Result Step Fault
+step_at names d = do
+  said ← said_at d
+  group ← or_fault faults.Group (group_number names said.group)
+  o ← if_short said.op
+  Ok (record { group = record { 0 = group }; now = said.now; op = o })
 
 -- the step that a line says, if it is JSON at all
 abbrev pub step_in : List (List ℕ) → Option Data → Result Step Fault
@@ -185,3 +198,8 @@ found_cache (Err fault) = Err fault
 abbrev pub found_end : Result EndLine Fault → Result FallbackEnd Fault
 found_end (Ok end) = Ok (end_view end)
 found_end (Err fault) = Err fault
+
+-- what the code found that an object says, or the fault
+abbrev pub found_said : Result StepLine Fault → Result Said Fault
+found_said (Ok said) = Ok (record { group = said.group.now; now = said.now; op = op_view said.op })
+found_said (Err fault) = Err fault

@@ -11,7 +11,7 @@ use Rattle.bh_base.specs.declared.reply.Answer.TheVariants as answer
 use Rattle.bh_base.specs.declared.reply.Metrics.{Metrics}
 use Rattle.bh_base.specs.declared.reply.Reply.{Reply}
 use Rattle.bh_base.specs.declared.reply.Reply.TheVariants as reply
-use Rattle.bulkhead.specs.ReplyLine.{with_count, with_counts, kind_names, counts_listed, events_data, metrics_data, answer_data, reply_data}
+use Rattle.bh_lines.specs.ReplyLine.{with_count, with_counts, kind_names, counts_listed, events_data, metrics_data, answer_data, reply_data}
 
 or-second : (a b : Bool) → (a || b) ≡ false → b ≡ false
 or-second true b h = let e : true ≡ false = h in cc

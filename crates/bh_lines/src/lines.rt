@@ -5,16 +5,16 @@
 
 ghost use Rattle.std.specs.Prelude.{◌≡◌, ◌↔◌, ℕ, false, Err};
 ghost use Rattle.tokio_util.specs.Codec.Lines.{IsOutOfMemory};
-ghost use Rattle.bulkhead.specs.Lines.{has_line};
-ghost use Rattle.bulkhead.specs.Port.{TakesLine, IsLast, IsMemoryOrLine};
+ghost use Rattle.bh_lines.specs.Lines.{has_line};
+ghost use Rattle.bh_lines.specs.Taken.{TakesLine, IsLast, IsMemoryOrLine};
 
 use crate::port_error::PortError;
 use bytes::BytesMut;
 use std::io::ErrorKind;
 use tokio_util::codec::{Decoder, LinesCodec, LinesCodecError};
 
-// The most bytes of a line, its carriage return counted.
-const LINE_LIMIT: usize = 1024;
+/// The most bytes of a line, its carriage return counted.
+pub const LINE_LIMIT: usize = 1024;
 
 // Whether a line, good or refused, stands in front.
 fn has_line(bytes: &[u8]) -> bool
@@ -23,7 +23,10 @@ fn has_line(bytes: &[u8]) -> bool
     bytes.len() > LINE_LIMIT || bytes.contains(&b'\n')
 }
 
-// Takes the line in front, or nothing where none has ended yet.
+/// Takes the line in front, less its line feed and a carriage return before that, or nothing where none has ended yet.
+///
+/// `Line` comes where the line in front is of over `LINE_LIMIT` bytes, ended or not, or is not UTF-8; `Memory` where
+/// memory is refused. After an error nothing is to be taken.
 pub fn next_line(buffer: &mut BytesMut) -> Result<Option<String>, PortError>
     ensures { TakesLine buffer.old.items result buffer.new.items }
 {
@@ -37,7 +40,10 @@ pub fn next_line(buffer: &mut BytesMut) -> Result<Option<String>, PortError>
     }
 }
 
-// The line that stands at the end of the input with no line feed behind it, if any.
+/// The line that stands at the end of the input with no line feed behind it, less a carriage return at its end, if any
+/// byte is left then. No line has ended before it.
+///
+/// `Line` comes where it is not UTF-8; `Memory` where memory is refused.
 pub fn last_line(buffer: &mut BytesMut) -> Result<Option<String>, PortError>
     requires { has_line buffer.old.items ≡ false }
     ensures { IsLast buffer.old.items result }

@@ -1,7 +1,7 @@
 use Rattle.std.proofs.Common.{◌≡◌, drop, map}
 use Rattle.serde_json.specs.View.{members_view}
-use Rattle.bulkhead.specs.ReplyLine.{with_counts}
-use Rattle.bulkhead.proofs.reply_line.put_counts.Given as goal
+use Rattle.bh_lines.specs.ReplyLine.{with_counts}
+use Rattle.bh_lines.proofs.replies.put_counts.Given as goal
 
 abbrev pub invariant-loop-i : goal.invariant-loop-i
 invariant-loop-i l =

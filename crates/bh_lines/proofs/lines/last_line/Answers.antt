@@ -1,5 +1,5 @@
-use Rattle.bulkhead.proofs.Taking.{last-ok, last-err}
-use Rattle.bulkhead.proofs.lines.last_line.Goals as goal
+use Rattle.bh_lines.proofs.Taking.{last-ok, last-err}
+use Rattle.bh_lines.proofs.lines.last_line.Goals as goal
 
 pub returns-in-Ok : goal.returns-in-Ok
 returns-in-Ok c = last-ok _ _ _ c.decode_eof.new.self _ c.new_with_max_length-codec.ensures c.requires c.in-Ok.ensures

@@ -2,8 +2,8 @@ use Rattle.std.proofs.Common.{◌∙◌, ap}
 use Rattle.serde_json.specs.Data.{object}
 use Rattle.serde_json.specs.View.{members_view}
 use Rattle.serde_json.proofs.Views.{view-Object}
-use Rattle.bulkhead.specs.ReplyLine.{with_counts, kind_names, counts_listed, events_data}
-use Rattle.bulkhead.proofs.reply_line.events_value.Goals as goal
+use Rattle.bh_lines.specs.ReplyLine.{with_counts, kind_names, counts_listed, events_data}
+use Rattle.bh_lines.proofs.replies.events_value.Goals as goal
 
 pub returns : goal.returns
 unfolding events_data

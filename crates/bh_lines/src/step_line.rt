@@ -1,35 +1,13 @@
-//! Steps, each read from a line of JSON.
+//! What the JSON of a line says.
 
-ghost use Rattle.std.specs.Prelude.{◌≡◌, ◌<◌, ◌≤◌, ℕ, List, length, codes, true, option_map, Some, None, Ok, IfOk, IfSome, if◌then◌else◌, nat_le, Err};
-ghost use Rattle.std.specs.Str.{bytes_eq};
+ghost use Rattle.std.specs.Prelude.{◌≡◌, option_map, Ok, if◌then◌else◌, Err};
 ghost use Rattle.serde_json.specs.View.{view};
-ghost use Rattle.serde_json.specs.Find.{get};
-ghost use Rattle.serde_json.specs.Read.{read};
-ghost use Rattle.bh_props.specs.Seen.{settings_seen};
-ghost use Rattle.bulkhead.specs.SettingsFile.{names_in};
-ghost use Rattle.bulkhead.specs.StepLine.{op_word, cache_of, op_at, if_short, group_number, step_at, step_in, step_of, op_view, cache_view, found_op, found_cache, is_short_name, end_of, end_view, found_end, is_short_end};
+ghost use Rattle.bh_lines.specs.StepLine.{op_word, cache_of, op_at, if_short, said_at, op_view, cache_view, found_op, found_cache, found_said, is_short_name, end_of, end_view, found_end, is_short_end};
 
+use crate::fault::Fault;
 use crate::members::{data_at, number_at, text_at, truth_at};
-use bh_base::{FallbackEnd, GroupId, Op, Request, Step, Text};
-use bh_props::Settings;
+use bh_base::{FallbackEnd, Op, Request, Text};
 use serde_json::Value;
-use std::alloc::{AllocError, Global};
-
-/// Why a line says no step: the first that holds.
-#[derive(Clone, Copy, Debug, PartialEq, Eq)]
-pub enum Fault {
-    /// The line is no JSON.
-    Syntax,
-    /// A member is missing or of another type, a context stands without a key or a key without a context, or a
-    /// fallback has an end of no known name.
-    Field,
-    /// No operation has this name.
-    Op,
-    /// No group has this name.
-    Group,
-    /// An argument of over 64 bytes, a key of over 32 or a body of over 256.
-    Long,
-}
 
 /// The operations that a line can name.
 #[derive(Clone, Copy, Debug, PartialEq, Eq)]
@@ -83,50 +61,25 @@ pub enum OpLine<'a> {
     Read,
 }
 
-#[tactic(auto, unfolding(crate::specs::StepLine::step_of))]
-/// The step that a line says to a service of the groups of the settings, each by its place.
-pub fn step_of(
-    alloc: Global,
-    settings: &Settings,
-    line: &str,
-) -> Result<Result<Step, Fault>, AllocError>
-    ensures said { IfOk result (λ said. said ≡ step_of (names_in (settings_seen settings.now)) line.now) }
-    ensures group { IfOk result (λ said. IfOk said (λ step. step.group.0 < length settings.now.groups.entries)) }
-{
-    match value_of(alloc, line)? {
-        Some(value) => Ok(step_at(settings, &value)),
-        None => Ok(Err(Fault::Syntax)),
-    }
+/// A step as a line says it: its group by name, its moment in milliseconds, and its operation.
+#[derive(Clone, Copy, Debug)]
+pub struct StepLine<'a> {
+    pub group: &'a str,
+    pub now: u64,
+    pub op: OpLine<'a>,
 }
 
-// The value of a line, where it is JSON.
-fn value_of(alloc: Global, line: &str) -> Result<Option<Value>, AllocError>
-    ensures { IfOk result (λ v. option_map view v ≡ read line.now) }
-{
-    match Value::from_str(alloc, line) {
-        Ok(value) => Ok(Some(value)),
-        Err(error) if error.is_memory() => Err(AllocError),
-        Err(_) => Ok(None),
-    }
-}
-
-// The step that a value says.
-fn step_at(settings: &Settings, value: &Value) -> Result<Step, Fault>
-    ensures said { result ≡ step_at (names_in (settings_seen settings.now)) (view value.now) }
-    ensures group { IfOk result (λ step. step.group.0 < length settings.now.groups.entries) }
+/// What a value says, whatever groups there are, with its texts of any length. `Field` comes where the value is no
+/// object or a member is missing or of another type, and `Op` where no operation has the name.
+pub fn said_at(value: &Value) -> Result<StepLine<'_>, Fault>
+    ensures { found_said result ≡ said_at (view value.now) }
 {
     let word = text_at(value, "op").ok_or(Fault::Field)?;
     let kind = op_word(word).ok_or(Fault::Op)?;
-    let name = text_at(value, "group").ok_or(Fault::Field)?;
+    let group = text_at(value, "group").ok_or(Fault::Field)?;
     let now = number_at(value, "now").ok_or(Fault::Field)?;
-    let said = op_at(kind, value)?;
-    let group = group_number(settings, name).ok_or(Fault::Group)?;
-    let op = if_short(said)?;
-    Ok(Step {
-        group: GroupId(group),
-        now,
-        op,
-    })
+    let op = op_at(kind, value)?;
+    Ok(StepLine { group, now, op })
 }
 
 fn op_word(word: &str) -> Option<OpWord>
@@ -146,8 +99,8 @@ fn op_word(word: &str) -> Option<OpWord>
     }
 }
 
-// The operation of the word, from its members.
-fn op_at(word: OpWord, value: &Value) -> Result<OpLine<'_>, Fault>
+/// The operation of the word, from the members of the value, or `Field` where one is missing or of another type.
+pub fn op_at(word: OpWord, value: &Value) -> Result<OpLine<'_>, Fault>
     ensures { found_op result ≡ op_at word (view value.now) }
 {
     Ok(match word {
@@ -212,21 +165,9 @@ fn cache_of<'a>(
     }
 }
 
-// The number of the group of the name.
-fn group_number(settings: &Settings, name: &str) -> Option<u64>
-    ensures number { result ≡ group_number (names_in (settings_seen settings.now)) name.now }
-    ensures within { IfSome result (λ number. number < length settings.now.groups.entries) }
-{
-    for (i, other) in settings.groups.keys().enumerate() {
-        if other.as_str() == name {
-            return Some(i as u64);
-        }
-    }
-    None
-}
-
-// The operation, unless a text is too long.
-fn if_short(said: OpLine<'_>) -> Result<Op, Fault>
+/// The operation with texts that fit, or `Long` where an argument is of over 64 bytes, a key of over 32 or a body of
+/// over 256.
+pub fn if_short(said: OpLine<'_>) -> Result<Op, Fault>
     ensures { result ≡ if_short (op_view said.entry) }
 {
     match said {

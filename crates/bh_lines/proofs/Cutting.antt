@@ -16,7 +16,7 @@ use Rattle.tokio_util.specs.Codec.Next.{decoded, partial, at_end}
 use Rattle.tokio_util.specs.Codec.Lines.{without_carriage_return, newline_from, read_line, Scan, at_line_start, gives_lines, Answers, AnswersAtEnd, AnswersLast, IsOutOfMemory, IsTextOf, IsUnfinished}
 use Rattle.tokio_util.specs.Codec.Lines as scans
 use Rattle.tokio_util.specs.Codec.LinesLaws.{read_line_found, read_line_long, read_line_short, newline_from-append_found, newline_from-append_missing}
-use Rattle.bulkhead.specs.Lines.{Cut, line, ended, stopped, less_return, whole_line, last_line, cut_from, cut, has_line}
+use Rattle.bh_lines.specs.Lines.{Cut, line, ended, stopped, less_return, whole_line, last_line, cut_from, cut, has_line}
 
 -- the first line feed
 abbrev pub feed : List ℕ → ℕ

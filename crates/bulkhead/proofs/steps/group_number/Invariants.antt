@@ -3,8 +3,8 @@ use Rattle.std.specs.List.{position_from}
 use Rattle.std.specs.Str.{bytes_eq}
 use Rattle.bh_props.specs.Seen.{settings_seen}
 use Rattle.bulkhead.specs.SettingsFile.{names_in}
-use Rattle.bulkhead.specs.StepLine.{group_number}
-use Rattle.bulkhead.proofs.step_line.group_number.Given as goal
+use Rattle.bh_lines.specs.StepLine.{group_number}
+use Rattle.bulkhead.proofs.steps.group_number.Given as goal
 
 abbrev pub invariant-loop-i : goal.invariant-loop-i
 invariant-loop-i l =

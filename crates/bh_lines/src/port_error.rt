@@ -11,7 +11,7 @@ pub enum PortError {
     /// The writer failed, or took no byte.
     #[error("fault: write")]
     Write,
-    /// A line is of over 1,024 bytes, is not UTF-8 or says no step.
+    /// A line is of over 1,024 bytes or is not UTF-8.
     #[error("fault: line")]
     Line,
     /// Memory was refused.

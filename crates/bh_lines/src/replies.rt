@@ -4,13 +4,13 @@ ghost use Rattle.std.specs.Prelude.{◌≡◌, ℕ, List, false, map, length, If
 ghost use Rattle.serde_json.specs.Data.{no_members};
 ghost use Rattle.serde_json.specs.View.{view, members_view};
 ghost use Rattle.serde_json.specs.Written.{has_float};
-ghost use Rattle.bulkhead.specs.ReplyLine.{cause_word, fallback_word, circuit_word, kind_names, counts_listed, with_count, with_counts, events_data, metrics_data, answer_data, named, numbered, fallback_due_data, assigned_data, expired_data, run_fallback_data, closed_data, reply_data, line_of, reply_line};
+ghost use Rattle.bh_lines.specs.ReplyLine.{cause_word, fallback_word, circuit_word, kind_names, counts_listed, with_count, with_counts, events_data, metrics_data, answer_data, named, numbered, fallback_due_data, assigned_data, expired_data, run_fallback_data, closed_data, reply_data, line_of, reply_line};
 
 use bh_base::{Answer, Cause, CircuitState, Counts, FallbackFault, Metrics, Reply};
 use serde_json::{Map, Value, json};
 use std::alloc::{AllocError, Global};
 
-/// The line of a reply, with its line feed.
+/// The line of a reply, with its line feed. It fails only for want of memory.
 #[tactic(auto, unfolding(crate::specs::ReplyLine::reply_line))]
 pub fn reply_line(alloc: Global, reply: &Reply) -> Result<String, AllocError>
     ensures { IfOk result (λ s. string_bytes s ≡ reply_line reply.now) }
@@ -19,8 +19,8 @@ pub fn reply_line(alloc: Global, reply: &Reply) -> Result<String, AllocError>
     line_of(alloc, &value)
 }
 
-// The line of a value with no float.
-fn line_of(alloc: Global, value: &Value) -> Result<String, AllocError>
+/// The compact text of a value with no float, and a line feed. It fails only for want of memory.
+pub fn line_of(alloc: Global, value: &Value) -> Result<String, AllocError>
     requires { has_float (view value.now) ≡ false }
     ensures { IfOk result (λ s. string_bytes s ≡ line_of (view value.now)) }
 {

@@ -1,0 +1,3 @@
+pub mod Floatless
+pub mod Cutting
+pub mod Taking

@@ -1,0 +1,5 @@
+pub mod Lines
+pub mod Taken
+pub mod StepLine
+pub mod ReplyLine
+pub mod FaultLine

@@ -1,0 +1,14 @@
+//! Lines: bytes cut into lines, the step that a line of JSON says or its fault, and the lines of replies and faults.
+#![tactic(auto)]
+
+pub mod fault;
+pub mod lines;
+pub mod members;
+pub mod port_error;
+pub mod replies;
+pub mod step_line;
+
+pub use fault::{Fault, fault_line};
+pub use lines::{last_line, next_line};
+pub use port_error::PortError;
+pub use replies::{line_of, reply_line};
