@@ -1,5 +1,5 @@
 -- The lines of a text of bytes.
-use Rattle.std.specs.Prelude.{ℕ, List, [], ◌∷◌, ◌++◌, length, Bool, ◌==◌, ◌&&◌, nat_le, nat_lt, ◌||◌, if◌then◌else◌}
+use Rattle.std.specs.Prelude.{ℕ, List, [], ◌∷◌, ◌++◌, length, Bool, true, false, ◌==◌, ◌&&◌, nat_le, nat_lt, ◌||◌, if◌then◌else◌}
 use Rattle.std.specs.List.{list_any}
 use Rattle.std.specs.Str.{is_utf8}
 
@@ -40,3 +40,9 @@ cut bytes = cut_from [] bytes
 -- whether a line, good or refused, is known to stand in front
 abbrev pub has_line : List ℕ → Bool
 has_line bytes = nat_lt line_limit (length bytes) || list_any (λ b. b == 10) bytes
+
+-- whether a line is refused, so that nothing behind it counts
+abbrev pub stops : Cut → Bool
+stops (line bytes rest) = stops rest
+stops ended = false
+stops stopped = true

@@ -6,8 +6,9 @@ use Rattle.std.proofs.Math.Seq.{take-length}
 use Rattle.std.proofs.Common.{length}
 use Rattle.std.specs.Io.KnownBytes.{Appends}
 use Rattle.bh_lines.specs.Lines.{Cut, cut}
-use Rattle.bulkhead.specs.Text.{text}
-use Rattle.bulkhead.specs.Port.{Outcome, WritesFront, IsRun}
+use Rattle.bh_port.specs.Text.{text}
+use Rattle.bh_port.specs.Port.{Outcome, WritesFront}
+use Rattle.bulkhead.specs.Status.{IsRun}
 use Rattle.bh_props.specs.Settings.{GroupSettings}
 
 pub run-whole : (input : Option (List ℕ)) (service : GroupSettings) (w0 w1 : Option (List ℕ)) (x : Unit {0})

@@ -1,4 +1,2 @@
 pub mod SettingsFile
-pub mod Text
-pub mod Port
 pub mod Status

@@ -3,12 +3,12 @@
 ghost use Rattle.std.specs.Prelude.{◌≡◌, ◌⊎◌, IfOk, IsErr};
 ghost use Rattle.bh_props.specs.Seen.{settings_seen};
 ghost use Rattle.bulkhead.specs.SettingsFile.{settings_in};
-ghost use Rattle.bulkhead.specs.Port.{IsShown};
+ghost use Rattle.bulkhead.specs.Status.{IsShown};
 
 use crate::report;
 use crate::settings_file::settings_in;
-use crate::writer::{WriteWatch, write};
 use bh_lines::PortError;
+use bh_port::writer::{WriteWatch, write};
 use bh_props::Settings;
 use std::alloc::Global;
 use std::io::Write;

@@ -1,17 +1,12 @@
 //! `bulkhead`: a command service whose groups have slots, workers and a circuit of their own.
 #![tactic(auto)]
 
-mod answers;
 pub mod check;
-pub mod reader;
 mod report;
 pub mod run;
-pub mod script;
 pub mod settings_file;
-mod steps;
 #[cfg(test)]
 mod tests;
-pub mod writer;
 
 use bh_props::SettingsError;
 use clap::{Arg, ArgAction, Command};

@@ -6,20 +6,20 @@ ghost use Rattle.bh_props.specs.Seen.{settings_seen};
 ghost use Rattle.bh_props.specs.Settings.{IsAuditLimit};
 ghost use Rattle.bulkhead.specs.SettingsFile.{settings_in};
 ghost use Rattle.bh_lines.specs.Lines.{cut};
-ghost use Rattle.bulkhead.specs.Port.{IsRun};
+ghost use Rattle.bulkhead.specs.Status.{IsRun};
 
-use crate::reader::ReadWatch;
 use crate::report;
-use crate::script::script;
 use crate::settings_file::settings_in;
-use crate::writer::WriteWatch;
+use bh_port::reader::ReadWatch;
+use bh_port::script::script;
+use bh_port::writer::WriteWatch;
 use bh_props::Settings;
 use std::alloc::Global;
 use std::io::{Read, Write};
 
 /// Runs the lines of the reader under the settings, and answers the exit status.
 ///
-/// - 0: each line was answered.
+/// - 0: each line was answered, a faulty one by its fault.
 /// - 1: the settings are refused, and nothing was read or written.
 /// - 3: a fault, as `PortError` has them, or memory was refused. Each line before it may have been answered.
 ///

@@ -208,10 +208,10 @@ fn late_tickets_time_out(rt: HostRuntime) {
     );
 }
 
-const CACHE_SETTINGS: &str = r#"service.groups = ["a"]
+pub const CACHE_SETTINGS: &str = r#"service.groups = ["a"]
 "#;
 
-const CACHE_INPUT: &str = r#"{"op":"submit","group":"a","now":0,"arg":"x","context":7,"key":"k"}
+pub const CACHE_INPUT: &str = r#"{"op":"submit","group":"a","now":0,"arg":"x","context":7,"key":"k"}
 {"op":"submit","group":"a","now":0,"arg":"x","context":7,"key":"k"}
 {"op":"submit","group":"a","now":0,"arg":"x","context":8,"key":"k"}
 {"op":"start","group":"a","now":1}
@@ -227,7 +227,7 @@ const CACHE_INPUT: &str = r#"{"op":"submit","group":"a","now":0,"arg":"x","conte
 {"op":"read","group":"a","now":6}
 "#;
 
-const CACHE_OUTPUT: &str = r#"{"reply":"queued","ticket":1}
+pub const CACHE_OUTPUT: &str = r#"{"reply":"queued","ticket":1}
 {"reply":"joined","ticket":1}
 {"reply":"queued","ticket":2}
 {"arg":"x","reply":"assigned","ticket":1}

@@ -1,12 +1,12 @@
 //! Settings that are refused, and the lines that show the others.
 
-use super::{FullWriter, TWO_GROUPS_INPUT, assert_run};
+use super::{TWO_GROUPS_INPUT, assert_run};
 use crate::check::check_file;
 use crate::report;
 use bh_props::SettingsError;
 use std::alloc::Global;
 use std::io;
-use std::io::Write;
+use std::io::{ErrorKind, Write};
 use std::process::Abort;
 
 const SHOWN_SETTINGS: &str = r#"service.groups = ["orders", "mail"]
@@ -61,6 +61,28 @@ mail coreSize 10
 mail maxQueueSize -1
 mail queueSizeRejectionThreshold 5
 ";
+
+// A writer that takes so many bytes, and then fails or takes none.
+#[derive(Drop)]
+struct FullWriter {
+    room: usize,
+    fails: bool,
+}
+
+impl Write for FullWriter {
+    fn write(&mut self, buf: &[u8]) -> io::Result<usize> {
+        if self.room == 0 && self.fails {
+            return Err(io::Error::from(ErrorKind::Other));
+        }
+        let taken = buf.len().min(self.room);
+        self.room -= taken;
+        Ok(taken)
+    }
+
+    fn flush(&mut self) -> io::Result<()> {
+        Ok(())
+    }
+}
 
 // Shows the settings, and asserts what comes of it.
 fn assert_check(

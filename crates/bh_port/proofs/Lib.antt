@@ -1,0 +1,7 @@
+pub mod Named
+pub mod Writing
+pub mod TextLaws
+pub mod OwnSteps
+pub mod Answering
+pub mod AtOnce
+pub mod Running

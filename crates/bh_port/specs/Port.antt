@@ -1,0 +1,61 @@
+-- What the parts of a script do to the bytes that have come, to the groups, and to what is written.
+use Rattle.std.specs.Prelude.{◌≡◌, ℕ, ◌==◌, Bool, true, false, List, ◌++◌, slice_get, take, Option, Some, Result, Ok, Err}
+use Rattle.std.specs.Io.KnownBytes.{Appends}
+use Rattle.bh_base.specs.declared.props.GroupProps.{GroupProps}
+use Rattle.bh_base.specs.declared.step.Step.{Step}
+use Rattle.bh_core.specs.Groups.{Groups, Shows}
+use Rattle.bh_props.specs.Settings.{GroupSettings}
+use Rattle.bh_lines.specs.declared.port_error.PortError.{PortError}
+use Rattle.bh_lines.specs.declared.port_error.PortError.TheVariants.{Read, Write, Line, Memory}
+use Rattle.bh_lines.specs.Lines.{Cut, cut, stops}
+use Rattle.bh_lines.specs.StepLine.{step_of}
+use Rattle.bh_port.specs.Text.{names_in, group_after, answer_to, steps_with, text}
+
+-- The front of `bytes` was written, or all of it, and nothing else.
+abbrev pub WritesFront : Option (List ℕ) → Option (List ℕ) → List ℕ → Type 0
+WritesFront old new bytes = (n : ℕ) × Appends old new (take n bytes)
+
+-- each group of the service looks as after its own steps of these
+pub record Agrees (service : GroupSettings) (core : Groups) (steps : List Step) : Type 0 where
+  pub shows : (group : ℕ) (g : List ℕ × GroupProps) → slice_get service.groups group ≡ Some g → Shows core group (group_after service g.1 group steps)
+
+-- the line that answers the line stands behind what was there, and the groups did the step that it says, if any
+pub record AnswersLine (service : GroupSettings) (before : List Step) (bytes : List ℕ) (core : Groups) (old new : List ℕ) : Type 0 where
+  pub wrote : new ≡ old ++ answer_to service before (step_of (names_in service) bytes)
+  pub agrees : Agrees service core (steps_with before (step_of (names_in service) bytes))
+
+-- The lines that `old` begins with were answered, up to `new`, whatever bytes follow.
+pub record Answered (w0 w1 : Option (List ℕ)) (service : GroupSettings) (before : List Step) (core : Groups) (old new : List ℕ) : Type 0 where
+  pub out : List ℕ
+  pub later : List Step
+  pub agrees : Agrees service core later
+  pub wrote : Appends w0 w1 out
+  pub text_is : (more : List ℕ) → text service before (cut (old ++ more)) ≡ out ++ text service later (cut (new ++ more))
+  pub stops_is : (more : List ℕ) → stops (cut (old ++ more)) ≡ stops (cut (new ++ more))
+
+-- a run over bytes that are cut so, after these steps
+abbrev pub Outcome : Option (List ℕ) → Option (List ℕ) → GroupSettings → List Step → Cut → Result (Unit {0}) PortError → Type 0
+Outcome w0 w1 service before c (Ok x) = Appends w0 w1 (text service before c) × (stops c ≡ false)
+Outcome w0 w1 service before c (Err Line) = Appends w0 w1 (text service before c) × (stops c ≡ true)
+Outcome w0 w1 service before c (Err Memory) = WritesFront w0 w1 (text service before c)
+Outcome w0 w1 service before c (Err Read) = WritesFront w0 w1 (text service before c)
+Outcome w0 w1 service before c (Err Write) = WritesFront w0 w1 (text service before c)
+
+-- want of memory, or a reader that failed
+abbrev pub IsMemoryOrRead : PortError → Type 0
+IsMemoryOrRead Line = ⊥
+IsMemoryOrRead Memory = Unit {0}
+IsMemoryOrRead Read = Unit {0}
+IsMemoryOrRead Write = ⊥
+
+-- anything but a reader that failed
+abbrev pub IsNotRead : PortError → Type 0
+IsNotRead Line = Unit {0}
+IsNotRead Memory = Unit {0}
+IsNotRead Write = Unit {0}
+IsNotRead Read = ⊥
+
+-- a write that failed, or took no byte
+abbrev pub took_none : {E : Type 0} → Result ℕ E → Bool
+took_none (Ok n) = n == 0
+took_none (Err e) = true

@@ -1,0 +1,199 @@
+//! A script: each line of a reader is answered by a line to a writer, as the lines come.
+
+ghost use Rattle.std.specs.Prelude.{◌≡◌, ◌<◌, ◌≤◌, ◌+◌, ◌-◌, ◌^◌, ◌⊎◌, ◌++◌, ℕ, List, [], All, min, true, false, Err, OnOk, IfErr, IfOk, IfSome};
+ghost use Rattle.bh_base.specs.declared.step.Step.{Step};
+ghost use Rattle.bh_base.specs.Ranges.{IsInRange};
+ghost use Rattle.bh_props.specs.Seen.{settings_seen};
+ghost use Rattle.bh_props.specs.Settings.{IsAuditLimit};
+ghost use Rattle.bh_port.specs.Text.{step_limit};
+ghost use Rattle.bh_lines.specs.Lines.{cut, has_line};
+ghost use Rattle.bh_port.specs.Port.{Agrees, Answered, Outcome, IsNotRead, IsMemoryOrRead};
+
+use crate::answers::{answer_last, answer_lines};
+use crate::reader::{ReadWatch, fill};
+use crate::writer::{WriteWatch, write};
+use bh_core::Core;
+use bh_lines::PortError;
+use bh_props::Settings;
+use bytes::BytesMut;
+use std::alloc::Global;
+use std::io::{Read, Write};
+
+/// The most steps that a group may do, where an audit allows no fewer; a further one is answered as worn.
+pub const MOST_STEPS: u64 = 1024;
+
+// So many bytes are asked of the reader at a time.
+const READ_SIZE: usize = 16_384;
+
+// So many reads are made at most.
+const MOST_READS: u64 = 1 << 40;
+
+/// Answers each line of the reader by one line to the writer, in order, for the groups of the settings, all new.
+///
+/// A line that says a step is answered by the line of the step's reply. A faulty line is answered by the line of its
+/// fault; it is no step, and the run goes on. Each group has its own properties, and may do `MOST_STEPS` steps, or fewer
+/// where fewer may be audited.
+///
+/// The lines that one read brought to an end are answered, and the answers written together, before the next read.
+///
+/// `Line` comes at the first line that is of over 1,024 bytes or not UTF-8, with the lines before it answered; `Read`
+/// where the reader fails or 2^40 reads were made; `Write` where the writer fails or takes no byte; `Memory` where memory
+/// is refused. The watches note what the reader and the writer did.
+pub fn script<R: Read, W: Write>(
+    alloc: Global,
+    reader: &mut R,
+    writer: &mut W,
+    settings: &Settings,
+    read_watch: &mut ReadWatch,
+    write_watch: &mut WriteWatch,
+) -> Result<(), PortError>
+    requires in_range { All (λ group. IsInRange group.1) settings.now.groups.entries }
+    requires audit { IfSome settings.now.audit_steps IsAuditLimit }
+    ensures read { result ≡ Err PortError.Read → (read_watch.new.failed ≡ true) ⊎ (min (read_watch.old.reads + 2 ^ 40) (2 ^ 64 - 1) ≤ read_watch.new.reads) }
+    ensures reads { read_watch.new.reads ≤ read_watch.old.reads + 2 ^ 40 }
+    ensures write { result ≡ Err PortError.Write → write_watch.new.stuck ≡ true }
+    ensures text { IfSome (R.remaining reader.old) (λ input.
+        Outcome (W.contents writer.old) (W.contents writer.new) (settings_seen settings.now) [] (cut input) result) }
+{
+    let mut core = match open(alloc, settings) {
+        Ok(core) => core,
+        Err(error) => return Err(error),
+    };
+    answer_all(
+        alloc,
+        settings,
+        &mut core,
+        reader,
+        writer,
+        read_watch,
+        write_watch,
+    )
+}
+
+// The groups of the settings, all new.
+fn open(alloc: Global, settings: &Settings) -> Result<Core, PortError>
+    requires in_range { All (λ group. IsInRange group.1) settings.now.groups.entries }
+    requires audit { IfSome settings.now.audit_steps IsAuditLimit }
+    ensures agrees { IfOk result (λ core. Agrees (settings_seen settings.now) core []) }
+    ensures err { IfErr result (λ e. e ≡ PortError.Memory) }
+{
+    let limit = step_limit(settings.audit_steps);
+    let mut core = Core::new(alloc, u32::MAX);
+    for (_name, props) in settings.groups.iter() {
+        match core.register(*props, limit) {
+            Ok(_) => {}
+            // So few groups have far fewer slots than may be, so this can only be want of memory.
+            Err(_) => return Err(PortError::Memory),
+        }
+    }
+    Ok(core)
+}
+
+// The steps that each group may do, no more than may be audited.
+fn step_limit(audit_steps: Option<u64>) -> u64
+    ensures { result ≡ step_limit audit_steps }
+{
+    match audit_steps {
+        Some(steps) => steps.min(MOST_STEPS),
+        None => MOST_STEPS,
+    }
+}
+
+// Answers all lines of the reader.
+fn answer_all<R: Read, W: Write>(
+    alloc: Global,
+    settings: &Settings,
+    core: &mut Core,
+    reader: &mut R,
+    writer: &mut W,
+    read_watch: &mut ReadWatch,
+    write_watch: &mut WriteWatch,
+) -> Result<(), PortError>
+    requires { Agrees (settings_seen settings.now) core.old [] }
+    ensures read { result ≡ Err PortError.Read → (read_watch.new.failed ≡ true) ⊎ (min (read_watch.old.reads + 2 ^ 40) (2 ^ 64 - 1) ≤ read_watch.new.reads) }
+    ensures reads { read_watch.new.reads ≤ read_watch.old.reads + 2 ^ 40 }
+    ensures write { result ≡ Err PortError.Write → write_watch.new.stuck ≡ true }
+    ensures text { IfSome (R.remaining reader.old) (λ input.
+        Outcome (W.contents writer.old) (W.contents writer.new) (settings_seen settings.now) [] (cut input) result) }
+{
+    let mut piece = [0u8; READ_SIZE];
+    let mut buffer = BytesMut::new(alloc);
+    let mut out = Vec::new(alloc);
+    for _ in 0..MOST_READS {
+        write_answers(
+            alloc,
+            settings,
+            core,
+            &mut buffer,
+            &mut out,
+            writer,
+            write_watch,
+        )?;
+        if !fill(reader, read_watch, &mut piece, &mut buffer)? {
+            return write_last(
+                alloc,
+                settings,
+                core,
+                &mut buffer,
+                &mut out,
+                writer,
+                write_watch,
+            );
+        }
+    }
+    Err(PortError::Read)
+}
+
+// Answers each line that has ended, and writes the answers at once, by way of `out`.
+fn write_answers<W: Write>(
+    alloc: Global,
+    settings: &Settings,
+    core: &mut Core,
+    buffer: &mut BytesMut,
+    out: &mut Vec<u8>,
+    writer: &mut W,
+    watch: &mut WriteWatch,
+) -> Result<(), PortError>
+    ensures answered { OnOk result ((before : List Step) → Agrees (settings_seen settings.now) core.old before →
+        Answered (W.contents writer.old) (W.contents writer.new) (settings_seen settings.now) before core.new buffer.old.items buffer.new.items) }
+    ensures none_left { OnOk result (has_line buffer.new.items ≡ false) }
+    ensures no_read { IfErr result IsNotRead }
+    ensures stuck { result ≡ Err PortError.Write → watch.new.stuck ≡ true }
+    ensures stopped { IfErr result (λ e. (before : List Step) (more : List ℕ) → Agrees (settings_seen settings.now) core.old before →
+        Outcome (W.contents writer.old) (W.contents writer.new) (settings_seen settings.now) before (cut (buffer.old.items ++ more)) (Err e)) }
+{
+    out.clear();
+    match answer_lines(alloc, settings, core, buffer, out) {
+        Ok(()) => write(writer, watch, out.as_slice()),
+        Err(error) => match write(writer, watch, out.as_slice()) {
+            Ok(()) => Err(error),
+            Err(unwritten) => Err(unwritten),
+        },
+    }
+}
+
+// Answers the line at the end of the input that no line feed ended, and writes the answer, by way of `out`.
+fn write_last<W: Write>(
+    alloc: Global,
+    settings: &Settings,
+    core: &mut Core,
+    buffer: &mut BytesMut,
+    out: &mut Vec<u8>,
+    writer: &mut W,
+    watch: &mut WriteWatch,
+) -> Result<(), PortError>
+    requires { has_line buffer.old.items ≡ false }
+    ensures no_read { IfErr result IsNotRead }
+    ensures stuck { result ≡ Err PortError.Write → watch.new.stuck ≡ true }
+    ensures outcome { (before : List Step) → Agrees (settings_seen settings.now) core.old before →
+        Outcome (W.contents writer.old) (W.contents writer.new) (settings_seen settings.now) before (cut buffer.old.items) result }
+{
+    out.clear();
+    match answer_last(alloc, settings, core, buffer, out) {
+        Ok(()) => write(writer, watch, out.as_slice()),
+        Err(error) => match write(writer, watch, out.as_slice()) {
+            Ok(()) => Err(error),
+            Err(unwritten) => Err(unwritten),
+        },
+    }
+}

@@ -1,0 +1,74 @@
+//! The step that a line says to the groups of the settings.
+
+ghost use Rattle.std.specs.Prelude.{◌≡◌, ◌<◌, length, map, IfOk, IfSome};
+ghost use Rattle.serde_json.specs.View.{view};
+ghost use Rattle.bh_lines.specs.StepLine.{group_number, step_at, step_of};
+ghost use Rattle.bh_props.specs.Seen.{settings_seen};
+ghost use Rattle.bh_port.specs.Text.{names_in};
+
+use bh_base::{GroupId, GroupProps, Step, Text};
+use bh_lines::Fault;
+use bh_lines::members::value_of;
+use bh_lines::step_line::{if_short, said_at};
+use bh_props::Settings;
+use indexmap::IndexMap;
+use serde_json::Value;
+use std::alloc::{AllocError, Global};
+
+#[tactic(auto, unfolding(bh_lines::specs::StepLine::step_of))]
+// The step that a line says to a service of the groups of the settings, each by its place.
+pub fn step_of(
+    alloc: Global,
+    settings: &Settings,
+    line: &str,
+) -> Result<Result<Step, Fault>, AllocError>
+    ensures said { IfOk result (λ said. said ≡ step_of (names_in (settings_seen settings.now)) line.now) }
+    ensures group { IfOk result (λ said. IfOk said (λ step. step.group.0 < length settings.now.groups.entries)) }
+{
+    match value_of(alloc, line)? {
+        Some(value) => Ok(step_at(settings, &value)),
+        None => Ok(Err(Fault::Syntax)),
+    }
+}
+
+// The step that a value says: its group is looked up before its texts are measured.
+fn step_at(settings: &Settings, value: &Value) -> Result<Step, Fault>
+    ensures said { result ≡ step_at (names_in (settings_seen settings.now)) (view value.now) }
+    ensures group { IfOk result (λ step. step.group.0 < length settings.now.groups.entries) }
+{
+    let said = said_at(value)?;
+    let group = group_number(&settings.groups, said.group).ok_or(Fault::Group)?;
+    let op = if_short(said.op)?;
+    Ok(Step {
+        group: GroupId(group),
+        now: said.now,
+        op,
+    })
+}
+
+// The number of the group of the name.
+fn group_number(groups: &IndexMap<Text<32>, GroupProps>, name: &str) -> Option<u64>
+    ensures number { result ≡ group_number (map (λ group. group.0) groups.now.entries) name.now }
+    ensures within { IfSome result (λ number. number < length groups.now.entries) }
+{
+    let Ok(key) = Text::new(name) else {
+        return place_of(groups, name);
+    };
+    match groups.get_index_of(&key) {
+        Some(number) => Some(number as u64),
+        None => None,
+    }
+}
+
+// The place of a name that is too long for a key.
+fn place_of(groups: &IndexMap<Text<32>, GroupProps>, name: &str) -> Option<u64>
+    ensures number { result ≡ group_number (map (λ group. group.0) groups.now.entries) name.now }
+    ensures within { IfSome result (λ number. number < length groups.now.entries) }
+{
+    for (i, other) in groups.keys().enumerate() {
+        if other.as_str() == name {
+            return Some(i as u64);
+        }
+    }
+    None
+}
