@@ -4,8 +4,6 @@
 
 pub mod permits;
 pub mod pool;
-#[cfg(test)]
-mod tests;
 
 pub use permits::Permits;
 pub use pool::pool_admits;

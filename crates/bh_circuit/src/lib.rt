@@ -4,8 +4,6 @@
 
 pub mod circuit;
 pub mod health;
-#[cfg(test)]
-mod tests;
 
 pub use bh_base::{Admit, CircuitState, End, Health, Snapshot};
 pub use circuit::Circuit;

@@ -6,8 +6,6 @@ mod history;
 pub mod laws;
 mod room;
 pub mod service;
-#[cfg(test)]
-mod tests;
 mod tickets;
 mod window;
 

@@ -12,8 +12,6 @@ mod property;
 mod reading;
 mod service;
 mod settings;
-#[cfg(test)]
-mod tests;
 mod value;
 
 pub use error::SettingsError;

@@ -1,6 +1,6 @@
 //! Whole files: what is shown of them, and why they are refused.
 
-use super::*;
+use bh_props::{SettingsError, read};
 use std::alloc::{AllocError, Global};
 use std::process::Abort;
 use std::test::Fail;

@@ -1,29 +1,14 @@
-use super::*;
-use bh_base::{GroupProps, Strategy};
+//! The circuit breaker.
+
+use crate::samples;
+use bh_base::GroupProps;
+use bh_circuit::{Admit, Circuit, CircuitState, End, Health, percent};
 
 /// Settings under which a single error opens the circuit breaker, for 5,000 ms.
 fn props() -> GroupProps {
     GroupProps {
-        slots: 64,
-        strategy: Strategy::Thread,
-        timeout_ms: 1000,
-        timeout_on: true,
-        semaphore: 10,
-        fallback_permits: 10,
-        fallback_on: true,
-        circuit_on: true,
         volume: 1,
-        sleep_ms: 5000,
-        percent: 50,
-        force_open: false,
-        force_closed: false,
-        window_ms: 10000,
-        buckets: 10,
-        health_ms: 500,
-        cache_on: true,
-        core: 10,
-        max_queue: None,
-        queue_threshold: 5,
+        ..samples::props()
     }
 }
 

@@ -1,4 +1,6 @@
-use super::*;
+//! The pool and the permits.
+
+use bh_admit::{Permits, pool_admits};
 
 #[test]
 fn a_pool_of_one_worker_and_one_place_takes_two(rt: HostRuntime) {

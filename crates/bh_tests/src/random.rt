@@ -1,11 +1,11 @@
 //! Random steps of three groups: each is told what a core tells it in which it stands alone.
 
-ghost use Rattle.std.specs.Prelude.{◌<◌, ◌≤◌, length};
+ghost use Rattle.std.specs.Prelude.{◌<◌};
 ghost use Rattle.bh_base.specs.Ranges.{IsInRange};
 
-use super::step;
-use crate::Core;
-use bh_base::{FallbackEnd, GroupProps, Op, Reply, Request, Serial, Strategy, Text};
+use crate::samples::{step, text};
+use bh_base::{FallbackEnd, GroupProps, Op, Reply, Request, Serial, Strategy};
+use bh_core::Core;
 use rand_core::{Rng, SeedableRng};
 use rand_xoshiro::Xoshiro256PlusPlus;
 use std::test::Fail;
@@ -44,13 +44,6 @@ fn below(rng: &mut Xoshiro256PlusPlus, limit: u64) -> u64
     ensures { result < limit }
 {
     rng.next_u64() % limit
-}
-
-/// The text, which has to fit.
-fn text<const N: usize>(of: &str) -> Text<N>
-    requires fits { length of.now ≤ N }
-{
-    Text::new(of).unwrap()
 }
 
 /// A request, cached in one of two contexts or not at all.

@@ -1,5 +1,7 @@
-use super::*;
+//! The request cache.
+
 use bh_base::{Text, Ticket, TicketState};
+use bh_cache::{drop_context, find};
 use std::test::Fail;
 
 /// A queued ticket of that name, which further requests may join.

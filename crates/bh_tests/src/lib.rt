@@ -1,0 +1,18 @@
+//! The tests of the library crates, by their public calls. They stand apart, since a crate with tests is proved twice;
+//! there is nothing else here.
+#![tactic(auto)]
+
+#[cfg(test)]
+mod admission;
+#[cfg(test)]
+mod cache;
+#[cfg(test)]
+mod circuit;
+#[cfg(test)]
+mod groups;
+#[cfg(test)]
+mod random;
+#[cfg(test)]
+mod samples;
+#[cfg(test)]
+mod settings;
