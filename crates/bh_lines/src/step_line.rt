@@ -147,8 +147,9 @@ fn end_of<'a>(word: &str, value: &'a Value) -> Result<EndLine<'a>, Fault>
     }
 }
 
-// The context and the key: both or neither.
-fn cache_of<'a>(
+/// The context and the key of a request where they stand, of any length: both or neither. `Field` comes where only one
+/// is there, or one is of another type.
+pub fn cache_of<'a>(
     context: Option<&'a Value>,
     key: Option<&'a Value>,
 ) -> Result<Option<(u64, &'a str)>, Fault>
@@ -202,8 +203,8 @@ pub fn if_short(said: OpLine<'_>) -> Result<Op, Fault>
     }
 }
 
-// The context and the key, unless the key is too long.
-fn short_name(cache: Option<(u64, &str)>) -> Result<Option<(u64, Text<32>)>, Fault>
+/// The context and the key, or `Long` where the key is of over 32 bytes.
+pub fn short_name(cache: Option<(u64, &str)>) -> Result<Option<(u64, Text<32>)>, Fault>
     ensures { result ≡ (if is_short_name (cache_view cache.entry) then Ok (cache_view cache.entry) else Err Fault.Long) }
 {
     let Some((context, key)) = cache else {

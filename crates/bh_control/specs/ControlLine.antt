@@ -1,0 +1,78 @@
+-- What a control line asks, or its fault.
+use Rattle.std.specs.Prelude.{ℕ, ◌<◌, List, length, codes, Option, Some, None, Result, Ok, Err, ◌&&◌, nat_le, if◌then◌else◌}
+use Rattle.std.specs.Str.{bytes_eq}
+use Rattle.serde_json.specs.Data.{Data}
+use Rattle.serde_json.specs.Find.{get}
+use Rattle.serde_json.specs.Read.{read}
+use Rattle.bh_base.specs.declared.step.GroupId.{GroupId}
+use Rattle.bh_base.specs.declared.step.Request.{Request}
+use Rattle.bh_lines.specs.declared.fault.Fault.{Fault}
+use Rattle.bh_lines.specs.declared.fault.Fault.TheVariants as faults
+use Rattle.bh_lines.specs.StepLine.{◌>>=◌, or_fault, text_at, number_at, cache_of, is_short_name, group_number}
+use Rattle.bh_control.specs.declared.control_line.ControlWord.{ControlWord}
+use Rattle.bh_control.specs.declared.control_line.ControlWord.TheVariants as words
+use Rattle.bh_control.specs.declared.control_line.ControlLine.{ControlLine}
+use Rattle.bh_control.specs.declared.control_line.ControlLine.TheVariants as lines
+
+-- the kind of line of a word
+abbrev pub control_word : List ℕ → Option ControlWord
+control_word s =
+    if bytes_eq s (codes "groups") then Some words.Groups else
+    (if bytes_eq s (codes "metrics") then Some words.Metrics else
+    (if bytes_eq s (codes "call") then Some words.Call else
+    (if bytes_eq s (codes "close") then Some words.Close else None)))
+
+-- the request of a call, unless its key is of over 32 bytes or its argument of over 64
+abbrev pub request_of : Option (ℕ × List ℕ) → List ℕ → Result Request Fault
+request_of cache arg =
+    if is_short_name cache && nat_le (length arg) 64 then Ok (record { cache = cache; arg = arg }) else Err faults.Long
+
+-- the group of a name, by its place in the list
+abbrev pub group_of : List (List ℕ) → List ℕ → Result GroupId Fault
+group_of names name = do
+  number ← or_fault faults.Group (group_number names name)
+  Ok (record { 0 = number })
+
+-- what an object asks of the groups with these names, its kind of line known: first what is missing, then whether
+-- there is such a group, then whether the texts are too long
+abbrev pub asked_at : List (List ℕ) → ControlWord → Data → Result ControlLine Fault
+asked_at names words.Groups d = Ok lines.Groups
+asked_at names words.Metrics d = do
+  name ← or_fault faults.Field (text_at (codes "group") d)
+  group ← group_of names name
+  Ok (lines.Metrics group)
+asked_at names words.Call d = do
+  name ← or_fault faults.Field (text_at (codes "group") d)
+  arg ← or_fault faults.Field (text_at (codes "arg") d)
+  cache ← cache_of (get (codes "context") d) (get (codes "key") d)
+  group ← group_of names name
+  request ← request_of cache arg
+  Ok (lines.Call group request)
+asked_at names words.Close d = do
+  name ← or_fault faults.Field (text_at (codes "group") d)
+  context ← or_fault faults.Field (number_at (codes "context") d)
+  group ← group_of names name
+  Ok (lines.Close group context)
+
+-- what an object asks
+abbrev pub asked : List (List ℕ) → Data → Result ControlLine Fault
+asked names d = do
+  word ← or_fault faults.Field (text_at (codes "op") d)
+  kind ← or_fault faults.Op (control_word word)
+  asked_at names kind d
+
+-- what a line asks, if it is JSON at all
+abbrev pub asked_in : List (List ℕ) → Option Data → Result ControlLine Fault
+asked_in names None = Err faults.Syntax
+asked_in names (Some d) = asked names d
+
+-- what a line asks of the groups with these names
+unfoldable pub control_line : List (List ℕ) → List ℕ → Result ControlLine Fault
+control_line names bytes = asked_in names (read bytes)
+
+-- the group that is asked of is one of so many
+abbrev pub IsOfGroups : ℕ → ControlLine → Type 0
+IsOfGroups groups lines.Groups = Unit {0}
+IsOfGroups groups (lines.Metrics group) = group.0 < groups
+IsOfGroups groups (lines.Call group request) = group.0 < groups
+IsOfGroups groups (lines.Close group context) = group.0 < groups

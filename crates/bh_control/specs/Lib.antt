@@ -1,0 +1,3 @@
+pub mod ControlLine
+pub mod Answering
+pub mod Talk

@@ -1,0 +1,50 @@
+//! What a conversation is answered by.
+
+ghost use Rattle.std.specs.Prelude.{◌≡◌, ◌<◌, ℕ, List, length, Result};
+ghost use Rattle.bh_base.specs.declared.step.GroupId.{GroupId};
+ghost use Rattle.bh_base.specs.declared.step.Request.{Request};
+ghost use Rattle.bh_base.specs.declared.reply.Reply.{Reply};
+ghost use Rattle.bh_base.specs.declared.reply.Answer.{Answer};
+ghost use Rattle.bh_base.specs.declared.reply.CallError.{CallError};
+
+use bh_base::{Answer, CallError, GroupId, Reply, Request, Text};
+
+/// A service that control lines are asked of. A group is meant by its place in `groups`, which no call changes.
+///
+/// The type of the control names, whatever its value, what each call may answer for its arguments. A control whose
+/// calls wait keeps the runtime that they wait by.
+pub trait Control {
+    // The names of the groups.
+    ghost names: { Self → List (List ℕ) };
+
+    // The replies of a group that is asked for its metrics.
+    ghost may_show: { GroupId → Reply → Type 0 };
+
+    // The answers to a request to a group.
+    ghost may_answer: { GroupId → Request → Result Answer CallError → Type 0 };
+
+    // The replies of a group in which a context ends.
+    ghost may_close: { GroupId → ℕ → Reply → Type 0 };
+
+    /// The names of the groups, in the order of their numbers.
+    fn groups(&self) -> &[Text<32>]
+        ensures { result.now ≡ names self.now };
+
+    /// The metrics of the group, or `Worn`.
+    fn metrics(&mut self, group: GroupId) -> Reply
+        requires { group.0 < length (names self.old) }
+        ensures reply { may_show group result }
+        ensures groups { names self.new ≡ names self.old };
+
+    /// The answer to a request to the group, or why there is none.
+    fn call(&mut self, group: GroupId, request: Request) -> Result<Answer, CallError>
+        requires { group.0 < length (names self.old) }
+        ensures answer { may_answer group request result }
+        ensures groups { names self.new ≡ names self.old };
+
+    /// Ends the request context in the group: how many tickets are cached no longer, or `Worn`.
+    fn close(&mut self, group: GroupId, context: u64) -> Reply
+        requires { group.0 < length (names self.old) }
+        ensures reply { may_close group context result }
+        ensures groups { names self.new ≡ names self.old };
+}

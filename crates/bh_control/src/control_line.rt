@@ -1,0 +1,149 @@
+//! What control lines ask, each read from a line of JSON.
+
+ghost use Rattle.std.specs.Prelude.{◌≡◌, ◌<◌, length, IfOk, IfSome};
+ghost use Rattle.serde_json.specs.View.{view};
+ghost use Rattle.bh_lines.specs.StepLine.{cache_view, group_number};
+ghost use Rattle.bh_control.specs.ControlLine.{control_word, request_of, asked_at, asked, group_of, control_line, IsOfGroups};
+
+use bh_base::{GroupId, Request, Text};
+use bh_lines::Fault;
+use bh_lines::members::{data_at, number_at, text_at, value_of};
+use bh_lines::step_line::{cache_of, short_name};
+use serde_json::Value;
+use std::alloc::{AllocError, Global};
+
+/// The kinds of control lines, each by its word under `op`.
+#[derive(Clone, Copy, Debug, PartialEq, Eq)]
+pub enum ControlWord {
+    Groups,
+    Metrics,
+    Call,
+    Close,
+}
+
+/// What a control line asks. A group is meant by its place in the list of groups, from 0.
+#[derive(Clone, Copy, Debug, PartialEq, Eq)]
+pub enum ControlLine {
+    /// The names of all groups.
+    Groups,
+    /// What a group shows of itself.
+    Metrics { group: GroupId },
+    /// The answer to a request.
+    Call { group: GroupId, request: Request },
+    /// The end of a request context in a group.
+    Close { group: GroupId, context: u64 },
+}
+
+impl ControlLine {
+    /// What a line asks of the groups with these names, or the first fault that it has.
+    ///
+    /// It fails only for want of memory.
+    #[tactic(auto, unfolding(crate::specs::ControlLine::control_line))]
+    pub fn parse(
+        alloc: Global,
+        names: &[Text<32>],
+        line: &str,
+    ) -> Result<Result<ControlLine, Fault>, AllocError>
+        ensures asked { IfOk result (λ said. said ≡ control_line names.now line.now) }
+        ensures group { IfOk result (λ said. IfOk said (IsOfGroups (length names.now))) }
+    {
+        match value_of(alloc, line) {
+            Ok(Some(value)) => Ok(asked(names, &value)),
+            Ok(None) => Ok(Err(Fault::Syntax)),
+            Err(error) => Err(error),
+        }
+    }
+}
+
+// What a value asks.
+fn asked(names: &[Text<32>], value: &Value) -> Result<ControlLine, Fault>
+    ensures asked { result ≡ asked names.now (view value.now) }
+    ensures group { IfOk result (IsOfGroups (length names.now)) }
+{
+    let word = text_at(value, "op").ok_or(Fault::Field)?;
+    match control_word(word).ok_or(Fault::Op)? {
+        ControlWord::Groups => Ok(ControlLine::Groups),
+        ControlWord::Metrics => metrics_at(names, value),
+        ControlWord::Call => call_at(names, value),
+        ControlWord::Close => close_at(names, value),
+    }
+}
+
+fn control_word(word: &str) -> Option<ControlWord>
+    ensures { result ≡ control_word word.now }
+{
+    match word {
+        "groups" => Some(ControlWord::Groups),
+        "metrics" => Some(ControlWord::Metrics),
+        "call" => Some(ControlWord::Call),
+        "close" => Some(ControlWord::Close),
+        _ => None,
+    }
+}
+
+fn metrics_at(names: &[Text<32>], value: &Value) -> Result<ControlLine, Fault>
+    ensures asked { result ≡ asked_at names.now ControlWord.Metrics (view value.now) }
+    ensures group { IfOk result (IsOfGroups (length names.now)) }
+{
+    let name = text_at(value, "group").ok_or(Fault::Field)?;
+    let group = group_of(names, name)?;
+    Ok(ControlLine::Metrics { group })
+}
+
+fn call_at(names: &[Text<32>], value: &Value) -> Result<ControlLine, Fault>
+    ensures asked { result ≡ asked_at names.now ControlWord.Call (view value.now) }
+    ensures group { IfOk result (IsOfGroups (length names.now)) }
+{
+    let name = text_at(value, "group").ok_or(Fault::Field)?;
+    let arg = text_at(value, "arg").ok_or(Fault::Field)?;
+    let cache = cache_of(data_at(value, "context"), data_at(value, "key"))?;
+    let group = group_of(names, name)?;
+    match request_of(cache, arg) {
+        Ok(request) => Ok(ControlLine::Call { group, request }),
+        Err(fault) => Err(fault),
+    }
+}
+
+fn close_at(names: &[Text<32>], value: &Value) -> Result<ControlLine, Fault>
+    ensures asked { result ≡ asked_at names.now ControlWord.Close (view value.now) }
+    ensures group { IfOk result (IsOfGroups (length names.now)) }
+{
+    let name = text_at(value, "group").ok_or(Fault::Field)?;
+    let context = number_at(value, "context").ok_or(Fault::Field)?;
+    let group = group_of(names, name)?;
+    Ok(ControlLine::Close { group, context })
+}
+
+// The request, unless a text is too long.
+fn request_of(cache: Option<(u64, &str)>, arg: &str) -> Result<Request, Fault>
+    ensures { result ≡ request_of (cache_view cache.entry) arg.now }
+{
+    match (short_name(cache), Text::new(arg)) {
+        (Ok(cache), Ok(arg)) => Ok(Request { cache, arg }),
+        _ => Err(Fault::Long),
+    }
+}
+
+// The group of the name.
+fn group_of(names: &[Text<32>], name: &str) -> Result<GroupId, Fault>
+    ensures group { result ≡ group_of names.now name.now }
+    ensures within { IfOk result (λ group. group.0 < length names.now) }
+{
+    match group_number(names, name) {
+        Some(number) => Ok(GroupId(number)),
+        None => Err(Fault::Group),
+    }
+}
+
+// The place of the name in the list.
+fn group_number(names: &[Text<32>], name: &str) -> Option<u64>
+    ensures number { result ≡ group_number names.now name.now }
+    ensures within { IfSome result (λ number. number < length names.now) }
+{
+    for (i, other) in names.iter().enumerate() {
+        if other.as_str() == name {
+            return Some(i as u64);
+        }
+    }
+    None
+}

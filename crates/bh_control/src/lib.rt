@@ -1,0 +1,12 @@
+//! The control conversation: lines of JSON that ask a service for its groups, for metrics, for an answer to a request,
+//! or to close a request context, each answered by a line.
+#![tactic(auto)]
+
+mod answering;
+pub mod control;
+pub mod control_line;
+pub mod conversation;
+
+pub use control::Control;
+pub use control_line::ControlLine;
+pub use conversation::Conversation;
