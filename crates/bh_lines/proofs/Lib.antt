@@ -1,3 +1,3 @@
-pub mod Floatless
 pub mod Cutting
 pub mod Taking
+pub mod Sending

@@ -2,4 +2,5 @@ pub mod Lines
 pub mod Taken
 pub mod StepLine
 pub mod ReplyLine
+pub mod Sent
 pub mod FaultLine

@@ -1,6 +1,6 @@
 -- The lines of replies.
 use Rattle.std.specs.Prelude.{ℕ, List, [], ◌∷◌, ◌++◌, ◌==◌, if◌then◌else◌, codes}
-use Rattle.serde_json.specs.Data.{Data, object, member, no_members, Members, string, number, unsigned, put}
+use Rattle.serde_json.specs.Data.{Data, object, member, no_members, Members, string, number, unsigned}
 use Rattle.serde_json.specs.Written.{compact_text}
 use Rattle.bh_base.specs.declared.circuit.CircuitState.{CircuitState}
 use Rattle.bh_base.specs.declared.circuit.CircuitState.TheVariants as circuit
@@ -66,19 +66,15 @@ counts_listed c =
     ∷ c.fallback_rejection ∷ c.fallback_success ∷ c.response_from_cache ∷ c.semaphore_rejected
     ∷ c.short_circuited ∷ c.success ∷ c.thread_pool_rejected ∷ c.timeout ∷ []
 
--- the members with one more under a name, unless the count is 0
-abbrev pub with_count : List ℕ → ℕ → Members → Members
-with_count name n rest = if n == 0 then rest else put name (number (unsigned n)) rest
-
--- the members with each count under its name, unless it is 0
-abbrev pub with_counts : List (List ℕ) → List ℕ → Members → Members
-with_counts [] counts rest = rest
-with_counts (name ∷ names) [] rest = rest
-with_counts (name ∷ names) (n ∷ counts) rest = with_counts names counts (with_count name n rest)
+-- a member for each count under its name, unless it is 0
+abbrev pub counts_members : List (List ℕ) → List ℕ → Members
+counts_members [] counts = no_members
+counts_members (name ∷ names) [] = no_members
+counts_members (name ∷ names) (n ∷ counts) = let rest = counts_members names counts in if n == 0 then rest else count name n rest
 
 -- the object of the events of the rolling window
 unfoldable pub events_data : Counts → Data
-events_data counts = object (with_counts kind_names (counts_listed counts) no_members)
+events_data counts = object (counts_members kind_names (counts_listed counts))
 
 -- the object of the metrics of a group
 abbrev pub metrics_data : Metrics → Data
@@ -87,13 +83,25 @@ metrics_data m = object (
     member (codes "events") (events_data m.counts) (count (codes "free") m.free (count (codes "percent") m.percent (
     count (codes "queued") m.queued (word (codes "reply") (codes "metrics") (count (codes "total") m.total no_members)))))))))
 
+-- the object of the value of a run
+abbrev pub value_data : List ℕ → Data
+value_data body = object (word (codes "body") body (word (codes "reply") (codes "value") no_members))
+
+-- the object of the value of a fallback
+abbrev pub fallback_value_data : Cause → List ℕ → Data
+fallback_value_data cause body =
+    object (word (codes "body") body (word (codes "cause") (cause_word cause) (word (codes "reply") (codes "fallback-value") no_members)))
+
+-- the object of a request with no value
+abbrev pub error_answer_data : Cause → FallbackFault → Data
+error_answer_data cause fallback =
+    object (word (codes "cause") (cause_word cause) (word (codes "fallback") (fallback_word fallback) (word (codes "reply") (codes "error") no_members)))
+
 -- the object of the answer to a request
 abbrev pub answer_data : Answer → Data
-answer_data (answer.Value body) = object (word (codes "body") body (word (codes "reply") (codes "value") no_members))
-answer_data (answer.FallbackValue cause body) =
-    object (word (codes "body") body (word (codes "cause") (cause_word cause) (word (codes "reply") (codes "fallback-value") no_members)))
-answer_data (answer.Error cause fallback) =
-    object (word (codes "cause") (cause_word cause) (word (codes "fallback") (fallback_word fallback) (word (codes "reply") (codes "error") no_members)))
+answer_data (answer.Value body) = value_data body
+answer_data (answer.FallbackValue cause body) = fallback_value_data cause body
+answer_data (answer.Error cause fallback) = error_answer_data cause fallback
 answer_data answer.BadRequest = named (codes "bad-request")
 
 -- the object of a ticket that needs a fallback

@@ -7,6 +7,7 @@ pub mod members;
 pub mod port_error;
 pub mod replies;
 pub mod step_line;
+mod writing;
 
 pub use fault::{Fault, fault_line};
 pub use lines::{last_line, next_line};

@@ -1,22 +1,34 @@
 //! Replies, each printed as a line of compact JSON with its members in the order of their names.
 
-ghost use Rattle.std.specs.Prelude.{◌≡◌, ℕ, List, false, map, length, IfOk, OnOk, string_bytes};
-ghost use Rattle.serde_json.specs.Data.{no_members};
-ghost use Rattle.serde_json.specs.View.{view, members_view};
-ghost use Rattle.serde_json.specs.Written.{has_float};
-ghost use Rattle.bh_lines.specs.ReplyLine.{cause_word, fallback_word, circuit_word, kind_names, counts_listed, with_count, with_counts, events_data, metrics_data, answer_data, named, numbered, fallback_due_data, assigned_data, expired_data, run_fallback_data, closed_data, reply_data, line_of, reply_line};
+ghost use Rattle.std.specs.Prelude.{◌≡◌, ◌++◌, ◌∷◌, [], ℕ, List, false, map, length, IfOk, OnOk, string_bytes};
+ghost use Rattle.json.specs.Token.{end_object};
+ghost use Rattle.json.specs.Tree.{members_tokens};
+ghost use Rattle.serde_json.specs.View.{view};
+ghost use Rattle.serde_json.specs.Written.{has_float, members_outline};
+ghost use Rattle.bh_lines.specs.ReplyLine.{cause_word, fallback_word, circuit_word, kind_names, named, numbered, fallback_due_data, assigned_data, expired_data, run_fallback_data, closed_data, value_data, fallback_value_data, error_answer_data, events_data, metrics_data, answer_data, reply_data, line_of, reply_line};
+ghost use Rattle.bh_lines.specs.Sent.{Sends, data_tokens, counts_tokens};
 
+use crate::writing::{
+    Member, begin_object, end_object, write_key, write_members, write_number, write_object,
+};
 use bh_base::{Answer, Cause, CircuitState, Counts, FallbackFault, Metrics, Reply};
-use serde_json::{Map, Value, json};
+use json::Writer;
+use serde_json::Value;
 use std::alloc::{AllocError, Global};
+
+// So many bytes are asked for a line at first.
+const LINE_ROOM: usize = 128;
 
 /// The line of a reply, with its line feed. It fails only for want of memory.
 #[tactic(auto, unfolding(crate::specs::ReplyLine::reply_line))]
 pub fn reply_line(alloc: Global, reply: &Reply) -> Result<String, AllocError>
     ensures { IfOk result (λ s. string_bytes s ≡ reply_line reply.now) }
 {
-    let value = reply_value(alloc, reply)?;
-    line_of(alloc, &value)
+    let mut writer = Writer::new(Vec::with_capacity(alloc, LINE_ROOM)?);
+    write_reply(&mut writer, reply)?;
+    let mut line = unsafe { String::from_utf8_unchecked(writer.into_inner()) };
+    line.push('\n')?;
+    Ok(line)
 }
 
 /// The compact text of a value with no float, and a line feed. It fails only for want of memory.
@@ -29,105 +41,169 @@ pub fn line_of(alloc: Global, value: &Value) -> Result<String, AllocError>
     Ok(line)
 }
 
-fn reply_value(alloc: Global, reply: &Reply) -> Result<Value, AllocError>
-    ensures { IfOk result (λ v. view v ≡ reply_data reply.now) }
+fn write_reply(writer: &mut Writer, reply: &Reply) -> Result<(), AllocError>
+    ensures { OnOk result (Sends writer.old writer.new (data_tokens (reply_data reply.now))) }
 {
     match reply {
-        Reply::Queued(serial) => numbered(alloc, "queued", *serial),
-        Reply::Inline(serial) => numbered(alloc, "inline", *serial),
-        Reply::FallbackDue { serial, cause } => fallback_due_value(alloc, *serial, *cause),
-        Reply::Joined(serial) => numbered(alloc, "joined", *serial),
-        Reply::GroupFull => named(alloc, "group-full"),
-        Reply::Assigned { serial, arg } => assigned_value(alloc, *serial, arg.as_str()),
-        Reply::Idle => named(alloc, "idle"),
-        Reply::Done => named(alloc, "done"),
-        Reply::Late => named(alloc, "late"),
-        Reply::NotRunning => named(alloc, "not-running"),
-        Reply::Expired(count) => expired_value(alloc, *count),
-        Reply::Pending => named(alloc, "pending"),
-        Reply::RunFallback(cause) => run_fallback_value(alloc, *cause),
-        Reply::Answered(answer) => answer_value(alloc, answer),
-        Reply::NoTicket => named(alloc, "no-ticket"),
-        Reply::NotInFallback => named(alloc, "not-in-fallback"),
-        Reply::Closed(count) => closed_value(alloc, *count),
-        Reply::Metrics(metrics) => metrics_value(alloc, metrics),
-        Reply::Worn => named(alloc, "worn"),
-        Reply::NoGroup => named(alloc, "no-group"),
+        Reply::Queued(serial) => write_numbered(writer, "queued", *serial),
+        Reply::Inline(serial) => write_numbered(writer, "inline", *serial),
+        Reply::FallbackDue { serial, cause } => write_fallback_due(writer, *serial, *cause),
+        Reply::Joined(serial) => write_numbered(writer, "joined", *serial),
+        Reply::GroupFull => write_named(writer, "group-full"),
+        Reply::Assigned { serial, arg } => write_assigned(writer, *serial, arg.as_str()),
+        Reply::Idle => write_named(writer, "idle"),
+        Reply::Done => write_named(writer, "done"),
+        Reply::Late => write_named(writer, "late"),
+        Reply::NotRunning => write_named(writer, "not-running"),
+        Reply::Expired(count) => write_expired(writer, *count),
+        Reply::Pending => write_named(writer, "pending"),
+        Reply::RunFallback(cause) => write_run_fallback(writer, *cause),
+        Reply::Answered(answer) => write_answer(writer, answer),
+        Reply::NoTicket => write_named(writer, "no-ticket"),
+        Reply::NotInFallback => write_named(writer, "not-in-fallback"),
+        Reply::Closed(count) => write_closed(writer, *count),
+        Reply::Metrics(metrics) => write_metrics(writer, metrics),
+        Reply::Worn => write_named(writer, "worn"),
+        Reply::NoGroup => write_named(writer, "no-group"),
     }
 }
 
 // A reply that is its name alone.
-fn named(alloc: Global, name: &str) -> Result<Value, AllocError>
-    ensures { IfOk result (λ v. view v ≡ named name.now) }
+fn write_named(writer: &mut Writer, name: &str) -> Result<(), AllocError>
+    ensures { OnOk result (Sends writer.old writer.new (data_tokens (named name.now))) }
 {
-    json!(in alloc; {"reply": name})
+    let members = [Member::Text("reply", name)];
+    write_object(writer, &members)
 }
 
 // A reply of a name and a ticket.
-fn numbered(alloc: Global, name: &str, ticket: u64) -> Result<Value, AllocError>
-    ensures { IfOk result (λ v. view v ≡ numbered name.now ticket) }
+fn write_numbered(writer: &mut Writer, name: &str, ticket: u64) -> Result<(), AllocError>
+    ensures { OnOk result (Sends writer.old writer.new (data_tokens (numbered name.now ticket))) }
 {
-    json!(in alloc; {"reply": name, "ticket": ticket})
+    let members = [
+        Member::Text("reply", name),
+        Member::Number("ticket", ticket),
+    ];
+    write_object(writer, &members)
 }
 
-fn fallback_due_value(alloc: Global, ticket: u64, cause: Cause) -> Result<Value, AllocError>
-    ensures { IfOk result (λ v. view v ≡ fallback_due_data ticket cause) }
+fn write_fallback_due(writer: &mut Writer, ticket: u64, cause: Cause) -> Result<(), AllocError>
+    ensures { OnOk result (Sends writer.old writer.new (data_tokens (fallback_due_data ticket cause))) }
 {
-    json!(in alloc; {"cause": cause_word(cause), "reply": "fallback-due", "ticket": ticket})
+    let members = [
+        Member::Text("cause", cause_word(cause)),
+        Member::Text("reply", "fallback-due"),
+        Member::Number("ticket", ticket),
+    ];
+    write_object(writer, &members)
 }
 
-fn assigned_value(alloc: Global, ticket: u64, arg: &str) -> Result<Value, AllocError>
-    ensures { IfOk result (λ v. view v ≡ assigned_data ticket arg.now) }
+fn write_assigned(writer: &mut Writer, ticket: u64, arg: &str) -> Result<(), AllocError>
+    ensures { OnOk result (Sends writer.old writer.new (data_tokens (assigned_data ticket arg.now))) }
 {
-    json!(in alloc; {"arg": arg, "reply": "assigned", "ticket": ticket})
+    let members = [
+        Member::Text("arg", arg),
+        Member::Text("reply", "assigned"),
+        Member::Number("ticket", ticket),
+    ];
+    write_object(writer, &members)
 }
 
-fn expired_value(alloc: Global, count: u64) -> Result<Value, AllocError>
-    ensures { IfOk result (λ v. view v ≡ expired_data count) }
+fn write_expired(writer: &mut Writer, count: u64) -> Result<(), AllocError>
+    ensures { OnOk result (Sends writer.old writer.new (data_tokens (expired_data count))) }
 {
-    json!(in alloc; {"count": count, "reply": "expired"})
+    let members = [
+        Member::Number("count", count),
+        Member::Text("reply", "expired"),
+    ];
+    write_object(writer, &members)
 }
 
-fn run_fallback_value(alloc: Global, cause: Cause) -> Result<Value, AllocError>
-    ensures { IfOk result (λ v. view v ≡ run_fallback_data cause) }
+fn write_run_fallback(writer: &mut Writer, cause: Cause) -> Result<(), AllocError>
+    ensures { OnOk result (Sends writer.old writer.new (data_tokens (run_fallback_data cause))) }
 {
-    json!(in alloc; {"cause": cause_word(cause), "reply": "run-fallback"})
+    let members = [
+        Member::Text("cause", cause_word(cause)),
+        Member::Text("reply", "run-fallback"),
+    ];
+    write_object(writer, &members)
 }
 
-fn closed_value(alloc: Global, count: u64) -> Result<Value, AllocError>
-    ensures { IfOk result (λ v. view v ≡ closed_data count) }
+fn write_closed(writer: &mut Writer, count: u64) -> Result<(), AllocError>
+    ensures { OnOk result (Sends writer.old writer.new (data_tokens (closed_data count))) }
 {
-    json!(in alloc; {"released": count, "reply": "closed"})
+    let members = [
+        Member::Number("released", count),
+        Member::Text("reply", "closed"),
+    ];
+    write_object(writer, &members)
 }
 
-fn answer_value(alloc: Global, answer: &Answer) -> Result<Value, AllocError>
-    ensures { IfOk result (λ v. view v ≡ answer_data answer.now) }
+fn write_answer(writer: &mut Writer, answer: &Answer) -> Result<(), AllocError>
+    ensures { OnOk result (Sends writer.old writer.new (data_tokens (answer_data answer.now))) }
 {
     match answer {
-        Answer::Value(body) => json!(in alloc; {"body": body.as_str(), "reply": "value"}),
-        Answer::FallbackValue { cause, body } =>
-            json!(in alloc; {"body": body.as_str(), "cause": cause_word(*cause), "reply": "fallback-value"}),
-        Answer::Error { cause, fallback } =>
-            json!(in alloc; {"cause": cause_word(*cause), "fallback": fallback_word(*fallback), "reply": "error"}),
-        Answer::BadRequest => named(alloc, "bad-request"),
+        Answer::Value(body) => write_value(writer, body.as_str()),
+        Answer::FallbackValue { cause, body } => write_fallback_value(
+            writer,
+            *cause,
+            body.as_str(),
+        ),
+        Answer::Error { cause, fallback } => write_error(writer, *cause, *fallback),
+        Answer::BadRequest => write_named(writer, "bad-request"),
     }
 }
 
-fn metrics_value(alloc: Global, metrics: &Metrics) -> Result<Value, AllocError>
-    ensures { IfOk result (λ v. view v ≡ metrics_data metrics.now) }
+fn write_value(writer: &mut Writer, body: &str) -> Result<(), AllocError>
+    ensures { OnOk result (Sends writer.old writer.new (data_tokens (value_data body.now))) }
 {
-    let events = events_value(alloc, &metrics.counts)?;
-    json!(in alloc; {
-        "busy": metrics.busy,
-        "circuit": circuit_word(metrics.circuit),
-        "errors": metrics.errors,
-        "events": events,
-        "free": metrics.free,
-        "percent": metrics.percent,
-        "queued": metrics.queued,
-        "reply": "metrics",
-        "total": metrics.total
-    })
+    let members = [Member::Text("body", body), Member::Text("reply", "value")];
+    write_object(writer, &members)
+}
+
+fn write_fallback_value(writer: &mut Writer, cause: Cause, body: &str) -> Result<(), AllocError>
+    ensures { OnOk result (Sends writer.old writer.new (data_tokens (fallback_value_data cause body.now))) }
+{
+    let members = [
+        Member::Text("body", body),
+        Member::Text("cause", cause_word(cause)),
+        Member::Text("reply", "fallback-value"),
+    ];
+    write_object(writer, &members)
+}
+
+fn write_error(writer: &mut Writer, cause: Cause, fallback: FallbackFault) -> Result<(), AllocError>
+    ensures { OnOk result (Sends writer.old writer.new (data_tokens (error_answer_data cause fallback))) }
+{
+    let members = [
+        Member::Text("cause", cause_word(cause)),
+        Member::Text("fallback", fallback_word(fallback)),
+        Member::Text("reply", "error"),
+    ];
+    write_object(writer, &members)
+}
+
+fn write_metrics(writer: &mut Writer, metrics: &Metrics) -> Result<(), AllocError>
+    ensures { OnOk result (Sends writer.old writer.new (data_tokens (metrics_data metrics.now))) }
+{
+    let before = [
+        Member::Number("busy", metrics.busy),
+        Member::Text("circuit", circuit_word(metrics.circuit)),
+        Member::Number("errors", metrics.errors),
+    ];
+    let after = [
+        Member::Number("free", metrics.free),
+        Member::Number("percent", metrics.percent),
+        Member::Number("queued", metrics.queued),
+        Member::Text("reply", "metrics"),
+        Member::Number("total", metrics.total),
+    ];
+    begin_object(writer)?;
+    write_members(writer, &before)?;
+    write_key(writer, "events")?;
+    write_events(writer, &metrics.counts)?;
+    write_members(writer, &after)?;
+    end_object(writer)
 }
 
 // The names of the kinds of events, in their order.
@@ -148,8 +224,8 @@ const KIND_NAMES: [&str; 13] = [
 ];
 
 // Each kind of event that there was, and how often.
-fn events_value(alloc: Global, counts: &Counts) -> Result<Value, AllocError>
-    ensures { IfOk result (λ v. view v ≡ events_data counts.now) }
+fn write_events(writer: &mut Writer, counts: &Counts) -> Result<(), AllocError>
+    ensures { OnOk result (Sends writer.old writer.new (data_tokens (events_data counts.now))) }
 {
     let listed = [
         counts.bad_request,
@@ -166,39 +242,28 @@ fn events_value(alloc: Global, counts: &Counts) -> Result<Value, AllocError>
         counts.thread_pool_rejected,
         counts.timeout,
     ];
-    let mut events = Map::new(alloc);
-    put_counts(alloc, &mut events, &KIND_NAMES, &listed)?;
-    Ok(Value::Object(events))
+    begin_object(writer)?;
+    write_counts(writer, &KIND_NAMES, &listed)?;
+    end_object(writer)
 }
 
-// Adds each count under its name, unless it is 0.
-fn put_counts(
-    alloc: Global,
-    events: &mut Map<String, Value>,
-    names: &[&str],
-    counts: &[u64],
-) -> Result<(), AllocError>
+// A member for each count under its name, unless it is 0.
+fn write_counts(writer: &mut Writer, names: &[&str], counts: &[u64]) -> Result<(), AllocError>
     requires { length names.now ≡ length counts.now }
-    ensures { OnOk result (members_view events.new.entries
-        ≡ with_counts (map (λ name. name.now) names.now) counts.now (members_view events.old.entries)) }
+    ensures { OnOk result (Sends writer.old writer.new (counts_tokens (map (λ name. name.now) names.now) counts.now)) }
 {
     for i in 0..names.len() {
-        put_count(alloc, events, names[i], counts[i])?;
+        write_count(writer, names[i], counts[i])?;
     }
     Ok(())
 }
 
-// Adds the count under the name, unless it is 0.
-fn put_count(
-    alloc: Global,
-    events: &mut Map<String, Value>,
-    name: &str,
-    count: u64,
-) -> Result<(), AllocError>
-    ensures { OnOk result (members_view events.new.entries ≡ with_count name.now count (members_view events.old.entries)) }
+// The count under the name, unless it is 0.
+fn write_count(writer: &mut Writer, name: &str, count: u64) -> Result<(), AllocError>
+    ensures { OnOk result (Sends writer.old writer.new (counts_tokens (name.now ∷ []) (count ∷ []))) }
 {
     if count > 0 {
-        serde_json::put(events, alloc, name, Value::from(count))?;
+        return write_number(writer, name, count);
     }
     Ok(())
 }

@@ -144,9 +144,9 @@ fn texts_are_measured_in_bytes(rt: HostRuntime) {
         (submit, "\\u20ac", 22, long),
         (key, "k", 32, queued),
         (key, "k", 33, long),
-        (finish, "x", 256, "{\"reply\":\"no-ticket\"}\n"),
+        (finish, "x", 256, "{\"reply\":\"not-running\"}\n"),
         (finish, "x", 257, long),
-        (end, "x", 256, "{\"reply\":\"no-ticket\"}\n"),
+        (end, "x", 256, "{\"reply\":\"not-in-fallback\"}\n"),
         (end, "x", 257, long),
     ];
     for (before, letter, times, output) in cases {

@@ -1,5 +1,10 @@
-use Rattle.bh_lines.proofs.Floatless.{reply-floatless}
+use Rattle.std.proofs.Common.{ap}
+use Rattle.bh_lines.specs.ReplyLine.{reply_data, reply_line}
+use Rattle.bh_lines.proofs.Sending.{line-sent}
 use Rattle.bh_lines.proofs.replies.reply_line.Goals as goal
 
-pub line_of-requires : goal.line_of-requires
-line_of-requires c = rw c.in_ok-value.ensures (reply-floatless c.args.reply.now)
+pub returns : goal.returns
+unfolding reply_line lib.Utf8.encode
+returns c =
+    line-sent (reply_data c.args.reply.now) c.new-writer.result c.write_reply.new.writer _ _ _ _ c.in_ok-with_capacity.ensures.items c.new-writer.ensures.before c.new-writer.ensures.tokens
+    c.in_ok-write_reply.ensures c.into_inner.ensures.items (ap (λ v. v.items) c.from_utf8_unchecked-line.ensures.value) c.in_ok-push.ensures.bytes

@@ -1,0 +1,46 @@
+-- What is printed of the tokens that were sent.
+use Rattle.std.proofs.Common.{◌≡◌, ℕ, ◌==◌, true, false, List, [], ◌∷◌, ◌++◌, refl, ap, ◌∙◌, Result, Ok, Err, OnOk, append_assoc, if◌then◌else◌, decimal}
+use Rattle.std.specs.declared.alloc.AllocError.{AllocError}
+use Rattle.json.specs.Token.{Token, begin_object, end_object}
+use Rattle.json.specs.Token as token
+use Rattle.json.specs.Tree.{members_tokens}
+use Rattle.json.specs.Print.{print}
+use Rattle.json.specs.Written.{Written}
+use Rattle.serde_json.specs.Data.{Data}
+use Rattle.serde_json.specs.Written.{compact_text, members_outline}
+use Rattle.serde_json.proofs.Texts.{print-outline}
+use Rattle.bh_base.specs.declared.event.Counts.{Counts}
+use Rattle.bh_lines.specs.ReplyLine.{counts_members, kind_names, counts_listed, events_data, line_of, count}
+use Rattle.bh_lines.specs.Sent.{Sends, data_tokens, counts_tokens}
+
+-- what was sent first, and then perhaps the rest
+pub sent-first : (r : Result (Unit {0}) AllocError) (a b c : Written) (first rest : List Token) → Sends a b first → OnOk r (Sends b c rest) → OnOk r (Sends a c (first ++ rest))
+sent-first (Ok x) a b c first rest one other = record {
+  tokens = other.tokens ∙ ap (λ ts. ts ++ rest) one.tokens ∙ append_assoc a.tokens first rest;
+  before = other.before ∙ one.before;
+}
+sent-first (Err e) a b c first rest one other = tt
+
+-- a writer that began with nothing was sent a value, and its bytes got a line feed
+pub line-sent : (d : Data) (made wrote : Written) (start items line done : List ℕ) → start ≡ [] → made.before ≡ start → made.tokens ≡ [] → Sends made wrote (data_tokens d)
+    → items ≡ wrote.before ++ print wrote.tokens → line ≡ items → done ≡ line ++ 10 ∷ [] → done ≡ line_of d
+line-sent d made wrote start items line done none before tokens sent is text pushed =
+    let whole : wrote.tokens ≡ data_tokens d = sent.tokens ∙ ap (λ ts. ts ++ data_tokens d) tokens in
+    let printed : wrote.before ++ print wrote.tokens ≡ compact_text d =
+    ap (λ bs. bs ++ print wrote.tokens) (sent.before ∙ before ∙ none) ∙ ap print whole ∙ print-outline d in
+    pushed ∙ ap (λ bs. bs ++ 10 ∷ []) (text ∙ is ∙ printed)
+
+counts-sent : (names : List (List ℕ)) (counts : List ℕ) → counts_tokens names counts ++ end_object ∷ [] ≡ members_tokens (members_outline (counts_members names counts))
+counts-sent [] counts = refl
+counts-sent (name ∷ names) [] = refl
+counts-sent (name ∷ names) (n ∷ counts) =
+    elim (n == 0) as (λ b. (if b then counts_tokens names counts else token.key name ∷ token.number (decimal n) ∷ counts_tokens names counts) ++ end_object ∷ []
+    ≡ members_tokens (members_outline (if b then counts_members names counts else count name n (counts_members names counts)))) [
+      | true ↦ counts-sent names counts
+      | false ↦ ap (λ ts. token.key name ∷ token.number (decimal n) ∷ ts) (counts-sent names counts)
+    ]
+
+-- the counts between the brackets are the object of the events
+pub events-sent : (counts : Counts) → begin_object ∷ (counts_tokens kind_names (counts_listed counts) ++ end_object ∷ []) ≡ data_tokens (events_data counts)
+unfolding events_data
+events-sent counts = ap (λ ts. begin_object ∷ ts) (counts-sent kind_names (counts_listed counts))
