@@ -1,10 +1,10 @@
 -- Answers to one line after the other.
-use Rattle.std.proofs.Common.{◌≡◌, ℕ, false, List, [], ◌∷◌, ◌++◌, codes, Option, Some, None, Result, Ok, Err, String, string_bytes, Vec, refl, sym, ◌∙◌, subst, ap, append-nil, append_assoc}
+use Rattle.std.proofs.Common.{◌≡◌, ℕ, false, List, [], ◌∷◌, ◌++◌, codes, Option, Some, None, Result, Ok, Err, String, string_bytes, Vec, refl, sym, ◌∙◌, subst, ap, append-nil, append_assoc, inl, inr}
 use Rattle.std.specs.declared.alloc.Global.{Global}
 use Rattle.bh_lines.specs.declared.port_error.PortError.{PortError}
 use Rattle.bh_lines.specs.declared.port_error.PortError.TheVariants.{Read, Write, Line, Memory}
 use Rattle.bh_lines.specs.Lines.{Cut, line, stopped, cut, has_line}
-use Rattle.bh_lines.specs.Taken.{TakesLine, IsLast}
+use Rattle.bh_lines.specs.Taken.{TakesLine, IsLast, IsBehindFeed}
 use Rattle.bh_lines.specs.declared.fault.Fault.{Fault}
 use Rattle.bh_lines.specs.FaultLine.{fault_line, fault_word, error_data}
 use Rattle.bh_lines.specs.ReplyLine.{reply_line, reply_data}
@@ -18,7 +18,7 @@ use Rattle.bh_control.specs.declared.control_line.ControlLine.{ControlLine}
 use Rattle.bh_control.specs.declared.control_line.ControlLine.TheVariants as lines
 use Rattle.bh_control.specs.ControlLine.{control_line}
 use Rattle.bh_control.specs.Answering.{Responder, Answers, IsAnswer, groups_data, groups_line, answer_line}
-use Rattle.bh_control.specs.Talk.{lines_then, AnswersEach, Answered, Refused, Each, EachLast, UnlessEmpty, Fed}
+use Rattle.bh_control.specs.Talk.{lines_then, IsBehind, AnswersEach, Answered, Refused, Each, EachLast, UnlessEmpty, Fed}
 
 -- the lines in front of `all` were answered behind `before`, up to `rest`
 abbrev pub SoFar : Responder → List ℕ → List ℕ → List ℕ → List ℕ → Type 0
@@ -34,7 +34,14 @@ answers-more who (k ∷ ls) l out one h m =
     (h.0, h.1 ++ one, h.2, answers-more who ls l h.1 one h.3 m, ap (λ ys. ys ++ one) h.4 ∙ append_assoc h.0 h.1 one)
 
 pub so_far-none : (who : Responder) (all before : List ℕ) → SoFar who all before all before
-so_far-none who all before = ([], sym (append-nil before), record { lines = []; each = refl; cut_is = λ more. refl })
+so_far-none who all before = ([], sym (append-nil before), record { lines = []; each = refl; cut_is = λ more. refl; behind = inl refl })
+
+-- what is behind a line feed of the bytes that are left, is behind one of all bytes
+behind-more : (all mid new : List ℕ) → IsBehind all mid → IsBehindFeed mid new → IsBehind all new
+behind-more all mid new h f = elim h [
+  | inl e ↦ inr (f.0, sym e ∙ f.1)
+  | inr g ↦ inr (g.0 ++ 10 ∷ f.0, g.1 ∙ (ap (λ ys. g.0 ++ 10 ∷ ys) f.1 ∙ sym (append_assoc g.0 (10 ∷ f.0) (10 ∷ new))))
+]
 
 pub so_far-one : (who : Responder) (all before mid after new later bytes one : List ℕ) (found : Option (String Global)) (s : String Global)
     → SoFar who all before mid after → found ≡ Some s → TakesLine mid (Ok found) new → bytes ≡ string_bytes s → Answers who bytes one → later ≡ after ++ one
@@ -49,6 +56,7 @@ so_far-one who all before mid after new later bytes one found s so is taken same
         lines = ls ++ string_bytes s ∷ [];
         each = answers-more who ls (string_bytes s) so.0 one so.2.each m2;
         cut_is = λ more. so.2.cut_is more ∙ ap (λ c. lines_then ls c) (took.1 more) ∙ sym (then-more ls (string_bytes s) (cut (new ++ more)));
+        behind = behind-more all mid new so.2.behind took.2;
       },
     )
 

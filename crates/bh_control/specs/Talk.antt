@@ -1,9 +1,10 @@
 -- What a conversation answers to the pieces of a stream.
-use Rattle.std.specs.Prelude.{◌≡◌, ◌≢◌, ℕ, false, List, [], ◌∷◌, ◌++◌, Option, Some, None, Result, Ok, Err, Vec}
+use Rattle.std.specs.Prelude.{◌≡◌, ◌≢◌, ◌⊎◌, ℕ, false, List, [], ◌∷◌, ◌++◌, Option, Some, None, Result, Ok, Err, Vec}
 use Rattle.std.specs.declared.alloc.Global.{Global}
 use Rattle.bh_lines.specs.declared.port_error.PortError.{PortError}
 use Rattle.bh_lines.specs.declared.port_error.PortError.TheVariants.{Read, Write, Line, Memory}
 use Rattle.bh_lines.specs.Lines.{Cut, line, ended, stopped, cut, has_line}
+use Rattle.bh_lines.specs.Taken.{IsBehindFeed}
 use Rattle.bh_control.specs.Answering.{Responder, Answers}
 
 -- what contracts see of a conversation: the bytes of a line that has not ended, and the fault that it answers from now on
@@ -30,11 +31,16 @@ AnswersEach who [] out = out ≡ []
 AnswersEach who (bytes ∷ lines) out =
     (one : List ℕ) × (others : List ℕ) × Answers who bytes one × AnswersEach who lines others × (out ≡ one ++ others)
 
+-- `rest` is all of the bytes, or what stands in them behind a line feed
+abbrev pub IsBehind : List ℕ → List ℕ → Type 0
+IsBehind all rest = (rest ≡ all) ⊎ IsBehindFeed all rest
+
 -- Whatever bytes follow, lines of `all` have ended, each is answered in `out`, and `rest` is left.
 pub record Answered (who : Responder) (all rest out : List ℕ) : Type 0 where
   pub lines : List (List ℕ)
   pub each : AnswersEach who lines out
   pub cut_is : (more : List ℕ) → cut (all ++ more) ≡ lines_then lines (cut (rest ++ more))
+  pub behind : IsBehind all rest
 
 -- Whatever bytes follow, lines of `all` have ended, each is answered in `out`, and the next one is refused.
 pub record Refused (who : Responder) (all out : List ℕ) : Type 0 where
@@ -49,9 +55,10 @@ pub record RefusedLater (who : Responder) (all out : List ℕ) : Type 0 where
   pub each : AnswersEach who lines out
   pub cut_is : (more : List ℕ) → cut (all ++ more) ≡ lines_then lines stopped
 
--- what a piece is answered and what is kept, where `all` is what was kept and the piece
+-- What a piece is answered and what is kept, where `all` is what was kept and the piece: the lines that have ended are
+-- answered, and what follows the last line feed is kept. Where the next line is refused, the lines before it are answered.
 abbrev pub Fed : Responder → List ℕ → Result (Vec ℕ Global) PortError → List ℕ → Option PortError → Type 0
-Fed who all (Ok out) rest None = Answered who all rest out.items
+Fed who all (Ok out) rest None = Answered who all rest out.items × (has_line rest ≡ false)
 Fed who all (Ok out) rest (Some Line) = RefusedLater who all out.items
 Fed who all (Err Line) rest (Some Line) = (more : List ℕ) → cut (all ++ more) ≡ stopped
 Fed who all (Err Memory) rest (Some Memory) = Unit {0}

@@ -16,6 +16,7 @@ use Rattle.tokio_util.specs.Codec.Next.{decoded, partial, at_end}
 use Rattle.tokio_util.specs.Codec.Lines.{without_carriage_return, newline_from, read_line, Scan, at_line_start, gives_lines, Answers, AnswersAtEnd, AnswersLast, IsOutOfMemory, IsTextOf, IsUnfinished}
 use Rattle.tokio_util.specs.Codec.Lines as scans
 use Rattle.tokio_util.specs.Codec.LinesLaws.{read_line_found, read_line_long, read_line_short, newline_from-append_found, newline_from-append_missing}
+use Rattle.bh_lines.specs.Taken.{IsBehindFeed}
 use Rattle.bh_lines.specs.Lines.{Cut, line, ended, stopped, less_return, whole_line, last_line, cut_from, cut, has_line}
 
 -- the first line feed
@@ -66,16 +67,34 @@ less_return-is (b ∷ c ∷ bs) =
     ∙ (elim (slice_index (c ∷ bs) (length bs) == 13) as (λ v. b ∷ cond v (take (length bs) (c ∷ bs)) (c ∷ bs) ≡ cond v (b ∷ take (length bs) (c ∷ bs)) (b ∷ c ∷ bs)) [ true ↦ refl | false ↦ refl ])
     ∙ sym (without-is b (c ∷ bs))
 
+-- the first line feed, what stands before it and what follows
+feed-splits : (xs : List ℕ) → feed xs < length xs → xs ≡ take (feed xs) xs ++ 10 ∷ drop (feed xs + 1) xs
+feed-splits [] h = absurd (omega (arith, h))
+feed-splits (b ∷ bs) h =
+    elim (b == 10) as (λ v. (b == 10) ≡ v → cond (not v) (1 + feed bs) 0 < suc (length bs)
+    → b ∷ bs ≡ take (cond (not v) (1 + feed bs) 0) (b ∷ bs) ++ 10 ∷ drop (cond (not v) (1 + feed bs) 0 + 1) (b ∷ bs)) [
+      | true ↦ λ e _. let is : b ≡ 10 = grind (arith, nat_tests) in ap (λ k. k ∷ bs) is
+      | false ↦ λ _ k.
+          let one : 1 + feed bs ≡ suc (feed bs) = omega arith in
+          let two : suc (feed bs) + 1 ≡ suc (feed bs + 1) = omega arith in
+          let low : feed bs < length bs = omega (arith, k) in
+          rw (one, two) (ap (λ ys. b ∷ ys) (feed-splits bs low))
+    ] refl h
+
 -- what a scan from the start of a line says of the lines, whatever bytes follow
 abbrev pub Finds : List ℕ → Scan → Type 0
 Finds xs (scans.line found rest) =
     (length rest < length xs) × ((more : List ℕ) → cut (xs ++ more) ≡ (if is_utf8 found then line found (cut (rest ++ more)) else stopped))
+    × IsBehindFeed xs rest
 Finds xs (scans.too_long rest) = (more : List ℕ) → cut (xs ++ more) ≡ stopped
 Finds xs (scans.unfinished is_dropped kept) = (is_dropped ≡ false) × (kept ≡ xs) × (cut xs ≡ last_line xs) × (length xs ≤ feed xs) × (length xs ≤ 1024)
 
 feed-is : (xs : List ℕ) → newline_from 0 xs ≡ feed xs
 unfolding newline_from
 feed-is xs = omega arith
+
+newline-splits : (xs : List ℕ) → newline_from 0 xs < length xs → xs ≡ take (newline_from 0 xs) xs ++ 10 ∷ drop (newline_from 0 xs + 1) xs
+newline-splits xs h = rw (feed-is xs) (feed-splits xs (rw (feed-is xs) at h))
 
 pub cut-found : (xs : List ℕ) → newline_from 0 xs < length xs → cut xs ≡ whole_line (take (newline_from 0 xs) xs) (cut (drop (newline_from 0 xs + 1) xs))
 cut-found xs h = rw (feed-is xs) (cut_from-found [] xs (rw (feed-is xs) at h))
@@ -117,6 +136,7 @@ finds-line xs h low =
           let longer : newline_from 0 (xs ++ more) ≡ n = newline_from-append_found 0 xs more h in
           cut-found (xs ++ more) (omega (arith, length-append xs more))
           ∙ rw (longer, take-append-le n xs more within, drop-append-le (n + 1) xs more back) (accepts (take n xs) (cut (drop (n + 1) xs ++ more)) (omega (arith, length-take n xs))),
+      (take n xs, newline-splits xs h),
     )
 
 finds-long : (xs : List ℕ) → 1024 < newline_from 0 xs → 1024 < length xs → Finds xs (read_line 1024 0 xs)
@@ -156,13 +176,13 @@ start = at_line_start 1024
 -- what a decoded line says of the bytes that it was taken from
 pub decoded-line : (rest : List ℕ) (s : String Global) (codec : LinesCodec) (left : List ℕ)
     → gives_lines start rest (decoded (Ok s) codec left)
-    → (codec ≡ start) × (length left < length rest) × ((more : List ℕ) → cut (rest ++ more) ≡ line (string_bytes s) (cut (left ++ more)))
+    → (codec ≡ start) × (length left < length rest) × ((more : List ℕ) → cut (rest ++ more) ≡ line (string_bytes s) (cut (left ++ more))) × IsBehindFeed rest left
 decoded-line rest s codec left h =
-    elim (read_line 1024 0 rest) as (λ found. Finds rest found → Answers 1024 found (Ok s) codec left → (codec ≡ start) × (length left < length rest) × ((more : List ℕ) → cut (rest ++ more) ≡ line (string_bytes s) (cut (left ++ more)))) [
+    elim (read_line 1024 0 rest) as (λ found. Finds rest found → Answers 1024 found (Ok s) codec left → (codec ≡ start) × (length left < length rest) × ((more : List ℕ) → cut (rest ++ more) ≡ line (string_bytes s) (cut (left ++ more))) × IsBehindFeed rest left) [
       | scans.line bytes after ↦ λ f a. elim a [
         | inl r ↦
             let valid : is_utf8 bytes ≡ true = rw (← r.0) (is_utf8-from_IsUtf8 _ (IsUtf8-string_bytes s)) in
-            (r.1, rw r.2 f.0, λ more. f.1 more ∙ rw (valid, r.0, r.2) refl)
+            (r.1, rw r.2 f.0, λ more. f.1 more ∙ rw (valid, r.0, r.2) refl, rw r.2 f.2)
         | inr bad ↦ absurd bad.0
       ]
       | scans.too_long after ↦ λ _ a. let e = a.0 in cc

@@ -21,7 +21,7 @@ now-partial old codec new h go =
 
 ok-from-start : (old : List ℕ) (found : Option (String Global)) (codec : LinesCodec) (new : List ℕ)
     → has_line old ≡ true → Decodes gives_lines start old (Ok found) codec new → TakesLine old (Ok found) new
-ok-from-start old (Some s) codec new some h = let d = decoded-line old s codec new h in (d.1, d.2)
+ok-from-start old (Some s) codec new some h = let d = decoded-line old s codec new h in (d.1, d.2, d.3)
 ok-from-start old None codec new some h = absurd (has_line-answers old some (now-partial old codec new h.0 h.1))
 
 err-from-start : (old : List ℕ) (error : LinesCodecError) (refused : PortError) (codec : LinesCodec) (new : List ℕ)

@@ -1,14 +1,18 @@
 -- What is taken of the bytes that have come.
-use Rattle.std.specs.Prelude.{◌≡◌, ℕ, ◌<◌, false, List, ◌++◌, length, String, string_bytes, Option, Some, None, Result, Ok, Err}
+use Rattle.std.specs.Prelude.{◌≡◌, ℕ, ◌<◌, false, List, ◌∷◌, ◌++◌, length, String, string_bytes, Option, Some, None, Result, Ok, Err}
 use Rattle.std.specs.declared.alloc.Global.{Global}
 use Rattle.bh_lines.specs.declared.port_error.PortError.{PortError}
 use Rattle.bh_lines.specs.declared.port_error.PortError.TheVariants.{Read, Write, Line, Memory}
 use Rattle.bh_lines.specs.Lines.{line, ended, stopped, cut, has_line}
 
+-- `new` is what stands in `old` behind a line feed
+abbrev pub IsBehindFeed : List ℕ → List ℕ → Type 0
+IsBehindFeed old new = (front : List ℕ) × (old ≡ front ++ 10 ∷ new)
+
 -- what the next line of `old` is, whatever bytes follow, and what is left behind it
 abbrev pub TakesLine : List ℕ → Result (Option (String Global)) PortError → List ℕ → Type 0
 TakesLine old (Ok (Some s)) new =
-    (length new < length old) × ((more : List ℕ) → cut (old ++ more) ≡ line (string_bytes s) (cut (new ++ more)))
+    (length new < length old) × ((more : List ℕ) → cut (old ++ more) ≡ line (string_bytes s) (cut (new ++ more))) × IsBehindFeed old new
 TakesLine old (Ok None) new = (has_line old ≡ false) × (new ≡ old)
 TakesLine old (Err Line) new = (more : List ℕ) → cut (old ++ more) ≡ stopped
 TakesLine old (Err Memory) new = Unit {0}
