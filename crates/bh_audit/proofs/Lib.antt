@@ -1,0 +1,4 @@
+pub mod Lists
+pub mod Journals
+pub mod Looking
+pub mod Accounting

@@ -1,0 +1,15 @@
+use Rattle.std.proofs.Common.{◌≡◌}
+use Rattle.bh_base.specs.declared.reply.Reply.TheVariants as reply
+use Rattle.bh_audit.proofs.Looking.{collects}
+use Rattle.bh_audit.proofs.locked.Locked.try_collect.Goals as goal
+use Rattle.bh_audit.proofs.locked.Locked.try_collect.Goals.{else-not-self-via-then-not-self+else-pending, else-not-self-via-else-not-self}
+
+pub returns-clause-told : goal.returns-clause-told
+returns-clause-told g c = λ is.
+    elim c.else-not-self.branch [
+      | else-not-self-via-then-not-self+else-pending w ↦
+          let waits : c.step-reply.result ≡ reply.Pending = cc in
+          absurd (collects c.args.self.now.book.groups.views c.group-group.result.0 c.args.serial c.now-now.result c.step-reply.result w.pending.result w.if-pending.false
+          (rw w.core.ensures at w.pending.ensures.known) (λ v at. (c.step-reply.ensures.seen v at).0) c.step-reply.ensures.unknown waits)
+      | else-not-self-via-else-not-self w ↦ w.if-not-self.false
+    ]

@@ -1,0 +1,5 @@
+pub mod Books
+pub mod Calls
+pub mod Service
+pub mod Accounts
+pub mod Finish

@@ -1,0 +1,194 @@
+//! All groups, and in an audited book a journal of each.
+
+ghost use Rattle.std.specs.Prelude.{◌≡◌, ◌≢◌, ◌<◌, ℕ, List, length, nat_lt, replicate, slice_get, is_some, IfOk, IfErr, IfSome, None, Some, true, false};
+ghost use Rattle.bh_base.specs.declared.reply.Reply.{Reply};
+ghost use Rattle.bh_base.specs.Replies.{can_reply, is_refusal};
+ghost use Rattle.bh_base.specs.Runs.{State, View, moved_on};
+ghost use Rattle.bh_base.specs.Runs.{step as machine_step};
+ghost use Rattle.bh_base.specs.Seen.{view_after, view_reply};
+ghost use Rattle.bh_core.specs.Groups.{Shows};
+ghost use Rattle.bh_journal.specs.Replay.{written};
+ghost use Rattle.bh_audit.specs.Calls.{IsReady};
+ghost use Rattle.bh_audit.specs.Books.{AreEmpty, AreNew, BookView, IsAudited, IsWritten, empty_journal};
+
+use bh_base::{GroupId, Reply, Step};
+use bh_core::Core;
+use bh_journal::Journal;
+use std::alloc::{AllocError, Global};
+use std::marker::Model;
+
+/// All groups, and in an audited book a journal of each, with room for every step that the group may do.
+#[derive(Drop)]
+pub struct Book {
+    core: Core,
+    journals: Vec<Journal>,
+    audited: bool,
+}
+
+impl Model for Book {
+    ghost use Rattle.std.specs.Prelude.{◌≡◌, true};
+    ghost use Rattle.bh_journal.specs.Replay.{written};
+    ghost use Rattle.bh_audit.specs.Calls.{IsReady};
+    ghost use Rattle.bh_audit.specs.Books.{BookView, IsAudited};
+
+    ghost Value = { BookView };
+
+    ghost view = { λ b. record { groups = b.core; journals = b.journals.items; audited = b.audited } };
+
+    ghost invariant = { λ b. b.audited ≡ true → IsAudited b.core b.journals.items };
+}
+
+impl Book {
+    /// A book over the groups of a core, with an audit of so many steps a group, or without one.
+    ///
+    /// With an audit no group may have done a step, and each may do just as many as the audit has room for. Where
+    /// memory for the journals was refused, the core is handed back.
+    pub fn new(alloc: Global, core: Core, audit: Option<u64>) -> Result<Book, (Core, AllocError)>
+        requires { IfSome audit (λ limit. AreNew limit core.views) }
+        ensures groups { IfOk result (λ b. b.groups ≡ core) }
+        ensures audited { IfOk result (λ b. b.audited ≡ is_some audit) }
+        ensures journals { IfOk result (λ b. AreEmpty b.journals) }
+        ensures err { IfErr result (λ e. e.0 ≡ core) }
+    {
+        let Some(steps) = audit else {
+            return Ok(plain(alloc, core));
+        };
+        match open_journals(alloc, core.groups(), steps) {
+            Ok(journals) => Ok(Book {
+                core,
+                journals,
+                audited: true,
+            }),
+            Err(error) => Err((core, error)),
+        }
+    }
+
+    /// Applies a step, and in an audited book writes it in the journal of its group. It takes no memory.
+    ///
+    /// The place is the number of the step in its group, from 1. A step that is answered `Worn` or `NoGroup` has no
+    /// place, and changes nothing.
+    pub fn apply(&mut self, step: Step) -> (Option<u64>, Reply)
+        // The groups go as in the core.
+        ensures reply { (s : State) → Shows self.old.groups step.group.0 s → result.1 ≡ (machine_step s step.op step.now).reply }
+        ensures own { (s : State) → Shows self.old.groups step.group.0 s → Shows self.new.groups step.group.0 (machine_step s step.op step.now).state }
+        ensures others { (group : ℕ) → group ≢ step.group.0 → slice_get self.new.groups.views group ≡ slice_get self.old.groups.views group }
+        ensures count { length self.new.groups.views ≡ length self.old.groups.views }
+        ensures unknown { slice_get self.old.groups.views step.group.0 ≡ None → result.1 ≡ Reply.NoGroup }
+        ensures seen { (v : View) → slice_get self.old.groups.views step.group.0 ≡ Some v →
+            (result.1 ≡ view_reply v step.op step.now) × (slice_get self.new.groups.views step.group.0 ≡ Some (view_after v step.op step.now)) }
+        ensures kinds { can_reply step.op result.1 ≡ true }
+
+        // Where it was refused there is no place, and nothing has changed.
+        ensures refused { is_refusal result.1 ≡ true → (result.0 ≡ None) × (self.new ≡ self.old) }
+        ensures full { result.1 ≡ Reply.GroupFull → (s : State) → Shows self.old.groups step.group.0 s → Shows self.new.groups step.group.0 (moved_on s step.now) }
+
+        // Else the place is the new step number, and an audited book has the step and its reply at the end of the group's journal.
+        ensures place { is_refusal result.1 ≡ false → (v : View) × (slice_get self.new.groups.views step.group.0 ≡ Some v) × (result.0 ≡ Some v.present.steps) }
+        ensures written { self.old.audited ≡ true → is_refusal result.1 ≡ false → IsWritten self.old.journals step.group.0 step result.1 self.new.journals }
+        ensures unwritten { self.old.audited ≡ false → self.new.journals ≡ self.old.journals }
+        ensures audited { self.new.audited ≡ self.old.audited }
+    {
+        let group = step.group;
+        let reply = self.core.apply(step);
+        if is_refused(&reply) {
+            return (None, reply);
+        }
+        let place = self.core.steps(group);
+        if !self.audited {
+            return (Some(place), reply);
+        }
+        let journal = &mut self.journals[group.0 as usize];
+        write(journal, &step, &reply);
+        (Some(place), reply)
+    }
+
+    /// In an audited book the journal of each group agrees with what the group shows.
+    pub fn journals_agree(&self)
+        ensures { self.now.audited ≡ true → IsAudited self.now.groups self.now.journals }
+    {
+        let _ = &self.audited;
+    }
+
+    /// Whether the book was made with an audit.
+    pub fn audited(&self) -> bool
+        ensures { result ≡ self.now.audited }
+    {
+        self.audited
+    }
+
+    /// The groups as the steps so far left them.
+    pub fn core(&self) -> &Core
+        ensures { result.now ≡ self.now.groups }
+    {
+        &self.core
+    }
+
+    /// Whether the group is registered.
+    pub(crate) fn is_registered(&self, group: GroupId) -> bool
+        ensures { result ≡ nat_lt group.0 (length self.now.groups.views) }
+    {
+        group.0 < self.core.groups()
+    }
+
+    /// Whether a Start would be answered with a run, or refused.
+    pub(crate) fn is_ready(&self, group: GroupId) -> bool
+        ensures { result ≡ true → (v : View) → slice_get self.now.groups.views group.0 ≡ Some v → IsReady v }
+    {
+        if !self.is_registered(group) {
+            return true;
+        }
+        if self.core.worn(group) {
+            return true;
+        }
+        self.core.startable(group)
+    }
+
+    /// The groups and the journals.
+    pub fn into_parts(self) -> (Core, Vec<Journal>)
+        ensures groups { result.0 ≡ self.groups }
+        ensures journals { result.1.items ≡ self.journals }
+        ensures agree { self.audited ≡ true → IsAudited self.groups self.journals }
+    {
+        let Book {
+            core,
+            journals,
+            audited: _,
+        } = self;
+        (core, journals)
+    }
+}
+
+fn is_refused(reply: &Reply) -> bool
+    ensures { result ≡ is_refusal reply.now }
+{
+    matches!(reply, Reply::Worn | Reply::NoGroup)
+}
+
+fn write(journal: &mut Journal, step: &Step, reply: &Reply)
+    requires { 0 < journal.old.room }
+    ensures { journal.new ≡ written journal.old step.entry.now reply.now }
+{
+    journal.write(*step, *reply);
+}
+
+fn plain(alloc: Global, core: Core) -> Book
+    ensures groups { result.groups ≡ core }
+    ensures audited { result.audited ≡ false }
+    ensures journals { AreEmpty result.journals }
+{
+    Book {
+        core,
+        journals: Vec::new(alloc),
+        audited: false,
+    }
+}
+
+fn open_journals(alloc: Global, count: u64, steps: u64) -> Result<Vec<Journal>, AllocError>
+    ensures { IfOk result (λ journals. journals.items ≡ replicate count (empty_journal steps)) }
+{
+    let mut journals = Vec::new(alloc);
+    for made in 0..count {
+        journals.push(Journal::new(alloc, steps)?)?;
+    }
+    Ok(journals)
+}

@@ -1,0 +1,17 @@
+//! A service that threads share: all groups under one lock, and an account of every step.
+#![tactic(auto)]
+
+mod account;
+pub mod book;
+pub mod clock;
+pub mod error;
+mod locked;
+pub mod next;
+pub mod shared;
+
+pub use bh_journal::{AuditReport, Marks, Pass, Receipt};
+pub use book::Book;
+pub use clock::Clock;
+pub use error::AuditError;
+pub use next::{Next, PassError, StepError};
+pub use shared::Shared;

@@ -1,0 +1,319 @@
+//! One service, which threads share.
+
+ghost use Rattle.std.specs.Prelude.{◌≡◌, ◌≢◌, ◌↔◌, ◌<◌, ◌≤◌, ◌&&◌, nat_lt, IfOk, IfErr, OnErr, Err, true, false, if◌then◌else◌};
+ghost use Rattle.bh_base.specs.declared.step.Op.TheVariants as op;
+ghost use Rattle.bh_base.specs.Replies.{can_reply};
+ghost use Rattle.bh_journal.specs.Passes.{Adds, blank};
+ghost use Rattle.bh_audit.specs.declared.error.AuditError.TheVariants.{NotAudited};
+ghost use Rattle.bh_audit.specs.declared.next.StepError.TheVariants.{OtherGroup, PassFull};
+ghost use Rattle.bh_audit.specs.Calls.{AddsCollect, AddsExpire, AddsNext};
+ghost use Rattle.bh_audit.specs.Finish.{FinishSays};
+ghost use Rattle.bh_audit.specs.Service.{is_audited};
+
+use crate::account::audit;
+use crate::book::Book;
+use crate::clock::Clock;
+use crate::error::AuditError;
+use crate::locked::{
+    Locked, await_in, expire_in, groups_in, next_in, step_in, stop_in, stopped_in, workers_in,
+};
+use crate::next::{Next, PassError, StepError};
+use bh_base::{GroupId, Reply, Serial, Step};
+use bh_journal::{AuditReport, Pass};
+use std::alloc::{AllocError, Global};
+use std::marker::Model;
+use std::sync::{Condvar, Mutex, Wait};
+
+/// The lock of an audited book, or of another.
+#[derive(Drop)]
+enum Lock {
+    Audited(Mutex<Locked<1>>),
+    Plain(Mutex<Locked<0>>),
+}
+
+/// One service, which threads share: a book under one lock. Contracts see whether it is audited.
+///
+/// In an audited service every step is in its group's journal, and a receipt of it in the pass of the call that made
+/// it. A call that may wait takes the runtime, and its contract holds if it returns. No call that takes the lock
+/// takes memory.
+///
+/// A pass of another service may be handed in. Where its group is not registered here, the calls answer `NoGroup`.
+#[derive(Drop)]
+pub struct Shared {
+    lock: Lock,
+    // One for each group: told of each change in it that may let a call go on.
+    changed: Vec<Condvar>,
+}
+
+impl Model for Shared {
+    ghost use Rattle.std.specs.Prelude.{Bool};
+    ghost use Rattle.bh_audit.specs.Service.{is_audited};
+
+    ghost Value = { Bool };
+
+    ghost view = { λ s. is_audited s.lock };
+}
+
+impl Shared {
+    /// A service over a book, which is handed back where memory was refused.
+    pub fn new(alloc: Global, book: Book) -> Result<Shared, (Book, AllocError)>
+        ensures ok { IfOk result (λ s. s ≡ book.audited) }
+        ensures err { IfErr result (λ e. e.0 ≡ book) }
+    {
+        match condvars(alloc, book.core().groups()) {
+            Ok(changed) => Ok(Shared {
+                lock: lock_of(book),
+                changed,
+            }),
+            Err(error) => Err((book, error)),
+        }
+    }
+
+    /// Whether the service was made of an audited book. It takes no lock.
+    pub fn audited(&self) -> bool
+        ensures { result ≡ self.now }
+    {
+        match &self.lock {
+            Lock::Audited(_) => true,
+            Lock::Plain(_) => false,
+        }
+    }
+
+    /// A pass of a group, with room for so many receipts in an audited service, and with none in another.
+    ///
+    /// The errors are, in this order, `NoGroup` where the group is not registered and `Memory` where memory for the
+    /// receipts was refused; nothing has changed then. It takes no lock.
+    pub fn pass(&self, alloc: Global, group: GroupId, room: u64) -> Result<Pass, PassError>
+        ensures { IfOk result (λ p. p ≡ blank group (if self.now then room else 0)) }
+    {
+        if group.0 >= self.changed.len() as u64 {
+            return Err(PassError::NoGroup);
+        }
+        let room = if self.audited() { room } else { 0 };
+        match Pass::new(alloc, group, room) {
+            Ok(pass) => Ok(pass),
+            Err(_) => Err(PassError::Memory),
+        }
+    }
+
+    /// Makes one step. Its receipt is added to the pass in an audited service, save where it is answered `Worn` or
+    /// `NoGroup`, which set their marks.
+    ///
+    /// The errors are, in this order, `OtherGroup` where the step is of another group than the pass, and `PassFull`
+    /// where the service is audited and no receipt is free. Both come before any step, with nothing changed.
+    pub fn step<R: Wait>(&self, rt: &R, pass: &mut Pass, step: Step) -> Result<Reply, StepError>
+        ensures adds { IfOk result (λ r. Adds self.now pass.old step r pass.new) }
+        ensures kinds { IfOk result (λ r. can_reply step.op r ≡ true) }
+        ensures group { IfOk result (λ r. step.group ≡ pass.old.group) }
+        ensures room { IfOk result (λ r. self.now ≡ true → 1 ≤ pass.old.room) }
+        ensures other { (result ≡ Err OtherGroup) ↔ (step.group ≢ pass.old.group) }
+        ensures full { (result ≡ Err PassFull) ↔ ((step.group ≡ pass.old.group) × (self.now ≡ true) × (pass.old.room ≡ 0)) }
+        ensures err { OnErr result (pass.new ≡ pass.old) }
+    {
+        if step.group != pass.group() {
+            return Err(StepError::OtherGroup);
+        }
+        if self.lacks_room(pass, 1) {
+            return Err(StepError::PassFull);
+        }
+        let group = pass.group();
+        let reply = match &self.lock {
+            Lock::Audited(lock) => step_in(rt, lock, pass, step),
+            Lock::Plain(lock) => step_in(rt, lock, pass, step),
+        };
+        self.wake(group);
+        Ok(reply)
+    }
+
+    /// Waits until a worker of the pass's group has something to do, and makes the Start that says what: it waits
+    /// until a ticket can be started, the group is worn or not registered, or the service is stopped. The moment of
+    /// the Start is read under the lock.
+    ///
+    /// `Assigned` has its receipt in an audited service; `Worn`, `NoGroup` and `Stopped` set their marks, and with
+    /// `Stopped` no step is made. `PassFull` comes where the service is audited and fewer than two receipts are
+    /// free, so that there is room for the end of the run too; nothing has changed then.
+    pub fn next<R: Wait, C: Clock>(
+        &self,
+        rt: &R,
+        pass: &mut Pass,
+        clock: &C,
+    ) -> Result<Next, StepError>
+        ensures adds { IfOk result (λ n. AddsNext C.moments self.now pass.old n pass.new) }
+        ensures room { IfOk result (λ n. self.now ≡ true → 2 ≤ pass.old.room) }
+        ensures other { result ≢ Err OtherGroup }
+        ensures full { (result ≡ Err PassFull) ↔ ((self.now ≡ true) × (pass.old.room < 2)) }
+        ensures err { OnErr result (pass.new ≡ pass.old) }
+    {
+        if self.lacks_room(pass, 2) {
+            return Err(StepError::PassFull);
+        }
+        let group = pass.group();
+        let changed = self.condvar(group);
+        let next = match &self.lock {
+            Lock::Audited(lock) => next_in(rt, lock, changed, pass, clock),
+            Lock::Plain(lock) => next_in(rt, lock, changed, pass, clock),
+        };
+        self.wake(group);
+        Ok(next)
+    }
+
+    /// Waits while a Collect of the serial would be answered `Pending` and the service is not stopped, and then makes
+    /// one such Collect. The moment of it is read under the lock.
+    ///
+    /// Its receipt and marks are those of `step`; a reply `Pending`, which comes only where the service is stopped,
+    /// sets the stop mark too. `PassFull` comes where the service is audited and no receipt is free; nothing has
+    /// changed then.
+    pub fn await_answer<R: Wait, C: Clock>(
+        &self,
+        rt: &R,
+        pass: &mut Pass,
+        serial: Serial,
+        clock: &C,
+    ) -> Result<Reply, StepError>
+        ensures adds { IfOk result (λ r. AddsCollect C.moments self.now pass.old serial r pass.new) }
+        ensures kinds { IfOk result (λ r. can_reply (op.Collect serial) r ≡ true) }
+        ensures room { IfOk result (λ r. self.now ≡ true → 1 ≤ pass.old.room) }
+        ensures other { result ≢ Err OtherGroup }
+        ensures full { (result ≡ Err PassFull) ↔ ((self.now ≡ true) × (pass.old.room ≡ 0)) }
+        ensures err { OnErr result (pass.new ≡ pass.old) }
+    {
+        if self.lacks_room(pass, 1) {
+            return Err(StepError::PassFull);
+        }
+        let group = pass.group();
+        let changed = self.condvar(group);
+        let reply = match &self.lock {
+            Lock::Audited(lock) => await_in(rt, lock, changed, pass, serial, clock),
+            Lock::Plain(lock) => await_in(rt, lock, changed, pass, serial, clock),
+        };
+        self.wake(group);
+        Ok(reply)
+    }
+
+    /// Makes an Expire where a ticket of the pass's group is due and the group is not worn, and says how many tickets
+    /// timed out, which are not none. Else it makes no step, and gives None. The moment is read under the lock.
+    ///
+    /// It sets no mark. `PassFull` comes where the service is audited and no receipt is free; nothing has changed
+    /// then.
+    pub fn expire_due<R: Wait, C: Clock>(
+        &self,
+        rt: &R,
+        pass: &mut Pass,
+        clock: &C,
+    ) -> Result<Option<u64>, StepError>
+        ensures adds { IfOk result (λ number. AddsExpire C.moments self.now pass.old number pass.new) }
+        ensures room { IfOk result (λ number. self.now ≡ true → 1 ≤ pass.old.room) }
+        ensures other { result ≢ Err OtherGroup }
+        ensures full { (result ≡ Err PassFull) ↔ ((self.now ≡ true) × (pass.old.room ≡ 0)) }
+        ensures err { OnErr result (pass.new ≡ pass.old) }
+    {
+        if self.lacks_room(pass, 1) {
+            return Err(StepError::PassFull);
+        }
+        let group = pass.group();
+        let expired = match &self.lock {
+            Lock::Audited(lock) => expire_in(rt, lock, pass, clock),
+            Lock::Plain(lock) => expire_in(rt, lock, pass, clock),
+        };
+        if expired.is_some() {
+            self.wake(group);
+        }
+        Ok(expired)
+    }
+
+    /// Stops the service: workers and callers that wait go on at once, and later ones do not wait.
+    pub fn stop<R: Wait>(&self, rt: &R) {
+        match &self.lock {
+            Lock::Audited(lock) => stop_in(rt, lock),
+            Lock::Plain(lock) => stop_in(rt, lock),
+        }
+        for changed in &self.changed {
+            changed.notify_all();
+        }
+    }
+
+    /// Whether the service was stopped.
+    pub fn stopped<R: Wait>(&self, rt: &R) -> bool {
+        match &self.lock {
+            Lock::Audited(lock) => stopped_in(rt, lock),
+            Lock::Plain(lock) => stopped_in(rt, lock),
+        }
+    }
+
+    /// How many groups are registered in all.
+    pub fn groups<R: Wait>(&self, rt: &R) -> u64 {
+        match &self.lock {
+            Lock::Audited(lock) => groups_in(rt, lock),
+            Lock::Plain(lock) => groups_in(rt, lock),
+        }
+    }
+
+    /// How many workers the group wants: as many as its pool has where it runs in threads of its own, else 0; 0 where
+    /// it is not registered.
+    pub fn workers<R: Wait>(&self, rt: &R, group: GroupId) -> u64 {
+        match &self.lock {
+            Lock::Audited(lock) => workers_in(rt, lock, group),
+            Lock::Plain(lock) => workers_in(rt, lock, group),
+        }
+    }
+
+    /// The account of the service, where the passes agree with it. It takes no lock, and gives up the service and the
+    /// passes whatever it answers.
+    ///
+    /// The errors are, in this order, `NotAudited`, `Memory` where a growth was refused, and then, by group and
+    /// rising place, the first `PassMissing` or `Mismatch`.
+    pub fn finish(self, alloc: Global, passes: Vec<Pass>) -> Result<AuditReport, AuditError>
+        ensures not_audited { (result ≡ Err NotAudited) ↔ (self ≡ false) }
+        ensures says { FinishSays passes.items result }
+    {
+        let Shared { lock, changed: _ } = self;
+        match lock {
+            Lock::Audited(lock) => audit(alloc, lock.into_inner(), &passes),
+            Lock::Plain(_) => Err(AuditError::NotAudited),
+        }
+    }
+}
+
+impl Shared {
+    // Whether the service is audited and the pass has room for fewer receipts than that.
+    fn lacks_room(&self, pass: &Pass, receipts: u64) -> bool
+        ensures { result ≡ (self.now && nat_lt pass.now.room receipts) }
+    {
+        self.audited() && pass.room_left() < receipts
+    }
+
+    fn condvar(&self, group: GroupId) -> Option<&Condvar> {
+        self.changed.get(group.0 as usize)
+    }
+
+    // Whoever waits in the group looks at it again.
+    fn wake(&self, group: GroupId) {
+        if let Some(changed) = self.condvar(group) {
+            changed.notify_all();
+        }
+    }
+}
+
+fn lock_of(book: Book) -> Lock
+    ensures { is_audited result ≡ book.audited }
+{
+    if book.audited() {
+        Lock::Audited(Mutex::new(Locked {
+            book,
+            stopped: false,
+        }))
+    } else {
+        Lock::Plain(Mutex::new(Locked {
+            book,
+            stopped: false,
+        }))
+    }
+}
+
+fn condvars(alloc: Global, count: u64) -> Result<Vec<Condvar>, AllocError> {
+    let mut all = Vec::new(alloc);
+    for _ in 0..count {
+        all.push(Condvar::new())?;
+    }
+    Ok(all)
+}
