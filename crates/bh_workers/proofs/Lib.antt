@@ -1,0 +1,4 @@
+pub mod Adding
+pub mod Working
+pub mod Calling
+pub mod Expiring

@@ -1,0 +1,5 @@
+pub mod Receipts
+pub mod Work
+pub mod Calls
+pub mod Collecting
+pub mod Timing

@@ -1,0 +1,165 @@
+//! One call: a request, from its Submit to its answer.
+
+ghost use Rattle.std.specs.Prelude.{◌≡◌, ◌↔◌, ◌+◌, ◌<◌, ◌≤◌, true, Err};
+ghost use Rattle.bh_base.specs.declared.reply.CallError.TheVariants.{PassFull};
+ghost use Rattle.bh_workers.specs.Calls.{CallAdds, IsCall, IsCollectedLast, IsFallenBack, IsRunInline, IsSettled};
+ghost use Rattle.bh_workers.specs.Collecting.{CollectAdds};
+
+use crate::dependency::Dependency;
+use crate::stepping::make_step;
+use crate::worker::end_op;
+use bh_audit::{Clock, Shared};
+use bh_base::{Answer, CallError, Cause, Op, Reply, Request, Serial, Text};
+use bh_journal::Pass;
+use std::sync::Wait;
+
+/// The most receipts that a call adds.
+const MOST_RECEIPTS: u64 = 5;
+
+/// Submits the request and waits for its answer.
+pub fn call<D: Dependency, C: Clock, R: Wait>(
+    rt: &R,
+    shared: &Shared,
+    pass: &mut Pass,
+    dependency: &D,
+    clock: &C,
+    request: Request,
+) -> Result<Answer, CallError>
+    ensures call { CallAdds shared.now pass.old result pass.new (IsCall D.ends D.fallback_ends C.moments pass.old.group request result) }
+    ensures full { (result ≡ Err PassFull) ↔ ((shared.now ≡ true) × (pass.old.room < 5)) }
+{
+    if shared.audited() && pass.room_left() < MOST_RECEIPTS {
+        return Err(CallError::PassFull);
+    }
+    let reply = make_step(rt, shared, pass, clock, Op::Submit(request));
+    let arg = &request.arg;
+    match &reply {
+        Reply::Queued(serial) => settle(rt, shared, pass, dependency, clock, *serial, arg),
+        Reply::Joined(serial) => settle(rt, shared, pass, dependency, clock, *serial, arg),
+        Reply::FallbackDue { serial, .. } => {
+            settle(rt, shared, pass, dependency, clock, *serial, arg)
+        }
+        Reply::Inline(serial) => run_inline(rt, shared, pass, dependency, clock, *serial, arg),
+        Reply::GroupFull => Err(CallError::GroupFull),
+        Reply::Worn => Err(CallError::Worn),
+        Reply::NoGroup => Err(CallError::NoGroup),
+        _ => unreachable!(),
+    }
+}
+
+/// Runs the ticket, tells its end and waits for the answer.
+fn run_inline<D: Dependency, C: Clock, R: Wait>(
+    rt: &R,
+    shared: &Shared,
+    pass: &mut Pass,
+    dependency: &D,
+    clock: &C,
+    serial: Serial,
+    arg: &Text<64>,
+) -> Result<Answer, CallError>
+    requires { shared.now ≡ true → 4 ≤ pass.old.room }
+    ensures { CallAdds shared.now pass.old result pass.new (IsRunInline D.ends D.fallback_ends C.moments pass.old.group serial arg.now result) }
+{
+    let end = dependency.run(pass.group(), arg);
+    let reply = make_step(rt, shared, pass, clock, end_op(serial, end));
+    match &reply {
+        Reply::Worn => Err(CallError::Worn),
+        Reply::NoGroup => Err(CallError::NoGroup),
+        _ => settle(rt, shared, pass, dependency, clock, serial, arg),
+    }
+}
+
+/// Waits for the answer of the ticket, and runs its fallback where that is due.
+fn settle<D: Dependency, C: Clock, R: Wait>(
+    rt: &R,
+    shared: &Shared,
+    pass: &mut Pass,
+    dependency: &D,
+    clock: &C,
+    serial: Serial,
+    arg: &Text<64>,
+) -> Result<Answer, CallError>
+    requires { shared.now ≡ true → 3 ≤ pass.old.room }
+    ensures { CallAdds shared.now pass.old result pass.new (IsSettled D.fallback_ends C.moments pass.old.group serial arg.now result) }
+{
+    match collect(rt, shared, pass, clock, serial) {
+        Collected::Ended(result) => result,
+        Collected::Fallback(cause) => {
+            fall_back(rt, shared, pass, dependency, clock, serial, cause, arg)
+        }
+    }
+}
+
+/// Runs the fallback of the ticket, tells its end and collects once more.
+fn fall_back<D: Dependency, C: Clock, R: Wait>(
+    rt: &R,
+    shared: &Shared,
+    pass: &mut Pass,
+    dependency: &D,
+    clock: &C,
+    serial: Serial,
+    cause: Cause,
+    arg: &Text<64>,
+) -> Result<Answer, CallError>
+    requires { shared.now ≡ true → 2 ≤ pass.old.room }
+    ensures { CallAdds shared.now pass.old result pass.new (IsFallenBack D.fallback_ends C.moments pass.old.group serial cause arg.now result) }
+{
+    let end = dependency.fallback(pass.group(), cause, arg);
+    let reply = make_step(rt, shared, pass, clock, Op::FallbackDone { serial, end });
+    match &reply {
+        Reply::Worn => Err(CallError::Worn),
+        Reply::NoGroup => Err(CallError::NoGroup),
+        _ => collect_last(rt, shared, pass, clock, serial),
+    }
+}
+
+/// Collects the ticket for the last time.
+fn collect_last<C: Clock, R: Wait>(
+    rt: &R,
+    shared: &Shared,
+    pass: &mut Pass,
+    clock: &C,
+    serial: Serial,
+) -> Result<Answer, CallError>
+    requires { shared.now ≡ true → 1 ≤ pass.old.room }
+    ensures { CallAdds shared.now pass.old result pass.new (IsCollectedLast C.moments pass.old.group serial result) }
+{
+    match collect(rt, shared, pass, clock, serial) {
+        Collected::Ended(result) => result,
+        Collected::Fallback(_) => Err(CallError::Stopped),
+    }
+}
+
+/// What a Collect led to.
+enum Collected {
+    /// The call is over.
+    Ended(Result<Answer, CallError>),
+    /// The caller is to run the fallback.
+    Fallback(Cause),
+}
+
+/// Waits until the ticket can be collected, or the service is stopped, and collects it.
+fn collect<C: Clock, R: Wait>(
+    rt: &R,
+    shared: &Shared,
+    pass: &mut Pass,
+    clock: &C,
+    serial: Serial,
+) -> Collected
+    requires { shared.now ≡ true → 1 ≤ pass.old.room }
+    ensures adds { CollectAdds C.moments shared.now pass.old serial result pass.new }
+    ensures room { pass.old.room ≤ pass.new.room + 1 }
+{
+    let Ok(reply) = shared.await_answer(rt, pass, serial, clock) else {
+        unreachable!()
+    };
+    match &reply {
+        Reply::Answered(answer) => Collected::Ended(Ok(*answer)),
+        Reply::NoTicket => Collected::Ended(Err(CallError::Taken)),
+        Reply::Pending => Collected::Ended(Err(CallError::Stopped)),
+        Reply::RunFallback(cause) => Collected::Fallback(*cause),
+        Reply::Worn => Collected::Ended(Err(CallError::Worn)),
+        Reply::NoGroup => Collected::Ended(Err(CallError::NoGroup)),
+        _ => unreachable!(),
+    }
+}

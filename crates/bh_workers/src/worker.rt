@@ -1,0 +1,95 @@
+//! A worker: it starts tickets of its pass's group, runs them and tells their ends.
+
+ghost use Rattle.std.specs.Prelude.{◌≡◌, ℕ, ◌+◌, ◌<◌, ◌≤◌, List, true, false, ◌⊎◌};
+ghost use Rattle.bh_base.specs.declared.reply.Reply.TheVariants.{NoGroup, Worn};
+ghost use Rattle.bh_base.specs.Replies.{is_refusal};
+ghost use Rattle.bh_journal.specs.declared.pass.Receipt.{Receipt};
+ghost use Rattle.bh_workers.specs.Receipts.{Gains, IsRunEnd, end_of};
+ghost use Rattle.bh_workers.specs.Work.{HasReasonToEnd, IsEnding, IsTurn, IsWork};
+
+use crate::dependency::Dependency;
+use crate::stepping::make_step;
+use bh_audit::{Clock, Next, Shared};
+use bh_base::{Op, Reply, RunEnd, Serial, Text};
+use bh_journal::Pass;
+use std::sync::Wait;
+
+/// The operation that tells how the run of the ticket ended.
+pub fn end_op(serial: Serial, end: RunEnd) -> Op
+    ensures { result ≡ end_of serial end }
+{
+    match end {
+        RunEnd::Success(body) => Op::Finish { serial, body },
+        RunEnd::Failure => Op::Fail { serial, bad: false },
+        RunEnd::BadRequest => Op::Fail { serial, bad: true },
+    }
+}
+
+/// Starts a ticket, runs it and tells its end. False where the worker is to end.
+fn turn<D: Dependency, C: Clock, R: Wait>(
+    rt: &R,
+    shared: &Shared,
+    pass: &mut Pass,
+    dependency: &D,
+    clock: &C,
+) -> bool
+    ensures adds { (made : List Receipt) × Gains shared.now pass.old pass.new made × IsTurn D.ends C.moments pass.old.group result made }
+    ensures ended { result ≡ false → HasReasonToEnd shared.now pass.new }
+{
+    let Ok(next) = shared.next(rt, pass, clock) else {
+        return false;
+    };
+    match &next {
+        Next::Assigned { serial, arg } => {
+            run_to_end(rt, shared, pass, dependency, clock, *serial, arg)
+        }
+        _ => false,
+    }
+}
+
+/// Runs the ticket and tells its end. False where the group is worn or not registered.
+fn run_to_end<D: Dependency, C: Clock, R: Wait>(
+    rt: &R,
+    shared: &Shared,
+    pass: &mut Pass,
+    dependency: &D,
+    clock: &C,
+    serial: Serial,
+    arg: &Text<64>,
+) -> bool
+    requires { shared.now ≡ true → 0 < pass.old.room }
+    ensures adds { (made : List Receipt) × Gains shared.now pass.old pass.new made × IsEnding D.ends C.moments pass.old.group serial arg.now result made }
+    ensures ended { result ≡ false → HasReasonToEnd shared.now pass.new }
+{
+    let end = dependency.run(pass.group(), arg);
+    let reply = make_step(rt, shared, pass, clock, end_op(serial, end));
+    was_taken(&reply)
+}
+
+/// Whether the step was made.
+fn was_taken(reply: &Reply) -> bool
+    ensures taken { result ≡ true → is_refusal reply.now ≡ false }
+    ensures refused { result ≡ false → (reply.now ≡ Worn) ⊎ (reply.now ≡ NoGroup) }
+{
+    !matches!(reply, Reply::Worn | Reply::NoGroup)
+}
+
+/// Starts the tickets of the pass's group one after another, runs each and tells its end, until the service is
+/// stopped, the group is worn or not registered, or the pass has no room for one more run.
+pub fn worker_loop<D: Dependency, C: Clock, R: Wait>(
+    rt: &R,
+    shared: &Shared,
+    pass: &mut Pass,
+    dependency: &D,
+    clock: &C,
+)
+    ensures work { (made : List Receipt) × Gains shared.now pass.old pass.new made × IsWork D.ends C.moments pass.old.group made }
+    ensures ended { HasReasonToEnd shared.now pass.new }
+{
+    for _ in rt.forever() {
+        if !turn(rt, shared, pass, dependency, clock) {
+            return;
+        }
+    }
+    unreachable!()
+}
