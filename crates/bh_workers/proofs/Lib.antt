@@ -2,3 +2,4 @@ pub mod Adding
 pub mod Working
 pub mod Calling
 pub mod Expiring
+pub mod Drives

@@ -3,3 +3,5 @@ pub mod Work
 pub mod Calls
 pub mod Collecting
 pub mod Timing
+pub mod Driving
+pub mod Callers

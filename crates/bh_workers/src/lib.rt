@@ -2,12 +2,19 @@
 #![tactic(auto)]
 
 pub mod caller;
+mod calls;
+mod crew;
 pub mod dependency;
+pub mod driven;
+pub mod driving;
+mod room;
 mod stepping;
 pub mod timer;
 pub mod worker;
 
 pub use caller::call;
 pub use dependency::{Dependency, Pace};
+pub use driven::{DriveError, Driven, RequestList};
+pub use driving::drive;
 pub use timer::timer_loop;
 pub use worker::worker_loop;

@@ -1,0 +1,211 @@
+-- What all threads of a drive add up to.
+use Rattle.std.proofs.Common.{◌≡◌, ℕ, zero, suc, ◌+◌, ◌<◌, ◌≤◌, Bool, true, false, List, [], ◌∷◌, ◌++◌, length, map, take, drop, slice_get, Option, Some, None, ◌⊎◌, inl, inr, refl, sym, ap, ◌∙◌, append_assoc, append-nil, length-append, subst, arith}
+use Rattle.std.specs.Prelude.{IfOk, Ok, Err, Result, vec_items}
+use Rattle.std.specs.List.{AllByRecursion}
+use Rattle.std.specs.declared.thread.PromisedHandle.{PromisedHandle}
+use Rattle.std.proofs.lemmas.List.{take-append-le, take_all}
+use Rattle.bh_base.specs.declared.step.GroupId.{GroupId}
+use Rattle.bh_base.specs.declared.step.FallbackEnd.{FallbackEnd}
+use Rattle.bh_base.specs.declared.step.Request.{Request}
+use Rattle.bh_base.specs.declared.step.RunEnd.{RunEnd}
+use Rattle.bh_base.specs.declared.reply.Answer.{Answer}
+use Rattle.bh_base.specs.declared.reply.CallError.{CallError}
+use Rattle.bh_base.specs.declared.reply.CallError.TheVariants as error
+use Rattle.bh_base.specs.declared.reply.Cause.{Cause}
+use Rattle.bh_journal.specs.declared.pass.Marks.{Marks}
+use Rattle.bh_journal.specs.declared.pass.Receipt.{Receipt}
+use Rattle.bh_journal.specs.Passes.{PassView}
+use Rattle.bh_audit.proofs.Lists.{one_item}
+use Rattle.bh_workers.specs.declared.calls.Called.{Called}
+use Rattle.bh_workers.specs.declared.calls.CallerOf.{CallerOf}
+use Rattle.bh_workers.specs.declared.driven.DriveError.{DriveError}
+use Rattle.bh_workers.specs.declared.driven.Driven.{Driven}
+use Rattle.bh_workers.specs.declared.driven.RequestList.{RequestList}
+use Rattle.bh_workers.specs.Receipts.{Gains, kept}
+use Rattle.bh_workers.specs.Calls.{CallAdds, EndsInFallback, IsCall, MarksAre}
+use Rattle.bh_workers.specs.Callers.{AllCallers, CalledAs, IsCallerOf, MakesCall}
+use Rattle.bh_workers.specs.Driving.{AreCallers, AreCalls, IsCaller, IsDriven, IsMarked, IsTimerPass, IsWorkerPass}
+use Rattle.bh_workers.specs.Timing.{AreExpiries, AreTimed, IsTimed}
+
+-- what was added to an empty pass is all that it has
+pub all_gained : (a : Bool) (p q : PassView) (made : List Receipt) (IsSo : GroupId → List Receipt → Type 0) → p.receipts ≡ [] → Gains a p q made → IsSo p.group made → IsSo p.group [] → IsSo q.group q.receipts
+all_gained true p q made IsSo none g so nil =
+    let receipts : q.receipts ≡ made = g.receipts ∙ ap (λ (x : List Receipt). x ++ made) none in
+    subst (λ x. IsSo x q.receipts) (sym g.group) (subst (λ x. IsSo p.group x) (sym receipts) so)
+all_gained false p q made IsSo none g so nil =
+    let receipts : q.receipts ≡ [] = g.receipts ∙ append-nil p.receipts ∙ none in
+    subst (λ x. IsSo x q.receipts) (sym g.group) (subst (λ x. IsSo p.group x) (sym receipts) nil)
+
+-- one more item
+pub all_push : {X : Type 0} (IsSo : X → Type 0) (xs : List X) (x : X) → AllByRecursion IsSo xs → IsSo x → AllByRecursion IsSo (xs ++ x ∷ [])
+all_push IsSo [] x all so = (so, tt)
+all_push IsSo (y ∷ ys) x all so = (all.0, all_push IsSo ys x all.1 so)
+
+-- what is so of the item at each place is so of all
+pub all_places : {X : Type 0} (IsSo : X → Type 0) (xs : List X) → ((k : ℕ) (x : X) → slice_get xs k ≡ Some x → IsSo x) → AllByRecursion IsSo xs
+all_places IsSo [] each = tt
+all_places IsSo (x ∷ xs) each = (each 0 x refl, all_places IsSo xs (λ k y at. each (suc k) y at))
+
+-- a slice of the whole, written back
+pub whole_back : (n : ℕ) (new old : List PassView) → length new ≡ length old → n ≡ length old → take n (new ++ drop (length new) old) ≡ new
+whole_back n new old e f =
+    let le : n ≤ length new = omega arith in
+    let le' : length new ≤ n = omega arith in
+    rw take-append-le (take_all n new le')
+
+-- passes that were empty before the timer was at them
+pub timer_passes : (moments : ℕ → Type 0) (a : Bool) (old new : List PassView) → AllByRecursion (λ (p : PassView). p.receipts ≡ []) old → AreTimed moments a old new → AllByRecursion (IsTimerPass moments) new
+timer_passes moments a [] [] none t = tt
+timer_passes moments a [] (q ∷ qs) none t = absurd (let e = t.count in omega arith)
+timer_passes moments a (p ∷ ps) [] none t = absurd (let e = t.count in omega arith)
+timer_passes moments a (p ∷ ps) (q ∷ qs) none t =
+    let h = t.each 0 p q refl refl in (
+      all_gained a p q h.made (AreExpiries moments) none.0 h.gains h.expiries tt,
+      timer_passes moments a ps qs none.1 (record { count = (let e = t.count in omega arith); each = λ k x y at is. t.each (suc k) x y at is }),
+    )
+
+-- marks that were set stay set
+record MarksStay (m m' : Marks) : Type 0 where
+  pub worn : m.worn ≡ true → m'.worn ≡ true
+  pub no_group : m.no_group ≡ true → m'.no_group ≡ true
+  pub stopped : m.stopped ≡ true → m'.stopped ≡ true
+
+same_stay : (m m' : Marks) → m' ≡ m → MarksStay m m'
+same_stay m m' e = record { worn = λ h. ap (λ (x : Marks). x.worn) e ∙ h; no_group = λ h. ap (λ (x : Marks). x.no_group) e ∙ h; stopped = λ h. ap (λ (x : Marks). x.stopped) e ∙ h }
+
+marks_stay : (result : Result Answer CallError) (made : List Receipt) (m m' : Marks) → MarksAre result made m m' → MarksStay m m'
+marks_stay (Ok answer) made m m' h = same_stay m m' h
+marks_stay (Err error.GroupFull) made m m' h = same_stay m m' h
+marks_stay (Err error.PassFull) made m m' h = same_stay m m' h
+marks_stay (Err error.Taken) made m m' h = same_stay m m' h
+marks_stay (Err error.Worn) made m m' h =
+    record { worn = λ k. ap (λ (x : Marks). x.worn) h; no_group = λ k. ap (λ (x : Marks). x.no_group) h ∙ k; stopped = λ k. ap (λ (x : Marks). x.stopped) h ∙ k }
+marks_stay (Err error.NoGroup) made m m' h =
+    record { worn = λ k. ap (λ (x : Marks). x.worn) h ∙ k; no_group = λ k. ap (λ (x : Marks). x.no_group) h; stopped = λ k. ap (λ (x : Marks). x.stopped) h ∙ k }
+marks_stay (Err error.Stopped) made m m' (inl h) =
+    record { worn = λ k. ap (λ (x : Marks). x.worn) h ∙ k; no_group = λ k. ap (λ (x : Marks). x.no_group) h ∙ k; stopped = λ k. ap (λ (x : Marks). x.stopped) h }
+marks_stay (Err error.Stopped) made m m' (inr h) = same_stay m m' h.0
+
+-- the marks after a call tell why it ended
+marked : (result : Result Answer CallError) (made : List Receipt) (m m' : Marks) → MarksAre result made m m' → IsMarked m' result made
+marked (Ok answer) made m m' h = tt
+marked (Err error.GroupFull) made m m' h = tt
+marked (Err error.PassFull) made m m' h = tt
+marked (Err error.Taken) made m m' h = tt
+marked (Err error.Worn) made m m' h = ap (λ (x : Marks). x.worn) h
+marked (Err error.NoGroup) made m m' h = ap (λ (x : Marks). x.no_group) h
+marked (Err error.Stopped) made m m' (inl h) = inl (ap (λ (x : Marks). x.stopped) h)
+marked (Err error.Stopped) made m m' (inr h) = inr h.1
+
+-- and so do later marks
+still_marked : (result : Result Answer CallError) (part : List Receipt) (m m' : Marks) → MarksStay m m' → IsMarked m result part → IsMarked m' result part
+still_marked (Ok answer) part m m' s h = tt
+still_marked (Err error.GroupFull) part m m' s h = tt
+still_marked (Err error.PassFull) part m m' s h = tt
+still_marked (Err error.Taken) part m m' s h = tt
+still_marked (Err error.Worn) part m m' s h = s.worn h
+still_marked (Err error.NoGroup) part m m' s h = s.no_group h
+still_marked (Err error.Stopped) part m m' s (inl h) = inl (s.stopped h)
+still_marked (Err error.Stopped) part m m' s (inr h) = inr h
+
+module _ (ends : GroupId → List ℕ → RunEnd → Type 0) (fallback_ends : GroupId → Cause → List ℕ → FallbackEnd → Type 0) (moments : ℕ → Type 0) where
+  -- calls, and one more
+  calls_then : (g : GroupId) (m m' : Marks) (qs : List Request) (bs : List (Result Answer CallError)) (rs : List Receipt) (q : Request) (b : Result Answer CallError) (part : List Receipt)
+      → MarksStay m m' → AreCalls ends fallback_ends moments g m qs bs rs → IsCall ends fallback_ends moments g q b part → IsMarked m' b part
+      → AreCalls ends fallback_ends moments g m' (qs ++ q ∷ []) (bs ++ b ∷ []) (rs ++ part)
+  calls_then g m m' [] [] rs q b part s h k now = (part, [], ap (λ (x : List Receipt). x ++ part) h ∙ sym (append-nil part), k, now, refl)
+  calls_then g m m' [] (x ∷ bs) rs q b part s h k now = absurd h
+  calls_then g m m' (y ∷ qs) [] rs q b part s h k now = absurd h
+  calls_then g m m' (y ∷ qs) (x ∷ bs) rs q b part s h k now = (
+    h.0,
+    h.1 ++ part,
+    ap (λ (z : List Receipt). z ++ part) h.2 ∙ append_assoc h.0 h.1 part,
+    h.3,
+    still_marked x h.0 m m' s h.4,
+    calls_then g m m' qs bs h.1 q b part s h.5 k now,
+  )
+
+  -- what the calls so far have left
+  pub record SoFar (a : Bool) (g : GroupId) (requests : List Request) (answers : List (Result Answer CallError)) (p : PassView) : Type 0 where
+    pub group : p.group ≡ g
+    pub count : length answers ≡ length requests
+    pub calls : a ≡ true → AreCalls ends fallback_ends moments g p.marks requests answers p.receipts
+
+  pub calls_begin : (a : Bool) (p : PassView) (answers : List (Result Answer CallError)) → p.receipts ≡ [] → answers ≡ [] → SoFar a p.group [] answers p
+  calls_begin a p answers none empty = record {
+    group = refl;
+    count = ap (λ (x : List (Result Answer CallError)). length x) empty;
+    calls = λ audited. subst (λ (x : List (Result Answer CallError)). AreCalls ends fallback_ends moments p.group p.marks [] x p.receipts) (sym empty) none;
+  }
+
+  pub calls_go_on : (a : Bool) (g : GroupId) (qs : List Request) (bs bs' : List (Result Answer CallError)) (p p' : PassView) (q : Request)
+      → SoFar a g qs bs p → MakesCall ends fallback_ends moments a p bs q p' bs' → SoFar a g (qs ++ q ∷ []) bs' p'
+  calls_go_on a g qs bs bs' p p' q s h =
+      let b : Result Answer CallError = h.0 in
+      let k = h.2 in
+      record {
+        group = k.gains.group ∙ s.group;
+        count = ap (λ (x : List (Result Answer CallError)). length x) h.1 ∙ longer bs b qs q s.count;
+        calls = λ audited.
+            let receipts : p'.receipts ≡ p.receipts ++ k.made = subst (λ x. p'.receipts ≡ p.receipts ++ kept x k.made) audited k.gains.receipts in
+            let call : IsCall ends fallback_ends moments g q b k.made = subst (λ x. IsCall ends fallback_ends moments x q b k.made) s.group k.is in
+            subst (λ (x : List (Result Answer CallError)). AreCalls ends fallback_ends moments g p'.marks (qs ++ q ∷ []) x p'.receipts) (sym h.1)
+            (subst (λ (x : List Receipt). AreCalls ends fallback_ends moments g p'.marks (qs ++ q ∷ []) (bs ++ b ∷ []) x) (sym receipts)
+            (calls_then g p.marks p'.marks qs bs p.receipts q b k.made (marks_stay b k.made p.marks p'.marks k.marks) (s.calls audited) call (marked b k.made p.marks p'.marks k.marks)));
+      }
+    where
+      longer : (xs : List (Result Answer CallError)) (x : Result Answer CallError) (ys : List Request) (y : Request) → length xs ≡ length ys → length (xs ++ x ∷ []) ≡ length (ys ++ y ∷ [])
+      longer xs x ys y e = let h = length-append xs (x ∷ []) in let k = length-append ys (y ∷ []) in omega arith
+
+  -- each caller gave back what its promise says
+  pub callers_from : (a : Bool) (lists : List RequestList) (called : List Called) → length called ≡ length lists
+      → ((k : ℕ) (l : RequestList) (r : Called) → slice_get lists k ≡ Some l → slice_get called k ≡ Some r → CalledAs ends fallback_ends moments a l.group l.requests.items r)
+      → AreCallers ends fallback_ends moments a lists (map vec_items (map (λ (r : Called). r.answers) called)) (map (λ (r : Called). r.pass) called)
+  callers_from a [] [] len each = tt
+  callers_from a [] (r ∷ rs) len each = absurd (let e = len in omega arith)
+  callers_from a (l ∷ ls) [] len each = absurd (let e = len in omega arith)
+  callers_from a (l ∷ ls) (r ∷ rs) len each = (each 0 l r refl refl, callers_from a ls rs (let e = len in omega arith) (λ k x y at is. each (suc k) x y at is))
+
+  pub driven_from : (a : Bool) (lists : List RequestList) (called : List Called) (workers timer : List PassView) (result : Result Driven DriveError)
+      → IfOk result (λ d. d.answers.items ≡ map (λ (r : Called). r.answers) called) → IfOk result (λ d. d.passes.items ≡ map (λ (r : Called). r.pass) called ++ (workers ++ timer))
+      → AreCallers ends fallback_ends moments a lists (map vec_items (map (λ (r : Called). r.answers) called)) (map (λ (r : Called). r.pass) called)
+      → AllByRecursion (IsWorkerPass ends moments) workers → AllByRecursion (IsTimerPass moments) timer → IfOk result (λ d. IsDriven ends fallback_ends moments a lists d)
+  driven_from a lists called workers timer (Ok d) answers passes callers worked timed = record {
+    callers = map (λ (r : Called). r.pass) called;
+    workers = workers;
+    timer = timer;
+    passes = passes;
+    called = rw answers callers;
+    worked = worked;
+    timed = timed;
+  }
+  driven_from a lists called workers timer (Err e) answers passes callers worked timed = tt
+
+get_snoc : {X : Type 0} (xs : List X) (y : X) (k : ℕ) (z : X) → slice_get (xs ++ y ∷ []) k ≡ Some z → (slice_get xs k ≡ Some z) ⊎ ((k ≡ length xs) × (y ≡ z))
+get_snoc [] y zero z e = inr (refl, cc)
+get_snoc [] y (suc k) z e = absurd (let h : None ≡ Some z = e in cc)
+get_snoc (x ∷ xs) y zero z e = inl e
+get_snoc (x ∷ xs) y (suc k) z e = elim (get_snoc xs y k z e) [ inl h ↦ inl h | inr h ↦ inr (ap suc h.0, h.1) ]
+
+-- one more caller was started
+pub callers_push : {D C : Type 0} (a : Bool) (lists : List RequestList) (hs : List (PromisedHandle Called (CallerOf D C))) (h : PromisedHandle Called (CallerOf D C)) (i : ℕ) (l : RequestList)
+    → AllCallers a lists hs → length hs ≡ i → slice_get lists i ≡ Some l → IsCallerOf a l h.promise → AllCallers a lists (hs ++ h ∷ [])
+callers_push {D} {C} a lists hs h i l all len here is k l' h' atl ath =
+    elim (get_snoc hs h k h' ath) [
+      | inl old ↦ all k l' h' atl old
+      | inr w ↦
+          let same : l ≡ l' = one_item (slice_get lists k) l l' (ap (slice_get lists) (w.0 ∙ len) ∙ here) atl in
+          let P : PromisedHandle Called (CallerOf D C) → Type 0 = λ x. IsCallerOf a l' x.promise in
+          let Q : RequestList → Type 0 = λ x. IsCallerOf a x h.promise in
+          subst P w.1 (subst Q same is)
+    ]
+
+-- the same in equal words
+pub called_as : (ends : GroupId → List ℕ → RunEnd → Type 0) (fallback_ends : GroupId → Cause → List ℕ → FallbackEnd → Type 0) (moments : ℕ → Type 0) (a a' : Bool) (g g' : GroupId) (qs qs' : List Request) (r r' : Called)
+    → a ≡ a' → g ≡ g' → qs ≡ qs' → r ≡ r' → CalledAs ends fallback_ends moments a g qs r → CalledAs ends fallback_ends moments a' g' qs' r'
+called_as ends fallback_ends moments a a' g g' qs qs' r r' ea eg eq er h =
+    let A : Bool → Type 0 = λ x. CalledAs ends fallback_ends moments x g' qs' r' in
+    let G : GroupId → Type 0 = λ x. CalledAs ends fallback_ends moments a x qs' r' in
+    let Q : List Request → Type 0 = λ x. CalledAs ends fallback_ends moments a g x r' in
+    let R : Called → Type 0 = λ x. CalledAs ends fallback_ends moments a g qs x in
+    subst A ea (subst G eg (subst Q eq (subst R er h)))

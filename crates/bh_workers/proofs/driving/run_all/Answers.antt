@@ -1,0 +1,36 @@
+use Rattle.std.proofs.Common.{◌≡◌, ◌<◌, length, arith, ◌∙◌, ap, refl, sym, vec_len, subst, get_or, slice_get, Some}
+use Rattle.std.proofs.lemmas.Option.{slice_get_read, slice_get_within, get_or_from_slice_get}
+use Rattle.bh_journal.specs.Passes.{PassView}
+use Rattle.bh_workers.specs.Driving.{IsWorkerPass}
+use Rattle.bh_workers.proofs.Drives.{all_places, called_as, callers_from, driven_from}
+use Rattle.bh_workers.proofs.driving.run_all.Goals as goal
+
+pub returns : goal.returns
+returns g c =
+    let D = g.D.Dependency.ends in
+    let F = g.D.Dependency.fallback_ends in
+    let M = g.C.Clock.moments in
+    let a = c.args.shared.now in
+    let lists = c.args.lists.now in
+    let called = c.in-Ok.called in
+    let worked = c.in-Ok-join_promised.worked in
+    driven_from D F M a lists called.items worked.items c.join-timed.result.items c.gather.result c.gather.ensures.answers c.gather.ensures.passes
+    (callers_from D F M a lists called.items (sym called.ok.0 ∙ c.in-Ok.ensures.len ∙ c.in_ok-callers.ensures.len)
+    (λ k l r atl atr.
+    let lt : k < vec_len c.in_ok-callers.callers =
+    (let w = slice_get_within called.items k r atr in let v = called.ok.0 in let e = c.in-Ok.ensures.len in omega arith) in
+    let kept = (c.in-Ok.ensures.each k r lt).1 in
+    let h = kept.handle in
+    let at : slice_get c.in_ok-callers.callers.items k ≡ Some h =
+    slice_get_read c.in_ok-callers.callers.items (vec_len c.in_ok-callers.callers) k h c.in_ok-callers.callers.ok.0 lt kept.handle_is in
+    let is = c.in_ok-callers.ensures.each k l h atl at in
+    called_as D F M h.promise.audited a h.promise.group l.group h.promise.requests.now l.requests.items
+    (get_or called.items k r) r is.kind is.group is.requests (get_or_from_slice_get called.items k r r atr) kept.kept))
+    (all_places (IsWorkerPass D M) worked.items
+    (λ k p at.
+    let lt : k < vec_len c.in_ok-workers.workers =
+    (let w = slice_get_within worked.items k p at in let v = worked.ok.0 in let e = c.in-Ok-join_promised.ensures.len in omega arith) in
+    let kept = (c.in-Ok-join_promised.ensures.each k p lt).1 in
+    let P : PassView → Type 0 = λ x. IsWorkerPass D M x in
+    subst P (get_or_from_slice_get worked.items k p p at) kept.kept))
+    c.join-timed.ensures

@@ -1,0 +1,37 @@
+-- What the threads of callers give back.
+use Rattle.std.specs.Prelude.{◌≡◌, ℕ, ◌∷◌, [], ◌++◌, Bool, List, Result, Some, slice_get, vec_items}
+use Rattle.std.specs.declared.thread.PromisedHandle.{PromisedHandle}
+use Rattle.bh_base.specs.declared.step.GroupId.{GroupId}
+use Rattle.bh_base.specs.declared.step.FallbackEnd.{FallbackEnd}
+use Rattle.bh_base.specs.declared.step.Request.{Request}
+use Rattle.bh_base.specs.declared.step.RunEnd.{RunEnd}
+use Rattle.bh_base.specs.declared.reply.Answer.{Answer}
+use Rattle.bh_base.specs.declared.reply.CallError.{CallError}
+use Rattle.bh_base.specs.declared.reply.Cause.{Cause}
+use Rattle.bh_journal.specs.Passes.{PassView}
+use Rattle.bh_workers.specs.declared.calls.Called.{Called}
+use Rattle.bh_workers.specs.declared.calls.CallerOf.{CallerOf}
+use Rattle.bh_workers.specs.declared.driven.RequestList.{RequestList}
+use Rattle.bh_workers.specs.Calls.{CallAdds, IsCall}
+use Rattle.bh_workers.specs.Driving.{IsCaller}
+
+module _ (ends : GroupId → List ℕ → RunEnd → Type 0) (fallback_ends : GroupId → Cause → List ℕ → FallbackEnd → Type 0) (moments : ℕ → Type 0) where
+  -- a call was made, and its answer added to the others
+  abbrev pub MakesCall : Bool → PassView → List (Result Answer CallError) → Request → PassView → List (Result Answer CallError) → Type 0
+  MakesCall audited p answers request p' answers' =
+      (answer : Result Answer CallError) × (answers' ≡ answers ++ answer ∷ []) × CallAdds audited p answer p' (IsCall ends fallback_ends moments p.group request answer)
+
+  -- the answers and the pass are those of a caller
+  abbrev pub CalledAs : Bool → GroupId → List Request → Called → Type 0
+  CalledAs audited g requests r = IsCaller ends fallback_ends moments audited g requests r.answers.items r.pass
+
+-- the promise is of the list
+pub record IsCallerOf {D C : Type 0} (audited : Bool) (l : RequestList) (p : CallerOf D C) : Type 0 where
+  pub kind : p.audited ≡ audited
+  pub group : p.group ≡ l.group
+  pub requests : p.requests.now ≡ l.requests.items
+
+-- the handles are of callers of the lists, in their order
+abbrev pub AllCallers : {D C : Type 0} → Bool → List RequestList → List (PromisedHandle Called (CallerOf D C)) → Type 0
+AllCallers {D} {C} audited lists handles =
+    (k : ℕ) (l : RequestList) (h : PromisedHandle Called (CallerOf D C)) → slice_get lists k ≡ Some l → slice_get handles k ≡ Some h → IsCallerOf audited l h.promise

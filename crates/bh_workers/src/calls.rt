@@ -1,0 +1,136 @@
+//! The threads of callers: each makes the requests of one list.
+
+ghost use Rattle.std.specs.Prelude.{◌≡◌, ◌+◌, ◌<◌, ◌≤◌, [], ◌∷◌, ◌++◌, IfOk, length, vec_capacity, vec_len};
+ghost use Rattle.bh_workers.specs.Callers.{AllCallers, CalledAs, MakesCall};
+
+use crate::caller::call;
+use crate::crew::pass_of;
+use crate::dependency::Dependency;
+use crate::driven::{DriveError, RequestList};
+use crate::room::push_within;
+use bh_audit::{Clock, Shared};
+use bh_base::{Answer, CallError, GroupId, Request};
+use bh_journal::Pass;
+use std::alloc::Global;
+use std::marker::PhantomData;
+use std::sync::Wait;
+use std::thread::{Promise, PromisedHandle, Scope, Threads};
+
+/// What a caller gives back.
+#[derive(Drop)]
+pub(crate) struct Called {
+    pub(crate) answers: Vec<Result<Answer, CallError>>,
+    pub(crate) pass: Pass,
+}
+
+/// The promise of a caller: its requests were made, in a service of this kind, with a pass of this group.
+#[derive(Drop)]
+pub(crate) struct CallerOf<'a, D, C> {
+    audited: bool,
+    group: GroupId,
+    requests: &'a [Request],
+    of: PhantomData<(D, C)>,
+}
+
+impl<'a, D: Dependency, C: Clock> Promise<Called> for CallerOf<'a, D, C> {
+    ghost kept_by = { λ p r. CalledAs D.ends D.fallback_ends C.moments p.audited p.group p.requests.now r };
+}
+
+/// Starts a caller for each list.
+pub(crate) fn start_callers<
+    's,
+    'e,
+    D: Dependency + Sync,
+    C: Clock + Sync,
+    R: Threads + Wait + Sync,
+>(
+    rt: &'e R,
+    scope: &'s Scope<'s, &'e ()>,
+    alloc: Global,
+    shared: &'e Shared,
+    dependency: &'e D,
+    clock: &'e C,
+    lists: &'e [RequestList],
+    room: u64,
+) -> Result<Vec<PromisedHandle<Called, CallerOf<'e, D, C>>>, DriveError>
+    ensures len { IfOk result (λ v. vec_len v ≡ length lists.now) }
+    ensures each { IfOk result (λ v. AllCallers shared.now lists.now v.items) }
+{
+    let Ok(mut handles) = Vec::with_capacity(alloc, lists.len()) else {
+        return Err(DriveError::Memory);
+    };
+    let audited = shared.audited();
+    for list in lists {
+        let group = list.group;
+        let requests = list.requests.as_slice();
+        let pass = pass_of(alloc, shared, group, room)?;
+        let Ok(answers) = Vec::with_capacity(alloc, requests.len()) else {
+            return Err(DriveError::Memory);
+        };
+        let promise: CallerOf<'e, D, C> = CallerOf {
+            audited,
+            group,
+            requests,
+            of: PhantomData,
+        };
+        let spawned = scope.spawn_with(
+            promise,
+            move || -> Called
+                requires { (pass.receipts ≡ []) × (answers.items ≡ []) × (length requests.now ≤ vec_capacity answers) }
+                ensures { CalledAs D.ends D.fallback_ends C.moments shared.entry.now pass.group requests.entry.now result }
+            { make_calls(rt, shared, pass, answers, dependency, clock, requests) },
+        );
+        let Ok(handle) = spawned else {
+            return Err(DriveError::Spawn);
+        };
+        handles.push_reserved(handle);
+    }
+    Ok(handles)
+}
+
+/// Makes the requests one after another.
+fn make_calls<D: Dependency, C: Clock, R: Wait>(
+    rt: &R,
+    shared: &Shared,
+    mut pass: Pass,
+    mut answers: Vec<Result<Answer, CallError>>,
+    dependency: &D,
+    clock: &C,
+    requests: &[Request],
+) -> Called
+    requires empty { (pass.receipts ≡ []) × (answers.items ≡ []) }
+    requires room { length requests.now ≤ vec_capacity answers }
+    ensures { CalledAs D.ends D.fallback_ends C.moments shared.now pass.group requests.now result }
+{
+    for request in requests {
+        make_call(
+            rt,
+            shared,
+            &mut pass,
+            &mut answers,
+            dependency,
+            clock,
+            request,
+        );
+    }
+    Called { answers, pass }
+}
+
+/// Makes one request, and adds its answer to the others.
+fn make_call<D: Dependency, C: Clock, R: Wait>(
+    rt: &R,
+    shared: &Shared,
+    pass: &mut Pass,
+    answers: &mut Vec<Result<Answer, CallError>>,
+    dependency: &D,
+    clock: &C,
+    request: &Request,
+)
+    requires { vec_len answers.old < vec_capacity answers.old }
+    ensures made { MakesCall D.ends D.fallback_ends C.moments shared.now pass.old answers.old.items request.now pass.new answers.new.items }
+    ensures len { vec_len answers.new ≡ vec_len answers.old + 1 }
+    ensures capacity { vec_capacity answers.old ≤ vec_capacity answers.new }
+{
+    let answer = call(rt, shared, pass, dependency, clock, *request);
+    push_within(answers, &answer);
+}
