@@ -15,7 +15,7 @@ use bh_journal::Pass;
 use std::sync::Wait;
 
 /// The operation that tells how the run of the ticket ended.
-pub fn end_op(serial: Serial, end: RunEnd) -> Op
+pub(crate) fn end_op(serial: Serial, end: RunEnd) -> Op
     ensures { result ≡ end_of serial end }
 {
     match end {
