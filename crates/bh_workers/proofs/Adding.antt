@@ -1,16 +1,14 @@
 -- What single steps add to a pass, and that additions follow one another.
-use Rattle.std.proofs.Common.{◌≡◌, ℕ, ◌+◌, ◌-◌, ◌≤◌, Bool, true, false, List, [], ◌∷◌, ◌++◌, length, length-append, refl, sym, ap, ◌∙◌, append_assoc, append-nil, arith, subst}
-use Rattle.bh_base.specs.declared.step.GroupId.{GroupId}
+use Rattle.std.proofs.Common.{◌≡◌, ℕ, ◌+◌, ◌-◌, Bool, true, false, List, [], ◌++◌, length, length-append, refl, sym, ap, ◌∙◌, append_assoc, append-nil, arith}
 use Rattle.bh_base.specs.declared.step.Step.{Step}
 use Rattle.bh_base.specs.declared.step.Op.{Op}
 use Rattle.bh_base.specs.declared.reply.Reply.{Reply}
 use Rattle.bh_base.specs.declared.reply.Reply.TheVariants as reply
 use Rattle.bh_base.specs.Replies.{is_refusal}
 use Rattle.bh_journal.specs.declared.pass.Receipt.{Receipt}
-use Rattle.bh_journal.specs.declared.pass.Marks.{Marks}
 use Rattle.bh_journal.specs.Passes.{PassView, Adds, AddsReceipt, receipt_of, marked_worn, marked_no_group, marked_stopped}
 use Rattle.bh_audit.specs.Calls.{step_of}
-use Rattle.bh_workers.specs.Receipts.{IsReceiptOf, Gains, StepAdds, StepTaken, kept}
+use Rattle.bh_workers.specs.Receipts.{Gains, StepAdds, StepTaken, kept}
 
 pub added_receipt : (moments : ℕ → Type 0) (a : Bool) (p q : PassView) (o : Op) (m : ℕ) (r : Reply) → moments m → AddsReceipt a p (step_of p.group m o) r q → StepTaken moments a p o r q
 added_receipt moments true p q o m r named h = record {

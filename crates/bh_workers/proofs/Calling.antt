@@ -1,5 +1,5 @@
 -- The parts of a call, one after another.
-use Rattle.std.proofs.Common.{◌≡◌, ◌≢◌, ℕ, Bool, true, false, List, [], ◌∷◌, ◌++◌, ◌⊎◌, inl, inr, refl, sym, ap, ◌∙◌, subst, arith}
+use Rattle.std.proofs.Common.{◌≡◌, ◌≢◌, ℕ, Bool, true, false, List, [], ◌∷◌, inl, inr, refl, ap, ◌∙◌, subst, arith}
 use Rattle.std.specs.Prelude.{Result, Ok, Err}
 use Rattle.bh_base.specs.declared.step.GroupId.{GroupId}
 use Rattle.bh_base.specs.declared.step.Op.{Op}
@@ -15,11 +15,11 @@ use Rattle.bh_base.specs.declared.reply.Reply.{Reply}
 use Rattle.bh_base.specs.declared.reply.Reply.TheVariants as reply
 use Rattle.bh_journal.specs.declared.pass.Marks.{Marks}
 use Rattle.bh_journal.specs.declared.pass.Receipt.{Receipt}
-use Rattle.bh_journal.specs.Passes.{PassView, marked_worn, marked_no_group, marked_stopped}
+use Rattle.bh_journal.specs.Passes.{PassView, marked_worn, marked_no_group}
 use Rattle.bh_audit.specs.Calls.{AddsCollect}
 use Rattle.bh_base.specs.Replies.{is_refusal}
-use Rattle.bh_workers.specs.Receipts.{Gains, IsReceiptOf, IsRunEnd, StepAdds, StepTaken, end_of}
-use Rattle.bh_workers.specs.Calls.{CallAdds, EndsInFallback, IsCall, IsCallMade, IsCollected, IsCollectedLast, IsFallbackEnd, IsFallenBack, IsRefused, IsRunInline, IsSettled, IsWaiting, MarksAre, Only, Then}
+use Rattle.bh_workers.specs.Receipts.{IsReceiptOf, IsRunEnd, StepAdds, StepTaken, end_of}
+use Rattle.bh_workers.specs.Calls.{CallAdds, IsCall, IsCallMade, IsCollected, IsCollectedLast, IsFallbackEnd, IsFallenBack, IsRefused, IsRunInline, IsSettled, IsWaiting, MarksAre, Only, Then}
 use Rattle.bh_workers.proofs.Adding.{Gains-append, added_receipt, none_by_no_group, none_by_worn, taken}
 
 -- marks that are so after a part of a call are so after the whole of it

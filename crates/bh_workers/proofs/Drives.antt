@@ -1,5 +1,5 @@
 -- What all threads of a drive add up to.
-use Rattle.std.proofs.Common.{◌≡◌, ℕ, zero, suc, ◌+◌, ◌<◌, ◌≤◌, Bool, true, false, List, [], ◌∷◌, ◌++◌, length, map, take, drop, slice_get, Option, Some, None, ◌⊎◌, inl, inr, refl, sym, ap, ◌∙◌, append_assoc, append-nil, length-append, subst, arith}
+use Rattle.std.proofs.Common.{◌≡◌, ℕ, zero, suc, ◌≤◌, Bool, true, false, List, [], ◌∷◌, ◌++◌, length, map, take, drop, slice_get, Some, None, ◌⊎◌, inl, inr, refl, sym, ap, ◌∙◌, append_assoc, append-nil, length-append, subst, arith}
 use Rattle.std.specs.Prelude.{IfOk, Ok, Err, Result, vec_items}
 use Rattle.std.specs.List.{AllByRecursion}
 use Rattle.std.specs.declared.thread.PromisedHandle.{PromisedHandle}
@@ -22,10 +22,10 @@ use Rattle.bh_workers.specs.declared.driven.DriveError.{DriveError}
 use Rattle.bh_workers.specs.declared.driven.Driven.{Driven}
 use Rattle.bh_workers.specs.declared.driven.RequestList.{RequestList}
 use Rattle.bh_workers.specs.Receipts.{Gains, kept}
-use Rattle.bh_workers.specs.Calls.{CallAdds, EndsInFallback, IsCall, MarksAre}
+use Rattle.bh_workers.specs.Calls.{IsCall, MarksAre}
 use Rattle.bh_workers.specs.Callers.{AllCallers, CalledAs, IsCallerOf, MakesCall}
-use Rattle.bh_workers.specs.Driving.{AreCallers, AreCalls, IsCaller, IsDriven, IsMarked, IsTimerPass, IsWorkerPass}
-use Rattle.bh_workers.specs.Timing.{AreExpiries, AreTimed, IsTimed}
+use Rattle.bh_workers.specs.Driving.{AreCallers, AreCalls, IsDriven, IsMarked, IsTimerPass, IsWorkerPass}
+use Rattle.bh_workers.specs.Timing.{AreExpiries, AreTimed}
 
 -- what was added to an empty pass is all that it has
 pub all_gained : (a : Bool) (p q : PassView) (made : List Receipt) (IsSo : GroupId → List Receipt → Type 0) → p.receipts ≡ [] → Gains a p q made → IsSo p.group made → IsSo p.group [] → IsSo q.group q.receipts

@@ -1,5 +1,5 @@
 -- Rounds of a timer, one after another.
-use Rattle.std.proofs.Common.{◌≡◌, ◌≢◌, ℕ, zero, suc, ◌<◌, Bool, List, [], ◌∷◌, ◌++◌, length, slice_get, slice_set, Option, Some, None, ◌⊎◌, inl, inr, refl, sym, ap, ◌∙◌, subst, arith}
+use Rattle.std.proofs.Common.{◌≡◌, ◌≢◌, ℕ, zero, suc, Bool, List, [], ◌∷◌, ◌++◌, slice_get, slice_set, Option, Some, None, ◌⊎◌, inl, inr, refl, sym, ap, ◌∙◌, subst, arith}
 use Rattle.std.specs.Prelude.{Result, Ok, Err}
 use Rattle.std.proofs.lemmas.List.{length-set}
 use Rattle.std.proofs.lemmas.Option.{slice_get_within, slice_get_cases}
@@ -11,8 +11,7 @@ use Rattle.bh_journal.specs.Passes.{PassView}
 use Rattle.bh_audit.specs.declared.next.StepError.{StepError}
 use Rattle.bh_audit.specs.Calls.{AddsExpire}
 use Rattle.bh_audit.proofs.Lists.{get_set_other, get_set_same, one_item}
-use Rattle.bh_workers.specs.Receipts.{Gains}
-use Rattle.bh_workers.specs.Timing.{AreExpiries, AreTimed, IsExpiry, IsTimed}
+use Rattle.bh_workers.specs.Timing.{AreExpiries, AreTimed, IsTimed}
 use Rattle.bh_workers.proofs.Adding.{Gains-append, added_receipt, none_by_same}
 
 module _ (moments : ℕ → Type 0) (a : Bool) where

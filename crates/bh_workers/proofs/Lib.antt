@@ -3,3 +3,4 @@ pub mod Working
 pub mod Calling
 pub mod Expiring
 pub mod Drives
+pub mod Telling

@@ -1,5 +1,5 @@
 -- Turns of a worker, one after another.
-use Rattle.std.proofs.Common.{◌≡◌, ℕ, ◌<◌, Bool, true, false, List, [], ◌∷◌, ◌++◌, ◌⊎◌, inl, inr, refl, sym, ap, ◌∙◌, append-nil, subst}
+use Rattle.std.proofs.Common.{◌≡◌, ℕ, Bool, true, false, List, [], ◌∷◌, ◌++◌, ◌⊎◌, inl, inr, refl, subst}
 use Rattle.bh_base.specs.declared.step.GroupId.{GroupId}
 use Rattle.bh_base.specs.declared.step.RunEnd.{RunEnd}
 use Rattle.bh_base.specs.declared.step.Op.TheVariants as op
@@ -7,10 +7,10 @@ use Rattle.bh_base.specs.declared.reply.Reply.{Reply}
 use Rattle.bh_base.specs.declared.reply.Reply.TheVariants as reply
 use Rattle.bh_base.specs.Replies.{is_refusal}
 use Rattle.bh_journal.specs.declared.pass.Receipt.{Receipt}
-use Rattle.bh_journal.specs.Passes.{PassView, Adds, AddsReceipt, marked_worn, marked_no_group}
+use Rattle.bh_journal.specs.Passes.{PassView, AddsReceipt}
 use Rattle.bh_audit.specs.Calls.{step_of}
 use Rattle.bh_workers.specs.Receipts.{IsReceiptOf, IsRunEnd, Gains, StepAdds, end_of}
-use Rattle.bh_workers.specs.Work.{IsAssigned, IsRun, IsWork, IsTurn, IsEnding, HasReasonToEnd}
+use Rattle.bh_workers.specs.Work.{IsRun, IsWork, IsTurn, IsEnding}
 use Rattle.bh_workers.proofs.Adding.{taken, added_receipt, none_by_worn, none_by_no_group, none_by_same, Gains-append}
 
 module _ (ends : GroupId → List ℕ → RunEnd → Type 0) (moments : ℕ → Type 0) where

@@ -1,5 +1,5 @@
 -- What comes back from a drive.
-use Rattle.std.specs.Prelude.{◌≡◌, ℕ, Bool, true, List, [], ◌∷◌, ◌++◌, ◌⊎◌, Result, Ok, Err, length, map, vec_items}
+use Rattle.std.specs.Prelude.{◌≡◌, ℕ, Bool, true, List, [], ◌∷◌, ◌++◌, ◌⊎◌, Result, Err, length, map, vec_items}
 use Rattle.std.specs.List.{AllByRecursion}
 use Rattle.bh_base.specs.declared.step.GroupId.{GroupId}
 use Rattle.bh_base.specs.declared.step.FallbackEnd.{FallbackEnd}

@@ -5,3 +5,4 @@ pub mod Collecting
 pub mod Timing
 pub mod Driving
 pub mod Callers
+pub mod CallLaw

@@ -6,7 +6,7 @@ use Rattle.bh_base.specs.declared.step.Op.TheVariants as op
 use Rattle.bh_base.specs.declared.reply.Reply.TheVariants as reply
 use Rattle.bh_journal.specs.declared.pass.Receipt.{Receipt}
 use Rattle.bh_journal.specs.Passes.{PassView}
-use Rattle.bh_workers.specs.Receipts.{IsReceiptOf, IsRunEnd, Gains}
+use Rattle.bh_workers.specs.Receipts.{IsReceiptOf, IsRunEnd}
 
 -- a Start by which the ticket was assigned with its argument
 pub record IsAssigned (moments : ℕ → Type 0) (g : GroupId) (r : Receipt) : Type 0 where

@@ -1,4 +1,4 @@
-use Rattle.std.proofs.Common.{inr, refl, List}
+use Rattle.std.proofs.Common.{inr, refl}
 use Rattle.std.specs.Prelude.{Err}
 use Rattle.bh_base.specs.declared.reply.CallError.TheVariants as error
 use Rattle.bh_base.specs.declared.reply.Reply.TheVariants as reply

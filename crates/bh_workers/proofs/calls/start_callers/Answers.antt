@@ -1,4 +1,4 @@
-use Rattle.std.proofs.Common.{◌≡◌, ◌<◌, length, arith, ◌∙◌, ap, refl, sym}
+use Rattle.std.proofs.Common.{◌<◌, length, arith, ◌∙◌, ap, refl, sym}
 use Rattle.std.proofs.lemmas.Option.{slice_get_read}
 use Rattle.bh_workers.specs.declared.calls.CallerOf.{CallerOf}
 use Rattle.bh_workers.specs.Callers.{IsCallerOf}

@@ -1,4 +1,4 @@
-use Rattle.std.proofs.Common.{◌≡◌, ◌<◌, length, arith, ◌∙◌, ap, refl, sym, vec_len, subst, get_or, slice_get, Some}
+use Rattle.std.proofs.Common.{◌≡◌, ◌<◌, arith, ◌∙◌, sym, vec_len, subst, get_or, slice_get, Some}
 use Rattle.std.proofs.lemmas.Option.{slice_get_read, slice_get_within, get_or_from_slice_get}
 use Rattle.bh_journal.specs.Passes.{PassView}
 use Rattle.bh_workers.specs.Driving.{IsWorkerPass}

@@ -1,5 +1,4 @@
-use Rattle.bh_workers.specs.Work.{IsTurn}
-use Rattle.bh_workers.proofs.Working.{AddsSo, work_begins, work_goes_on, work_ends}
+use Rattle.bh_workers.proofs.Working.{work_begins, work_goes_on, work_ends}
 use Rattle.bh_workers.proofs.worker.worker_loop.Goals as goal
 
 pub loop-init : goal.loop-init
