@@ -7,6 +7,8 @@ mod admission;
 #[cfg(test)]
 mod audit;
 #[cfg(test)]
+mod audit_compare;
+#[cfg(test)]
 mod cache;
 #[cfg(test)]
 mod circuit;
