@@ -57,6 +57,34 @@ impl Write for PieceWriter {
     }
 }
 
+// How many line feeds there are.
+fn feeds(bytes: &[u8]) -> usize {
+    bytes.iter().filter(|byte| **byte == b'\n').count()
+}
+
+#[test]
+fn the_answers_to_one_piece_are_one_write(rt: HostRuntime) {
+    let mut reader: &[u8] = CACHE_INPUT.as_bytes();
+    let mut writer = PieceWriter {
+        written: Vec::new(rt.alloc()),
+        size: CACHE_OUTPUT.len(),
+        calls: 0,
+        stuck_at: None,
+        fails: false,
+    };
+    let mut reported = Vec::new(rt.alloc());
+    let status = run_file(
+        rt.alloc(),
+        CACHE_SETTINGS.as_bytes(),
+        &mut reader,
+        &mut writer,
+        &mut reported,
+    );
+    assert_eq!(rt; status, 0);
+    assert_eq!(rt; writer.calls, 1);
+    assert_eq!(rt; writer.written.as_slice(), CACHE_OUTPUT.as_bytes());
+}
+
 #[test]
 fn pieces_of_any_length_give_the_same_bytes(rt: HostRuntime) {
     for size in 1..41 {
@@ -109,6 +137,10 @@ fn a_reader_that_fails_at_any_call(rt: HostRuntime) {
         );
         assert_eq!(rt; status, 3);
         assert_eq!(rt; reported.as_slice(), b"fault: read\n".as_slice());
+        // The lines that had come whole were answered before the read that failed.
+        let given = CACHE_INPUT.len().min(40 * (call - 1));
+        let lines = feeds(&CACHE_INPUT.as_bytes()[..given]);
+        assert_eq!(rt; feeds(written.as_slice()), lines);
         assert!(rt; CACHE_OUTPUT.as_bytes().starts_with(written.as_slice()));
     }
 }
