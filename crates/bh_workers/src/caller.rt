@@ -16,7 +16,20 @@ use std::sync::Wait;
 /// The most receipts that a call adds.
 const MOST_RECEIPTS: u64 = 5;
 
-/// Submits the request and waits for its answer.
+/// Submits the request to the pass's group and waits for its answer, in at most five steps.
+///
+/// Where the ticket is `Inline` the caller runs the dependency itself, and it runs the fallback where it is the one
+/// that is told to. The errors:
+///
+/// - `PassFull` where the service is audited and fewer than five receipts are free: before any step, with the pass
+///   unchanged;
+/// - `GroupFull` where the group has no free slot;
+/// - `Worn` and `NoGroup` where a step was refused so;
+/// - `Taken` where another pass collected the ticket;
+/// - `Stopped` where the service was stopped before there was an answer, or where the last Collect asks for a
+///   fallback once more.
+///
+/// After `Worn` and `Stopped` in the middle the ticket stays held.
 pub fn call<D: Dependency, C: Clock, R: Wait>(
     rt: &R,
     shared: &Shared,

@@ -74,8 +74,9 @@ fn was_taken(reply: &Reply) -> bool
     !matches!(reply, Reply::Worn | Reply::NoGroup)
 }
 
-/// Starts the tickets of the pass's group one after another, runs each and tells its end, until the service is
-/// stopped, the group is worn or not registered, or the pass has no room for one more run.
+/// Starts the tickets of the pass's group one after another, runs each outside the lock and tells its end, until the
+/// service is stopped, the group is worn or not registered, or the pass has no room for one more run. The pass's
+/// marks and its room tell which.
 pub fn worker_loop<D: Dependency, C: Clock, R: Wait>(
     rt: &R,
     shared: &Shared,
