@@ -19,4 +19,10 @@ mod random;
 #[cfg(test)]
 mod samples;
 #[cfg(test)]
+mod services;
+#[cfg(test)]
 mod settings;
+#[cfg(test)]
+mod threads;
+#[cfg(test)]
+mod workers;
