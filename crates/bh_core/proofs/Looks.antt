@@ -1,6 +1,6 @@
 -- What a step would be answered, by what the code looks at.
-use Rattle.std.proofs.Common.{◌≡◌, ℕ, ◌+◌, ◌<◌, Bool, true, false, not, cond, List, [], ◌∷◌, filter, length, Option, Some, None, refl, ◌∙◌, sym, ap, arith}
-use Rattle.std.specs.Prelude.{◌&&◌, ◌||◌, find, max, nat_lt, nat_le, if◌then◌else◌}
+use Rattle.std.proofs.Common.{◌≡◌, ℕ, ◌<◌, Bool, true, false, not, cond, List, [], ◌∷◌, filter, length, Some, None, refl, ◌∙◌, sym, ap, arith}
+use Rattle.std.specs.Prelude.{◌||◌, find, max, nat_lt, nat_le, if◌then◌else◌}
 use Rattle.std.specs.List.{list_any}
 use Rattle.std.proofs.lemmas.Bool.Decides.{nat_tests}
 use Rattle.bh_base.specs.declared.reply.Reply.{Reply}
@@ -10,7 +10,7 @@ use Rattle.bh_base.specs.declared.step.Op.TheVariants as op
 use Rattle.bh_base.specs.declared.ticket.Ticket.{Ticket}
 use Rattle.bh_base.specs.declared.ticket.TicketState.{TicketState}
 use Rattle.bh_base.specs.declared.ticket.TicketState.TheVariants as ticket
-use Rattle.bh_base.specs.Machine.{Present, Outcome, busy_count, collected, collected_in, in_fallback_count, is_due, outcome, started}
+use Rattle.bh_base.specs.Machine.{Present, Outcome, busy_count, collected, collected_in, in_fallback_count, is_due, started}
 use Rattle.bh_base.specs.Replies.{is_answer_to}
 use Rattle.bh_base.specs.Runs.{View, begun, is_worn}
 use Rattle.bh_base.specs.Seen.{view_outcome, view_reply}

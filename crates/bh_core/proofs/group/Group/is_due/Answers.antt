@@ -1,4 +1,4 @@
-use Rattle.std.proofs.Common.{◌≡◌, ℕ, false, max, sym, ap, ◌∙◌}
+use Rattle.std.proofs.Common.{◌≡◌, false, max, sym, ap, ◌∙◌}
 use Rattle.std.specs.List.{list_any}
 use Rattle.bh_base.specs.Runs.{View, is_worn}
 use Rattle.bh_core.specs.declared.tickets.DueRule.{DueRule}
