@@ -1,2 +1,3 @@
 pub mod Floatless
 pub mod Talking
+pub mod Conversing

@@ -1,3 +1,4 @@
 pub mod ControlLine
 pub mod Answering
 pub mod Talk
+pub mod Conversed

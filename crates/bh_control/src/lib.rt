@@ -6,6 +6,7 @@ mod answering;
 pub mod control;
 pub mod control_line;
 pub mod conversation;
+pub mod converse;
 
 pub use control::Control;
 pub use control_line::ControlLine;

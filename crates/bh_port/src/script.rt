@@ -70,8 +70,10 @@ pub fn script<R: Read, W: Write>(
     )
 }
 
-// The groups of the settings, all new.
-fn open(alloc: Global, settings: &Settings) -> Result<Core, PortError>
+/// The groups of the settings, all new, each with its own properties and the steps that it may do.
+///
+/// It fails only for want of memory, as `Memory`.
+pub fn open(alloc: Global, settings: &Settings) -> Result<Core, PortError>
     requires in_range { All (λ group. IsInRange group.1) settings.now.groups.entries }
     requires audit { IfSome settings.now.audit_steps IsAuditLimit }
     ensures agrees { IfOk result (λ core. Agrees (settings_seen settings.now) core []) }

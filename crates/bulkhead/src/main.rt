@@ -4,6 +4,7 @@
 pub mod check;
 mod report;
 pub mod run;
+pub mod serve;
 pub mod settings_file;
 #[cfg(test)]
 mod tests;
@@ -12,7 +13,11 @@ use bh_props::SettingsError;
 use clap::{Arg, ArgAction, Command};
 use std::alloc::{AllocError, Global};
 use std::io::Write;
+use std::net::{Net, TcpListener, TcpStream};
 use std::process::ExitCode;
+use std::rt::Clock;
+use std::sync::Wait;
+use std::thread::Threads;
 use std::{env, fs, io};
 
 /// The status where the words of the command line are refused.
@@ -20,7 +25,7 @@ const BAD_WORDS: u8 = 2;
 
 fn main(rt: HostRuntime) -> ExitCode {
     let status = match words(&rt) {
-        Ok(words) => match run_words(&rt, words.as_slice()) {
+        Ok(words) => match run_words(&rt, &rt, words.as_slice()) {
             Ok(status) => status,
             Err(_) => report::settings(&mut rt.stderr(), SettingsError::Memory),
         },
@@ -35,8 +40,10 @@ fn words(rt: &HostRuntime) -> io::Result<Vec<String>> {
     Ok(words)
 }
 
-// Does what the words say, and answers the exit status.
-fn run_words(rt: &HostRuntime, words: &[String]) -> Result<u8, AllocError> {
+// Does what the words say, and answers the exit status. Only what serves connections starts threads and waits.
+fn run_words<
+    R: Net<Listener = TcpListener, Stream = TcpStream> + Threads + Wait + Clock + Print + Sync,
+>(rt: &HostRuntime, handles: &R, words: &[String]) -> Result<u8, AllocError> {
     let command = command(rt.alloc())?;
     let matches = match command.try_get_matches_from(words) {
         Ok(matches) => matches,
@@ -48,6 +55,13 @@ fn run_words(rt: &HostRuntime, words: &[String]) -> Result<u8, AllocError> {
     match matches.subcommand() {
         Some(("check", found)) => Ok(check_path(rt, found.get_str("FILE").unwrap_or(""))),
         Some(("run", found)) => Ok(run_path(rt, found.get_str("FILE").unwrap_or(""))),
+        Some(("serve", found)) => Ok(serve_path(
+            rt,
+            handles,
+            found.get_str("FILE").unwrap_or(""),
+            found.get_one::<u16>("port").unwrap_or(0),
+            found.get_one::<u32>("connections").unwrap_or(1),
+        )),
         _ => Ok(BAD_WORDS),
     }
 }
@@ -66,7 +80,31 @@ fn command<'a>(alloc: Global) -> Result<Command<'a>, AllocError> {
             alloc,
             "run",
             "Answers each step on standard input, a line of JSON, by a line",
-        )?)
+        )?)?
+        .subcommand(serve_command(alloc)?)
+}
+
+// The subcommand that serves connections.
+fn serve_command<'a>(alloc: Global) -> Result<Command<'a>, AllocError> {
+    let port = Arg::new(alloc, "port")
+        .long("port")
+        .value_name("P")
+        .help("The port to listen on, 1 to 65535")
+        .required(true)
+        .value_parser(clap::value_parser!(u16).range(1..));
+    let connections = Arg::new(alloc, "connections")
+        .long("connections")
+        .value_name("N")
+        .help("How many connections to serve, 1 to 64")
+        .default_value("1")
+        .value_parser(clap::value_parser!(u32).range(1..=64));
+    with_file(
+        alloc,
+        "serve",
+        "Answers control lines, lines of JSON, on connections to a port of 127.0.0.1",
+    )?
+    .arg(port)?
+    .arg(connections)
 }
 
 // A subcommand over a settings file.
@@ -104,6 +142,23 @@ fn run_path(rt: &HostRuntime, path: &str) -> u8 {
             &mut errors,
         ),
         Err(error) => unreadable(&mut errors, &error),
+    }
+}
+
+// Serves connections to the port under the settings of the file.
+fn serve_path<
+    R: Net<Listener = TcpListener, Stream = TcpStream> + Threads + Wait + Clock + Print + Sync,
+>(rt: &HostRuntime, handles: &R, path: &str, port: u16, connections: u32) -> u8 {
+    match fs::read(rt, path) {
+        Ok(settings) => serve::serve_file(
+            handles,
+            rt.alloc(),
+            settings.as_slice(),
+            port,
+            connections,
+            rt.stderr(),
+        ),
+        Err(error) => unreadable(&mut rt.stderr(), &error),
     }
 }
 

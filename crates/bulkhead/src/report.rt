@@ -41,3 +41,11 @@ pub fn file<E: Write>(errors: &mut E) -> u8
     let _ = writeln!(errors, "fault: file");
     FAULT
 }
+
+// Of a port that can't be bound.
+pub fn network<E: Write>(errors: &mut E) -> u8
+    ensures { result ≡ 3 }
+{
+    let _ = writeln!(errors, "fault: network");
+    FAULT
+}

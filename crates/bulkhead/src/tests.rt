@@ -2,6 +2,7 @@
 
 mod faults;
 mod operations;
+mod serve;
 mod settings;
 mod streams;
 

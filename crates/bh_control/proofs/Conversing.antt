@@ -1,0 +1,102 @@
+-- A conversation, from the reader's first byte to its last.
+use Rattle.std.proofs.Common.{◌≡◌, ℕ, List, [], ◌∷◌, ◌++◌, Option, Some, None, Result, Ok, Err, IfSome, refl, sym, ◌∙◌, subst, ap, append-nil, append_assoc}
+use Rattle.std.proofs.KnownBytes.{Appends-trans, Appends-nil}
+use Rattle.std.specs.Io.KnownBytes.{Appends, Consumes, IsAtEnd}
+use Rattle.bh_lines.specs.declared.port_error.PortError.{PortError}
+use Rattle.bh_lines.specs.declared.port_error.PortError.TheVariants.{Read, Write, Line, Memory}
+use Rattle.bh_lines.specs.Lines.{Cut, line, cut}
+use Rattle.bh_control.specs.Answering.{Responder}
+use Rattle.bh_control.specs.Talk.{Talk, lines_then, AnswersEach}
+use Rattle.bh_control.specs.Conversed.{Wrote, Conversed, GoesOn, PieceOutcome, LastOutcome}
+
+-- what was written for `all` while `left` and what is kept are left of it
+abbrev pub Progress : Option (List ℕ) → Option (List ℕ) → Responder → Option (List ℕ) → Option (List ℕ) → List ℕ → Type 0
+Progress None now who w0 w1 rest = Unit {0}
+Progress (Some all) None who w0 w1 rest = ⊥
+Progress (Some all) (Some left) who w0 w1 rest = Wrote who w0 w1 (cut all) (cut (rest ++ left))
+
+then-append : (ks ls : List (List ℕ)) (c : Cut) → lines_then (ks ++ ls) c ≡ lines_then ks (lines_then ls c)
+then-append [] ls c = refl
+then-append (k ∷ ks) ls c = ap (λ x. line k x) (then-append ks ls c)
+
+each-append : (who : Responder) (ks ls : List (List ℕ)) (o p : List ℕ) → AnswersEach who ks o → AnswersEach who ls p → AnswersEach who (ks ++ ls) (o ++ p)
+each-append who [] ls o p h k = subst (λ (ys : List ℕ). AnswersEach who ls ys) (ap (λ ys. ys ++ p) (sym h)) k
+each-append who (b ∷ ks) ls o p h k =
+    (h.0, h.1 ++ p, h.2, each-append who ks ls h.1 p h.3 k, ap (λ ys. ys ++ p) h.4 ∙ append_assoc h.0 h.1 p)
+
+-- what was written first, and then
+wrote-more : (who : Responder) (w0 w1 w2 : Option (List ℕ)) (all mid rest : Cut) (ls : List (List ℕ)) (out : List ℕ)
+    → Wrote who w0 w1 all mid → AnswersEach who ls out → Appends w1 w2 out → mid ≡ lines_then ls rest → Wrote who w0 w2 all rest
+wrote-more who w0 w1 w2 all mid rest ls out w each wrote is = record {
+  lines = w.lines ++ ls;
+  out = w.out ++ out;
+  each = each-append who w.lines ls w.out out w.each each;
+  wrote = Appends-trans w0 w1 w2 w.out out w.wrote wrote;
+  cut_is = w.cut_is ∙ (ap (λ c. lines_then w.lines c) is ∙ sym (then-append w.lines ls rest));
+}
+
+-- what was written stays, where nothing more is
+wrote-same : (who : Responder) (w0 w1 w2 : Option (List ℕ)) (all rest : Cut) → Wrote who w0 w1 all rest → Appends w1 w2 [] → Wrote who w0 w2 all rest
+wrote-same who w0 w1 w2 all rest w same = wrote-more who w0 w1 w2 all rest rest [] [] w refl same refl
+
+pub progress-start : (all w : Option (List ℕ)) (who : Responder) (rest : List ℕ) → rest ≡ [] → Progress all all who w w rest
+progress-start None w who rest e = tt
+progress-start (Some all) w who rest e = record { lines = []; out = []; each = refl; wrote = Appends-nil w; cut_is = ap (λ ys. cut (ys ++ all)) (sym e) }
+
+joined : (rest piece left : List ℕ) (xs : List ℕ) → xs ≡ piece ++ left → rest ++ xs ≡ (rest ++ piece) ++ left
+joined rest piece left xs e = ap (λ ys. rest ++ ys) e ∙ sym (append_assoc rest piece left)
+
+pub progress-piece : (all now next w0 w1 w2 : Option (List ℕ)) (who : Responder) (rest piece : List ℕ) (talk : Talk)
+    → Progress all now who w0 w1 rest → Consumes now next piece → GoesOn who w1 w2 (rest ++ piece) talk → Progress all next who w0 w2 talk.rest
+progress-piece None now next w0 w1 w2 who rest piece talk p r g = tt
+progress-piece (Some all) None next w0 w1 w2 who rest piece talk p r g = absurd p
+progress-piece (Some all) (Some left) None w0 w1 w2 who rest piece talk p r g = absurd r
+progress-piece (Some all) (Some left) (Some after) w0 w1 w2 who rest piece talk p r g =
+    wrote-more who w0 w1 w2 _ _ _ g.answered.lines g.out p g.answered.each g.wrote
+    (ap cut (joined rest piece after left r) ∙ g.answered.cut_is after)
+
+-- a piece after which the conversation does not go on
+pub progress-stops : (all now next w0 w1 w2 : Option (List ℕ)) (who : Responder) (rest piece : List ℕ) (talk : Talk) (e : PortError)
+    → Progress all now who w0 w1 rest → Consumes now next piece → PieceOutcome who w1 w2 (rest ++ piece) (Err e) talk
+    → IfSome all (λ input. Conversed who w0 w2 (cut input) (Err e))
+progress-stops None now next w0 w1 w2 who rest piece talk e p r g = tt
+progress-stops (Some all) None next w0 w1 w2 who rest piece talk e p r g = absurd p
+progress-stops (Some all) (Some left) None w0 w1 w2 who rest piece talk e p r g = absurd r
+progress-stops (Some all) (Some left) (Some after) w0 w1 w2 who rest piece talk Line p r g =
+    wrote-more who w0 w1 w2 _ _ _ g.refused.lines g.out p g.refused.each g.wrote
+    (ap cut (joined rest piece after left r) ∙ g.refused.cut_is after)
+progress-stops (Some all) (Some left) (Some after) w0 w1 w2 who rest piece talk Memory p r g = record { rest = cut (rest ++ left); some = wrote-same who w0 w1 w2 _ _ p g }
+progress-stops (Some all) (Some left) (Some after) w0 w1 w2 who rest piece talk Read p r g = absurd g
+progress-stops (Some all) (Some left) (Some after) w0 w1 w2 who rest piece talk Write p r g = tt
+
+at-end : (all now w0 w1 w2 : Option (List ℕ)) (who : Responder) (rest : List ℕ) (result : Result (Unit {0}) PortError)
+    → Progress all now who w0 w1 rest → IsAtEnd now → LastOutcome who w1 w2 rest result → IfSome all (λ input. Conversed who w0 w2 (cut input) result)
+at-end None now w0 w1 w2 who rest result p e g = tt
+at-end (Some all) None w0 w1 w2 who rest result p e g = absurd p
+at-end (Some all) (Some left) w0 w1 w2 who rest result p e g =
+    let none : cut (rest ++ left) ≡ cut rest = ap (λ ys. cut (rest ++ ys)) e ∙ ap cut (append-nil rest) in
+    last result g none
+  where
+    last : (result : Result (Unit {0}) PortError) → LastOutcome who w1 w2 rest result → cut (rest ++ left) ≡ cut rest → Conversed who w0 w2 (cut all) result
+    last (Ok x) g none = wrote-more who w0 w1 w2 _ _ _ g.1.lines g.0 p g.1.each g.2 (none ∙ g.1.cut_is)
+    last (Err Line) g none = wrote-more who w0 w1 w2 _ _ _ [] [] p refl g.1 (none ∙ g.0)
+    last (Err Memory) g none = record { rest = cut (rest ++ left); some = wrote-same who w0 w1 w2 _ _ p g }
+    last (Err Read) g none = absurd g
+    last (Err Write) g none = tt
+
+-- the end of the input
+pub progress-ends : (all now next w0 w1 w2 : Option (List ℕ)) (who : Responder) (rest piece : List ℕ) (result : Result (Unit {0}) PortError)
+    → Progress all now who w0 w1 rest → Consumes now next piece → piece ≡ [] → IsAtEnd next → LastOutcome who w1 w2 rest result
+    → IfSome all (λ input. Conversed who w0 w2 (cut input) result)
+progress-ends None now next w0 w1 w2 who rest piece result p r none e g = tt
+progress-ends (Some all) None next w0 w1 w2 who rest piece result p r none e g = absurd p
+progress-ends (Some all) (Some left) None w0 w1 w2 who rest piece result p r none e g = absurd r
+progress-ends (Some all) (Some left) (Some after) w0 w1 w2 who rest piece result p r none e g =
+    let nothing : left ≡ [] = r ∙ (ap (λ ys. ys ++ after) none ∙ e) in
+    at-end (Some all) (Some left) w0 w1 w2 who rest result p nothing g
+
+-- a reader that fails
+pub progress-fails : (all now w0 w1 : Option (List ℕ)) (who : Responder) (rest : List ℕ) → Progress all now who w0 w1 rest → IfSome all (λ input. Conversed who w0 w1 (cut input) (Err Read))
+progress-fails None now w0 w1 who rest p = tt
+progress-fails (Some all) None w0 w1 who rest p = absurd p
+progress-fails (Some all) (Some left) w0 w1 who rest p = record { rest = cut (rest ++ left); some = p }

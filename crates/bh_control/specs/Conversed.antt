@@ -1,0 +1,59 @@
+-- What a whole conversation writes.
+use Rattle.std.specs.Prelude.{◌≡◌, ℕ, List, [], Option, None, Result, Ok, Err}
+use Rattle.std.specs.Io.KnownBytes.{Appends}
+use Rattle.bh_lines.specs.declared.port_error.PortError.{PortError}
+use Rattle.bh_lines.specs.declared.port_error.PortError.TheVariants.{Read, Write, Line, Memory}
+use Rattle.bh_lines.specs.Lines.{Cut, ended, stopped, cut}
+use Rattle.bh_control.specs.Answering.{Responder}
+use Rattle.bh_control.specs.Talk.{Talk, lines_then, AnswersEach, Answered, AnsweredLast, Refused}
+
+-- One answer to each of the first lines was written, in order, and `rest` is what follows them.
+pub record Wrote (who : Responder) (w0 w1 : Option (List ℕ)) (all rest : Cut) : Type 0 where
+  pub lines : List (List ℕ)
+  pub out : List ℕ
+  pub each : AnswersEach who lines out
+  pub wrote : Appends w0 w1 out
+  pub cut_is : all ≡ lines_then lines rest
+
+-- The first lines were answered, and what follows them is not told.
+pub record WroteSome (who : Responder) (w0 w1 : Option (List ℕ)) (all : Cut) : Type 0 where
+  pub rest : Cut
+  pub some : Wrote who w0 w1 all rest
+
+-- what was written for an input that is cut so: all answers, or those to the lines before one that is refused, or those to
+-- some first lines; nothing is told where the writer failed
+abbrev pub Conversed : Responder → Option (List ℕ) → Option (List ℕ) → Cut → Result (Unit {0}) PortError → Type 0
+Conversed who w0 w1 all (Ok x) = Wrote who w0 w1 all ended
+Conversed who w0 w1 all (Err Line) = Wrote who w0 w1 all stopped
+Conversed who w0 w1 all (Err Memory) = WroteSome who w0 w1 all
+Conversed who w0 w1 all (Err Read) = WroteSome who w0 w1 all
+Conversed who w0 w1 all (Err Write) = Unit {0}
+
+-- The lines that have ended were answered, and the conversation goes on.
+pub record GoesOn (who : Responder) (w0 w1 : Option (List ℕ)) (all : List ℕ) (talk : Talk) : Type 0 where
+  pub out : List ℕ
+  pub answered : Answered who all talk.rest out
+  pub wrote : Appends w0 w1 out
+  pub going : talk.fault ≡ None
+
+-- The lines before one that is refused were answered.
+pub record Stops (who : Responder) (w0 w1 : Option (List ℕ)) (all : List ℕ) : Type 0 where
+  pub out : List ℕ
+  pub refused : Refused who all out
+  pub wrote : Appends w0 w1 out
+
+-- what was written for a piece, where `all` is what was kept and the piece
+abbrev pub PieceOutcome : Responder → Option (List ℕ) → Option (List ℕ) → List ℕ → Result (Unit {0}) PortError → Talk → Type 0
+PieceOutcome who w0 w1 all (Ok x) talk = GoesOn who w0 w1 all talk
+PieceOutcome who w0 w1 all (Err Line) talk = Stops who w0 w1 all
+PieceOutcome who w0 w1 all (Err Memory) talk = Appends w0 w1 []
+PieceOutcome who w0 w1 all (Err Read) talk = ⊥
+PieceOutcome who w0 w1 all (Err Write) talk = Unit {0}
+
+-- what was written for the last line, or none, where `rest` was kept
+abbrev pub LastOutcome : Responder → Option (List ℕ) → Option (List ℕ) → List ℕ → Result (Unit {0}) PortError → Type 0
+LastOutcome who w0 w1 rest (Ok x) = (out : List ℕ) × AnsweredLast who rest out × Appends w0 w1 out
+LastOutcome who w0 w1 rest (Err Line) = (cut rest ≡ stopped) × Appends w0 w1 []
+LastOutcome who w0 w1 rest (Err Memory) = Appends w0 w1 []
+LastOutcome who w0 w1 rest (Err Read) = ⊥
+LastOutcome who w0 w1 rest (Err Write) = Unit {0}
