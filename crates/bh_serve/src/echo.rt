@@ -1,0 +1,103 @@
+//! The dependency of a service that is tried out: it gives each argument back, save a few that fail or take their time.
+
+ghost use Rattle.std.specs.Prelude.{◌≡◌, codes};
+ghost use Rattle.bh_serve.specs.Echo.{run_end, fallback_end, echoed};
+
+use bh_base::{Cause, FallbackEnd, GroupId, RunEnd, Text};
+use bh_workers::Dependency;
+use std::rt::Clock;
+use std::thread;
+use std::time::Duration;
+
+/// The dependency of every group: a run gives its argument back.
+///
+/// | Argument | Run | Fallback |
+/// |-|-|-|
+/// | `fail` | fails | gives `fallback` |
+/// | `fail twice` | fails | fails |
+/// | `fail bare` | fails | there is none |
+/// | `bad` | a bad request | is not asked for |
+/// | `sleep N`, N of one to four decimal digits | waits N milliseconds, then gives the argument | gives `fallback` |
+/// | any other | gives the argument | gives `fallback` |
+#[derive(Drop)]
+pub struct Echo<'e, R> {
+    rt: &'e R,
+}
+
+impl<'e, R: Clock> Echo<'e, R> {
+    /// An echo that sleeps by the clock of the machine.
+    pub fn new(rt: &'e R) -> Echo<'e, R> {
+        Echo { rt }
+    }
+}
+
+impl<'e, R: Clock> Dependency for Echo<'e, R> {
+    ghost use Rattle.std.specs.Prelude.{◌≡◌};
+    ghost use Rattle.bh_serve.specs.Echo.{run_end, fallback_end};
+
+    ghost ends = { λ group arg end. end ≡ run_end arg };
+
+    ghost fallback_ends = { λ group cause arg end. end ≡ fallback_end arg };
+
+    fn run(&self, _group: GroupId, arg: &Text<64>) -> RunEnd {
+        let arg = arg.as_str();
+        if let Some(millis) = sleep_of(arg) {
+            thread::sleep(self.rt, Duration::from_millis(millis));
+        }
+        run_end(arg)
+    }
+
+    fn fallback(&self, _group: GroupId, _cause: Cause, arg: &Text<64>) -> FallbackEnd {
+        fallback_end(arg.as_str())
+    }
+}
+
+// The milliseconds of `sleep N`, with N of one to four decimal digits.
+fn sleep_of(arg: &str) -> Option<u64> {
+    let digits = arg.strip_prefix("sleep ")?;
+    if digits.len() > 4 || !digits.bytes().all(|byte| byte.is_ascii_digit()) {
+        return None;
+    }
+    digits.parse().ok()
+}
+
+fn run_end(arg: &str) -> RunEnd
+    ensures { result ≡ run_end arg.now }
+{
+    match arg {
+        "fail" => RunEnd::Failure,
+        "fail twice" => RunEnd::Failure,
+        "fail bare" => RunEnd::Failure,
+        "bad" => RunEnd::BadRequest,
+        _ => echoed(arg),
+    }
+}
+
+// The argument as a body: every argument is short enough.
+fn echoed(arg: &str) -> RunEnd
+    ensures { result ≡ echoed arg.now }
+{
+    match Text::new(arg) {
+        Ok(body) => RunEnd::Success(body),
+        Err(_) => RunEnd::Failure,
+    }
+}
+
+fn fallback_end(arg: &str) -> FallbackEnd
+    ensures { result ≡ fallback_end arg.now }
+{
+    match arg {
+        "fail twice" => FallbackEnd::Failure,
+        "fail bare" => FallbackEnd::Missing,
+        _ => fallback_value(),
+    }
+}
+
+fn fallback_value() -> FallbackEnd
+    ensures { result ≡ FallbackEnd.Success (codes "fallback") }
+{
+    match Text::new("fallback") {
+        Ok(body) => FallbackEnd::Success(body),
+        Err(_) => unreachable!(),
+    }
+}

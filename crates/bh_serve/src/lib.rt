@@ -1,0 +1,10 @@
+//! A service behind a port: connections that talk to groups over control lines, each with a thread of its own.
+#![tactic(auto)]
+
+pub mod clock;
+pub mod control;
+pub mod echo;
+pub mod serve;
+mod site;
+
+pub use serve::serve_on;
