@@ -6,7 +6,7 @@ ghost use Rattle.bh_base.specs.Ranges.{IsInRange};
 use bh_base::{GroupId, GroupProps, Op, Request, Step, Strategy, Text};
 
 /// The settings that are built in.
-pub fn props() -> GroupProps
+pub(crate) fn props() -> GroupProps
     ensures { IsInRange result }
 {
     GroupProps {
@@ -34,7 +34,7 @@ pub fn props() -> GroupProps
 }
 
 /// A step of the group at the moment.
-pub fn step(group: u64, now: u64, op: &Op) -> Step
+pub(crate) fn step(group: u64, now: u64, op: &Op) -> Step
     ensures { result ≡ record { group = record { 0 = group }; now = now; op = op.now } }
 {
     Step {
@@ -45,14 +45,14 @@ pub fn step(group: u64, now: u64, op: &Op) -> Step
 }
 
 /// The text, which has to fit.
-pub fn text<const N: usize>(of: &str) -> Text<N>
+pub(crate) fn text<const N: usize>(of: &str) -> Text<N>
     requires fits { length of.now ≤ N }
 {
     Text::new(of).unwrap()
 }
 
 /// Asks for a run that is not cached.
-pub fn submit(arg: &str) -> Op
+pub(crate) fn submit(arg: &str) -> Op
     requires fits { length arg.now ≤ 64 }
 {
     let arg = text(arg);

@@ -21,7 +21,7 @@ pub const A: GroupId = GroupId(0);
 pub const B: GroupId = GroupId(1);
 
 /// Adds a group that did no step.
-pub fn add(core: &mut Core, props: GroupProps, steps: u64) -> Result<GroupId, RegisterError>
+pub(crate) fn add(core: &mut Core, props: GroupProps, steps: u64) -> Result<GroupId, RegisterError>
     requires props { IsInRange props }
     requires some { 1 ≤ steps }
     requires few { steps ≤ 1024 }
@@ -32,7 +32,7 @@ pub fn add(core: &mut Core, props: GroupProps, steps: u64) -> Result<GroupId, Re
 }
 
 /// An audited service of two groups.
-pub fn service(
+pub(crate) fn service(
     alloc: Global,
     first: GroupProps,
     second: GroupProps,
@@ -50,7 +50,7 @@ pub fn service(
 }
 
 /// An audited service of the groups.
-pub fn share(alloc: Global, core: Core, steps: u64) -> Result<Shared, Fail>
+pub(crate) fn share(alloc: Global, core: Core, steps: u64) -> Result<Shared, Fail>
     requires { AreNew steps core.views }
 {
     let book = Book::new(alloc, core, Some(steps)).ok().ok_or("no memory")?;
@@ -58,7 +58,7 @@ pub fn share(alloc: Global, core: Core, steps: u64) -> Result<Shared, Fail>
 }
 
 /// A request that is not cached.
-pub fn request(arg: &str) -> Request
+pub(crate) fn request(arg: &str) -> Request
     requires fits { length arg.now ≤ 64 }
 {
     let arg = text(arg);
@@ -66,7 +66,7 @@ pub fn request(arg: &str) -> Request
 }
 
 /// A list of one such request.
-pub fn list(alloc: Global, group: GroupId, arg: &str) -> Result<RequestList, Fail>
+pub(crate) fn list(alloc: Global, group: GroupId, arg: &str) -> Result<RequestList, Fail>
     requires fits { length arg.now ≤ 64 }
 {
     let mut requests = Vec::new(alloc);
@@ -75,7 +75,7 @@ pub fn list(alloc: Global, group: GroupId, arg: &str) -> Result<RequestList, Fai
 }
 
 /// One more request.
-pub fn add_request(requests: &mut Vec<Request>, arg: &str) -> Result<(), Fail>
+pub(crate) fn add_request(requests: &mut Vec<Request>, arg: &str) -> Result<(), Fail>
     requires fits { length arg.now ≤ 64 }
 {
     let made = request(arg);
@@ -90,7 +90,7 @@ fn push<T: Copy>(items: &mut Vec<T>, item: &T) -> Result<(), Fail> {
 }
 
 /// The run gave this body.
-pub fn is_value(answer: &Result<Answer, CallError>, body: &str) -> bool {
+pub(crate) fn is_value(answer: &Result<Answer, CallError>, body: &str) -> bool {
     matches!(answer, Ok(Answer::Value(value)) if value.as_str() == body)
 }
 
@@ -118,7 +118,7 @@ impl Pace for Steady {
 }
 
 /// Success, with the argument.
-pub fn success(arg: &Text<64>) -> RunEnd {
+pub(crate) fn success(arg: &Text<64>) -> RunEnd {
     match Text::new(arg.as_str()) {
         Ok(body) => RunEnd::Success(body),
         Err(_) => RunEnd::Failure,
