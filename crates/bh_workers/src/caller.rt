@@ -40,6 +40,7 @@ pub fn call<D: Dependency, C: Clock, R: Wait>(
 ) -> Result<Answer, CallError>
     ensures call { CallAdds shared.now pass.old result pass.new (IsCall D.ends D.fallback_ends C.moments pass.old.group request result) }
     ensures full { (result ≡ Err PassFull) ↔ ((shared.now ≡ true) × (pass.old.room < 5)) }
+    ensures unchanged { result ≡ Err PassFull → pass.new ≡ pass.old }
 {
     if shared.audited() && pass.room_left() < MOST_RECEIPTS {
         return Err(CallError::PassFull);
