@@ -11,7 +11,8 @@ here=$(cd "$(dirname "$0")" && pwd)
 program=${1:-$here/../crates/bulkhead/out/bulkhead}
 port=${2:-7412}
 work=$(mktemp -d)
-trap 'rm -r "$work"' EXIT
+service=
+trap 'kill $service 2>/dev/null || true; rm -r "$work"' EXIT
 
 if [ $# -eq 0 ]; then
     (cd "$here/../crates/bulkhead" && rt run -- --help >"$work/build" 2>&1) || { cat "$work/build"; exit 1; }
@@ -25,7 +26,11 @@ for connections in 1 8 64; do
     calls=$((connections == 1 ? 200 : calls_in_all / connections))
     "$program" serve "$work/settings.toml" --port "$port" --connections "$connections" >"$work/listening" &
     service=$!
-    until grep -q listening "$work/listening"; do sleep 0.05; done
+    until grep -q listening "$work/listening"; do
+        kill -0 "$service"
+        sleep 0.05
+    done
     python3 "$here/serve_client.py" "$port" "$connections" "$calls"
     wait "$service"
+    service=
 done

@@ -2,21 +2,27 @@
 # A slow dependency is short-circuited while another group answers: starts the service on a port of this machine,
 # talks to it over one connection, and shows each line that is sent (>) and the line that answers it (<).
 #
-#   examples/serve/run.sh [PORT]
-#
-# The program has to be built: (cd crates/bulkhead && rt run -- --help)
+#   examples/serve/run.sh [PROGRAM [PORT]]     PROGRAM is proved and built where none is given
 set -euo pipefail
-here=$(cd "$(dirname "$0")" && pwd)
-program=$here/../../crates/bulkhead/out/bulkhead
-port=${1:-7411}
 
-"$program" serve "$here/settings.toml" --port "$port" &
+here=$(cd "$(dirname "$0")" && pwd)
+program=${1:-$here/../../crates/bulkhead/out/bulkhead}
+port=${2:-7411}
+work=$(mktemp -d)
+service=
+trap 'kill $service 2>/dev/null || true; rm -r "$work"' EXIT
+
+if [ $# -eq 0 ]; then
+    (cd "$here/../../crates/bulkhead" && rt run -- --help >"$work/build" 2>&1) || { cat "$work/build"; exit 1; }
+fi
+
+"$program" serve "$here/settings.toml" --port "$port" >"$work/listening" &
 service=$!
-trap 'kill "$service" 2>/dev/null || true' EXIT
-for _ in {1..50}; do
-    if exec 3<>"/dev/tcp/127.0.0.1/$port"; then break; fi 2>/dev/null
-    sleep 0.1
+until grep -q listening "$work/listening"; do
+    kill -0 "$service"
+    sleep 0.05
 done
+exec 3<>"/dev/tcp/127.0.0.1/$port"
 
 ask() {
     echo "> $1"
@@ -28,7 +34,7 @@ ask() {
 echo "# What groups there are"
 ask '{"op":"groups"}'
 echo "# Three calls of a dependency that takes longer than the group's 200 milliseconds: each is timed out"
-for i in 1 2 3; do
+for _ in 1 2 3; do
     ask '{"op":"call","group":"slow","arg":"sleep 400"}'
 done
 echo "# The circuit breaker opens: the next call is not run at all"
@@ -43,6 +49,7 @@ ask '{"op":"call","group":"slow","arg":"quick"}'
 ask '{"op":"metrics","group":"slow"}'
 
 exec 3>&-
-wait "$service"
-trap - EXIT
-echo "# The connection has ended, and the service with it: status $?"
+status=0
+wait "$service" || status=$?
+service=
+echo "# The connection has ended, and the service with it: status $status"
