@@ -54,7 +54,7 @@ impl Group {
         if self.tickets.len() >= self.props.slots {
             return Reply::GroupFull;
         }
-        let health = self.history.rolling().health;
+        let health = self.history.health();
         let said = self
             .circuit
             .admit(self.history.latest(), &self.props, health, self.serial);
