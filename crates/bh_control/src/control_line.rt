@@ -1,15 +1,14 @@
 //! What control lines ask, each read from a line of JSON.
 
 ghost use Rattle.std.specs.Prelude.{◌≡◌, ◌<◌, length, IfOk, IfSome};
-ghost use Rattle.serde_json.specs.View.{view};
+ghost use Rattle.bh_lines.specs.Flat.{members_data};
 ghost use Rattle.bh_lines.specs.StepLine.{cache_view, group_number};
 ghost use Rattle.bh_control.specs.ControlLine.{control_word, request_of, asked_at, asked, group_of, control_line, IsOfGroups};
 
 use bh_base::{GroupId, Request, Text};
 use bh_lines::Fault;
-use bh_lines::members::{data_at, number_at, text_at, value_of};
+use bh_lines::members::{Members, value_of};
 use bh_lines::step_line::{cache_of, short_name};
-use serde_json::Value;
 use std::alloc::{AllocError, Global};
 
 /// The kinds of control lines, each by its word under `op`.
@@ -48,24 +47,24 @@ impl ControlLine {
         ensures group { IfOk result (λ said. IfOk said (IsOfGroups (length names.now))) }
     {
         match value_of(alloc, line) {
-            Ok(Some(value)) => Ok(asked(names, &value)),
+            Ok(Some(value)) => Ok(asked(names, Members::Tree(&value))),
             Ok(None) => Ok(Err(Fault::Syntax)),
             Err(error) => Err(error),
         }
     }
 }
 
-// What a value asks.
-fn asked(names: &[Text<32>], value: &Value) -> Result<ControlLine, Fault>
-    ensures asked { result ≡ asked names.now (view value.now) }
+// What the members ask.
+fn asked(names: &[Text<32>], members: Members<'_>) -> Result<ControlLine, Fault>
+    ensures asked { result ≡ asked names.now (members_data members.entry) }
     ensures group { IfOk result (IsOfGroups (length names.now)) }
 {
-    let word = text_at(value, "op").ok_or(Fault::Field)?;
+    let word = members.text("op").ok_or(Fault::Field)?;
     match control_word(word).ok_or(Fault::Op)? {
         ControlWord::Groups => Ok(ControlLine::Groups),
-        ControlWord::Metrics => metrics_at(names, value),
-        ControlWord::Call => call_at(names, value),
-        ControlWord::Close => close_at(names, value),
+        ControlWord::Metrics => metrics_at(names, members),
+        ControlWord::Call => call_at(names, members),
+        ControlWord::Close => close_at(names, members),
     }
 }
 
@@ -81,22 +80,22 @@ fn control_word(word: &str) -> Option<ControlWord>
     }
 }
 
-fn metrics_at(names: &[Text<32>], value: &Value) -> Result<ControlLine, Fault>
-    ensures asked { result ≡ asked_at names.now ControlWord.Metrics (view value.now) }
+fn metrics_at(names: &[Text<32>], members: Members<'_>) -> Result<ControlLine, Fault>
+    ensures asked { result ≡ asked_at names.now ControlWord.Metrics (members_data members.entry) }
     ensures group { IfOk result (IsOfGroups (length names.now)) }
 {
-    let name = text_at(value, "group").ok_or(Fault::Field)?;
+    let name = members.text("group").ok_or(Fault::Field)?;
     let group = group_of(names, name)?;
     Ok(ControlLine::Metrics { group })
 }
 
-fn call_at(names: &[Text<32>], value: &Value) -> Result<ControlLine, Fault>
-    ensures asked { result ≡ asked_at names.now ControlWord.Call (view value.now) }
+fn call_at(names: &[Text<32>], members: Members<'_>) -> Result<ControlLine, Fault>
+    ensures asked { result ≡ asked_at names.now ControlWord.Call (members_data members.entry) }
     ensures group { IfOk result (IsOfGroups (length names.now)) }
 {
-    let name = text_at(value, "group").ok_or(Fault::Field)?;
-    let arg = text_at(value, "arg").ok_or(Fault::Field)?;
-    let cache = cache_of(data_at(value, "context"), data_at(value, "key"))?;
+    let name = members.text("group").ok_or(Fault::Field)?;
+    let arg = members.text("arg").ok_or(Fault::Field)?;
+    let cache = cache_of(members)?;
     let group = group_of(names, name)?;
     match request_of(cache, arg) {
         Ok(request) => Ok(ControlLine::Call { group, request }),
@@ -104,12 +103,12 @@ fn call_at(names: &[Text<32>], value: &Value) -> Result<ControlLine, Fault>
     }
 }
 
-fn close_at(names: &[Text<32>], value: &Value) -> Result<ControlLine, Fault>
-    ensures asked { result ≡ asked_at names.now ControlWord.Close (view value.now) }
+fn close_at(names: &[Text<32>], members: Members<'_>) -> Result<ControlLine, Fault>
+    ensures asked { result ≡ asked_at names.now ControlWord.Close (members_data members.entry) }
     ensures group { IfOk result (IsOfGroups (length names.now)) }
 {
-    let name = text_at(value, "group").ok_or(Fault::Field)?;
-    let context = number_at(value, "context").ok_or(Fault::Field)?;
+    let name = members.text("group").ok_or(Fault::Field)?;
+    let context = members.number("context").ok_or(Fault::Field)?;
     let group = group_of(names, name)?;
     Ok(ControlLine::Close { group, context })
 }

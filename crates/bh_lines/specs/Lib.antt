@@ -4,3 +4,4 @@ pub mod StepLine
 pub mod ReplyLine
 pub mod Sent
 pub mod FaultLine
+pub mod Flat

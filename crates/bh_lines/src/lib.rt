@@ -2,6 +2,7 @@
 #![tactic(auto)]
 
 pub mod fault;
+pub mod flat;
 pub mod lines;
 pub mod members;
 pub mod port_error;

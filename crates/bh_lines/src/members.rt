@@ -1,11 +1,13 @@
-//! The JSON of a line, and the members of an object by name and type.
+//! The members of what a line says, by name and type.
 
-ghost use Rattle.std.specs.Prelude.{◌≡◌, option_map, IfOk};
+ghost use Rattle.std.specs.Prelude.{◌≡◌, option_map, option_and_then, is_some, IfOk};
 ghost use Rattle.serde_json.specs.View.{view};
-ghost use Rattle.serde_json.specs.Find.{get};
+ghost use Rattle.serde_json.specs.Find.{get, as_str, as_number, as_u64, as_bool};
 ghost use Rattle.serde_json.specs.Read.{read};
+ghost use Rattle.bh_lines.specs.Flat.{scalar_data, members_data};
 ghost use Rattle.bh_lines.specs.StepLine.{text_at, number_at, truth_at};
 
+use crate::flat::{FlatObject, Scalar};
 use serde_json::Value;
 use std::alloc::{AllocError, Global};
 
@@ -20,39 +22,78 @@ pub fn value_of(alloc: Global, line: &str) -> Result<Option<Value>, AllocError>
     }
 }
 
-/// The member, of whatever type.
-pub fn data_at<'a>(value: &'a Value, name: &str) -> Option<&'a Value>
-    ensures { option_map (λ v. view v.now) result ≡ get name.now (view value.now) }
-{
-    value.get(name)
+/// What a line says, to be looked into by the names of members: a flat object, or the tree of any value.
+#[derive(Clone, Copy)]
+pub enum Members<'a> {
+    Flat(&'a FlatObject<'a>),
+    Tree(&'a Value),
 }
 
-/// The member, where it is a text.
-pub fn text_at<'a>(value: &'a Value, name: &str) -> Option<&'a str>
-    ensures { option_map (λ s. s.now) result ≡ text_at name.now (view value.now) }
-{
-    match value.get(name) {
-        Some(member) => member.as_str(),
-        None => None,
+impl<'a> Members<'a> {
+    /// Whether there is such a member, of whatever type.
+    pub fn has(self, name: &str) -> bool
+        ensures { result ≡ is_some (get name.now (members_data self.entry)) }
+    {
+        match self {
+            Members::Flat(object) => object.get(name).is_some(),
+            Members::Tree(value) => value.get(name).is_some(),
+        }
+    }
+
+    /// The member, where it is a text.
+    pub fn text(self, name: &str) -> Option<&'a str>
+        ensures { option_map (λ s. s.now) result ≡ text_at name.now (members_data self.entry) }
+    {
+        match self {
+            Members::Flat(object) => scalar_text(object.get(name)?),
+            Members::Tree(value) => value.get(name)?.as_str(),
+        }
+    }
+
+    /// The member, where it is a whole number of 64 bits.
+    pub fn number(self, name: &str) -> Option<u64>
+        ensures { result ≡ number_at name.now (members_data self.entry) }
+    {
+        match self {
+            Members::Flat(object) => scalar_number(object.get(name)?),
+            Members::Tree(value) => value.get(name)?.as_u64(),
+        }
+    }
+
+    /// The member, where it is a truth value.
+    pub fn truth(self, name: &str) -> Option<bool>
+        ensures { result ≡ truth_at name.now (members_data self.entry) }
+    {
+        match self {
+            Members::Flat(object) => scalar_truth(object.get(name)?),
+            Members::Tree(value) => value.get(name)?.as_bool(),
+        }
     }
 }
 
-/// The member, where it is a whole number of 64 bits.
-pub fn number_at(value: &Value, name: &str) -> Option<u64>
-    ensures { result ≡ number_at name.now (view value.now) }
+fn scalar_text(scalar: Scalar<'_>) -> Option<&str>
+    ensures { option_map (λ s. s.now) result ≡ as_str (scalar_data scalar.entry) }
 {
-    match value.get(name) {
-        Some(member) => member.as_u64(),
-        None => None,
+    match scalar {
+        Scalar::Text(text) => Some(text),
+        _ => None,
     }
 }
 
-/// The member, where it is a truth value.
-pub fn truth_at(value: &Value, name: &str) -> Option<bool>
-    ensures { result ≡ truth_at name.now (view value.now) }
+fn scalar_number(scalar: Scalar<'_>) -> Option<u64>
+    ensures { result ≡ option_and_then as_u64 (as_number (scalar_data scalar.entry)) }
 {
-    match value.get(name) {
-        Some(member) => member.as_bool(),
-        None => None,
+    match scalar {
+        Scalar::Number(n) => Some(n),
+        _ => None,
+    }
+}
+
+fn scalar_truth(scalar: Scalar<'_>) -> Option<bool>
+    ensures { result ≡ as_bool (scalar_data scalar.entry) }
+{
+    match scalar {
+        Scalar::Truth(truth) => Some(truth),
+        _ => None,
     }
 }

@@ -1,13 +1,13 @@
 //! What the JSON of a line says.
 
-ghost use Rattle.std.specs.Prelude.{◌≡◌, option_map, Ok, if◌then◌else◌, Err};
-ghost use Rattle.serde_json.specs.View.{view};
+ghost use Rattle.std.specs.Prelude.{◌≡◌, Ok, if◌then◌else◌, Err, codes};
+ghost use Rattle.serde_json.specs.Find.{get};
+ghost use Rattle.bh_lines.specs.Flat.{members_data};
 ghost use Rattle.bh_lines.specs.StepLine.{op_word, cache_of, op_at, if_short, said_at, op_view, cache_view, found_op, found_cache, found_said, is_short_name, end_of, end_view, found_end, is_short_end};
 
 use crate::fault::Fault;
-use crate::members::{data_at, number_at, text_at, truth_at};
+use crate::members::Members;
 use bh_base::{FallbackEnd, Op, Request, Text};
-use serde_json::Value;
 
 /// The operations that a line can name.
 #[derive(Clone, Copy, Debug, PartialEq, Eq)]
@@ -69,16 +69,16 @@ pub struct StepLine<'a> {
     pub op: OpLine<'a>,
 }
 
-/// What a value says, whatever groups there are, with its texts of any length. `Field` comes where the value is no
+/// What the members say, whatever groups there are, with its texts of any length. `Field` comes where there is no
 /// object or a member is missing or of another type, and `Op` where no operation has the name.
-pub fn said_at(value: &Value) -> Result<StepLine<'_>, Fault>
-    ensures { found_said result ≡ said_at (view value.now) }
+pub fn said_at(members: Members<'_>) -> Result<StepLine<'_>, Fault>
+    ensures { found_said result ≡ said_at (members_data members.entry) }
 {
-    let word = text_at(value, "op").ok_or(Fault::Field)?;
+    let word = members.text("op").ok_or(Fault::Field)?;
     let kind = op_word(word).ok_or(Fault::Op)?;
-    let group = text_at(value, "group").ok_or(Fault::Field)?;
-    let now = number_at(value, "now").ok_or(Fault::Field)?;
-    let op = op_at(kind, value)?;
+    let group = members.text("group").ok_or(Fault::Field)?;
+    let now = members.number("now").ok_or(Fault::Field)?;
+    let op = op_at(kind, members)?;
     Ok(StepLine { group, now, op })
 }
 
@@ -99,45 +99,45 @@ fn op_word(word: &str) -> Option<OpWord>
     }
 }
 
-/// The operation of the word, from the members of the value, or `Field` where one is missing or of another type.
-pub fn op_at(word: OpWord, value: &Value) -> Result<OpLine<'_>, Fault>
-    ensures { found_op result ≡ op_at word (view value.now) }
+/// The operation of the word, from the members, or `Field` where one is missing or of another type.
+pub fn op_at(word: OpWord, members: Members<'_>) -> Result<OpLine<'_>, Fault>
+    ensures { found_op result ≡ op_at word (members_data members.entry) }
 {
     Ok(match word {
         OpWord::Submit => OpLine::Submit {
-            cache: cache_of(data_at(value, "context"), data_at(value, "key"))?,
-            arg: text_at(value, "arg").ok_or(Fault::Field)?,
+            cache: cache_of(members)?,
+            arg: members.text("arg").ok_or(Fault::Field)?,
         },
         OpWord::Start => OpLine::Start,
         OpWord::Finish => OpLine::Finish {
-            ticket: number_at(value, "ticket").ok_or(Fault::Field)?,
-            body: text_at(value, "body").ok_or(Fault::Field)?,
+            ticket: members.number("ticket").ok_or(Fault::Field)?,
+            body: members.text("body").ok_or(Fault::Field)?,
         },
         OpWord::Fail => OpLine::Fail {
-            ticket: number_at(value, "ticket").ok_or(Fault::Field)?,
-            bad: truth_at(value, "bad").ok_or(Fault::Field)?,
+            ticket: members.number("ticket").ok_or(Fault::Field)?,
+            bad: members.truth("bad").ok_or(Fault::Field)?,
         },
         OpWord::Expire => OpLine::Expire,
         OpWord::Collect => OpLine::Collect {
-            ticket: number_at(value, "ticket").ok_or(Fault::Field)?,
+            ticket: members.number("ticket").ok_or(Fault::Field)?,
         },
         OpWord::FallbackDone => OpLine::FallbackDone {
-            ticket: number_at(value, "ticket").ok_or(Fault::Field)?,
-            end: end_of(text_at(value, "end").ok_or(Fault::Field)?, value)?,
+            ticket: members.number("ticket").ok_or(Fault::Field)?,
+            end: end_of(members.text("end").ok_or(Fault::Field)?, members)?,
         },
         OpWord::Close => OpLine::Close {
-            context: number_at(value, "context").ok_or(Fault::Field)?,
+            context: members.number("context").ok_or(Fault::Field)?,
         },
         OpWord::Read => OpLine::Read,
     })
 }
 
 // How a fallback ended, by its word; only a success has a body.
-fn end_of<'a>(word: &str, value: &'a Value) -> Result<EndLine<'a>, Fault>
-    ensures { found_end result ≡ end_of word.now (view value.now) }
+fn end_of<'a>(word: &str, members: Members<'a>) -> Result<EndLine<'a>, Fault>
+    ensures { found_end result ≡ end_of word.now (members_data members.entry) }
 {
     match word {
-        "success" => match text_at(value, "body") {
+        "success" => match members.text("body") {
             Some(body) => Ok(EndLine::Success(body)),
             None => Err(Fault::Field),
         },
@@ -149,17 +149,14 @@ fn end_of<'a>(word: &str, value: &'a Value) -> Result<EndLine<'a>, Fault>
 
 /// The context and the key of a request where they stand, of any length: both or neither. `Field` comes where only one
 /// is there, or one is of another type.
-pub fn cache_of<'a>(
-    context: Option<&'a Value>,
-    key: Option<&'a Value>,
-) -> Result<Option<(u64, &'a str)>, Fault>
-    ensures { found_cache result ≡ cache_of (option_map (λ v. view v.now) context.entry) (option_map (λ v. view v.now) key.entry) }
+pub fn cache_of(members: Members<'_>) -> Result<Option<(u64, &str)>, Fault>
+    ensures { found_cache result ≡ cache_of (get (codes "context") (members_data members.entry)) (get (codes "key") (members_data members.entry)) }
 {
-    match (context, key) {
-        (None, None) => Ok(None),
-        (Some(context), Some(key)) => {
-            let context = context.as_u64().ok_or(Fault::Field)?;
-            let key = key.as_str().ok_or(Fault::Field)?;
+    match (members.has("context"), members.has("key")) {
+        (false, false) => Ok(None),
+        (true, true) => {
+            let context = members.number("context").ok_or(Fault::Field)?;
+            let key = members.text("key").ok_or(Fault::Field)?;
             Ok(Some((context, key)))
         }
         _ => Err(Fault::Field),

@@ -17,6 +17,7 @@ use bh_core::Core;
 use bh_lines::{Fault, PortError, fault_line, last_line, next_line, reply_line};
 use bh_props::Settings;
 use bytes::BytesMut;
+use json::Scratch;
 use std::alloc::{AllocError, Global};
 
 // Answers each line that has ended, behind what is in `out`, and keeps the bytes that follow the last of them.
@@ -34,8 +35,9 @@ pub fn answer_lines(
     ensures stopped { IfErr result (λ e. (before : List Step) (more : List ℕ) → Agrees (settings_seen settings.now) core.old before →
         Outcome (Some out.old.items) (Some out.new.items) (settings_seen settings.now) before (cut (buffer.old.items ++ more)) (Err e)) }
 {
+    let mut scratch = Scratch::new(alloc);
     while let Some(line) = next_line(buffer)? {
-        match answer_line(alloc, settings, core, line.as_str(), out) {
+        match answer_line(alloc, settings, core, &mut scratch, line.as_str(), out) {
             Ok(()) => {}
             Err(_) => return Err(PortError::Memory),
         }
@@ -61,7 +63,8 @@ pub fn answer_last(
         Ok(None) => return Ok(()),
         Err(error) => return Err(error),
     };
-    match answer_line(alloc, settings, core, line.as_str(), out) {
+    let mut scratch = Scratch::new(alloc);
+    match answer_line(alloc, settings, core, &mut scratch, line.as_str(), out) {
         Ok(()) => Ok(()),
         Err(_) => Err(PortError::Memory),
     }
@@ -72,6 +75,7 @@ fn answer_line(
     alloc: Global,
     settings: &Settings,
     core: &mut Core,
+    scratch: &mut Scratch,
     line: &str,
     out: &mut Vec<u8>,
 ) -> Result<(), AllocError>
@@ -79,7 +83,7 @@ fn answer_line(
         AnswersLine (settings_seen settings.now) before line.now core.new out.old.items out.new.items) }
     ensures kept { OnErr result (out.new.items ≡ out.old.items) }
 {
-    match step_of(alloc, settings, line) {
+    match step_of(alloc, settings, scratch, line) {
         Ok(Ok(step)) => answer_step(alloc, core, step, out),
         Ok(Err(fault)) => answer_fault(alloc, fault, out),
         Err(error) => Err(error),

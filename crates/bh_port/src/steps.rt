@@ -1,18 +1,19 @@
 //! The step that a line says to the groups of the settings.
 
 ghost use Rattle.std.specs.Prelude.{◌≡◌, ◌<◌, length, map, IfOk, IfSome};
-ghost use Rattle.serde_json.specs.View.{view};
+ghost use Rattle.bh_lines.specs.Flat.{members_data};
 ghost use Rattle.bh_lines.specs.StepLine.{group_number, step_at, step_of};
 ghost use Rattle.bh_props.specs.Seen.{settings_seen};
 ghost use Rattle.bh_port.specs.Text.{names_in};
 
 use bh_base::{GroupId, GroupProps, Step, Text};
 use bh_lines::Fault;
-use bh_lines::members::value_of;
+use bh_lines::flat::FlatObject;
+use bh_lines::members::{Members, value_of};
 use bh_lines::step_line::{if_short, said_at};
 use bh_props::Settings;
 use indexmap::IndexMap;
-use serde_json::Value;
+use json::Scratch;
 use std::alloc::{AllocError, Global};
 
 #[tactic(auto, unfolding(bh_lines::specs::StepLine::step_of))]
@@ -20,23 +21,27 @@ use std::alloc::{AllocError, Global};
 pub fn step_of(
     alloc: Global,
     settings: &Settings,
+    scratch: &mut Scratch,
     line: &str,
 ) -> Result<Result<Step, Fault>, AllocError>
     ensures said { IfOk result (λ said. said ≡ step_of (names_in (settings_seen settings.now)) line.now) }
     ensures group { IfOk result (λ said. IfOk said (λ step. step.group.0 < length settings.now.groups.entries)) }
 {
+    if let Some(object) = FlatObject::parse(line, scratch)? {
+        return Ok(step_at(settings, Members::Flat(&object)));
+    }
     match value_of(alloc, line)? {
-        Some(value) => Ok(step_at(settings, &value)),
+        Some(value) => Ok(step_at(settings, Members::Tree(&value))),
         None => Ok(Err(Fault::Syntax)),
     }
 }
 
-// The step that a value says: its group is looked up before its texts are measured.
-fn step_at(settings: &Settings, value: &Value) -> Result<Step, Fault>
-    ensures said { result ≡ step_at (names_in (settings_seen settings.now)) (view value.now) }
+// The step that the members say: the group is looked up before its texts are measured.
+fn step_at(settings: &Settings, members: Members<'_>) -> Result<Step, Fault>
+    ensures said { result ≡ step_at (names_in (settings_seen settings.now)) (members_data members.entry) }
     ensures group { IfOk result (λ step. step.group.0 < length settings.now.groups.entries) }
 {
-    let said = said_at(value)?;
+    let said = said_at(members)?;
     let group = group_number(&settings.groups, said.group).ok_or(Fault::Group)?;
     let op = if_short(said.op)?;
     Ok(Step {

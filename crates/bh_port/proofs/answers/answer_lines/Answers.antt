@@ -5,14 +5,14 @@ use Rattle.bh_port.proofs.answers.answer_lines.Goals as goal
 pub returns-in_err-line-clause-stopped : goal.returns-in_err-line-clause-stopped
 returns-in_err-line-clause-stopped c =
     let p = err_from_is_err_and c.from_residual.result c.from_residual.ensures.1 in
-    rw (p.1, p.2) (λ before more agrees. refused-next _ _ _ before _ _ _ _ more _ (c.loop-line.invariant before agrees) c.in_err-line.ensures)
+    rw (p.1, p.2) (λ before more agrees. refused-next _ _ _ before _ _ _ _ more _ (c.loop-scratch.invariant before agrees) c.in_err-line.ensures)
 
 pub returns-in-Err-clause-stopped : goal.returns-in-Err-clause-stopped
-returns-in-Err-clause-stopped c = λ before more agrees. unanswered _ _ _ _ before _ _ _ more (c.loop-line.invariant before agrees) c.in-Err.ensures.kept
+returns-in-Err-clause-stopped c = λ before more agrees. unanswered _ _ _ _ before _ _ _ more (c.loop-scratch.invariant before agrees) c.in-Err.ensures.kept
 
-pub loop-line-preserved : goal.loop-line-preserved
-loop-line-preserved c = λ before agrees.
-    answered-found _ _ _ _ before _ _ _ _ _ _ _ _ (c.loop-line.invariant before agrees) c.in-Some.is c.in_ok-line.ensures c.as_str.ensures.value c.in-Ok.ensures.answers
+pub loop-scratch-preserved : goal.loop-scratch-preserved
+loop-scratch-preserved c = λ before agrees.
+    answered-found _ _ _ _ before _ _ _ _ _ _ _ _ (c.loop-scratch.invariant before agrees) c.in-Some.is c.in_ok-line.ensures c.as_str.ensures.value c.in-Ok.ensures.answers
 
-pub loop-line-init : goal.loop-line-init
-loop-line-init c = λ before agrees. answered-none _ _ before _ _ agrees
+pub loop-scratch-init : goal.loop-scratch-init
+loop-scratch-init c = λ before agrees. answered-none _ _ before _ _ agrees

@@ -1,0 +1,134 @@
+//! Objects of a few members that hold no others, read from a line with no tree built of it.
+//!
+//! Nearly every line is one, and its members borrow from the line; any other line is read as a tree.
+
+ghost use Rattle.std.specs.Prelude.{◌≡◌, ◌<◌, ◌==◌, false, length, slice_index, Some, option_map, IfOk, IfSome, OnSome};
+ghost use Rattle.serde_json.specs.Data.{unsigned};
+ghost use Rattle.serde_json.specs.Find.{get};
+ghost use Rattle.serde_json.specs.Read.{read, number_of, number_from};
+ghost use Rattle.bh_lines.specs.Flat.{scalar_data, flat_data, ReadsScalar, ReadsMembers};
+
+use arrayvec::ArrayVec;
+use fast_float::Numeral;
+use json::{Reader, Scratch, Token};
+use std::alloc::AllocError;
+
+// More than a step has.
+const MOST_MEMBERS: usize = 8;
+
+/// A value that holds no others. A number is whole and of 64 bits.
+#[derive(Clone, Copy, Debug, Default)]
+pub enum Scalar<'a> {
+    #[default]
+    Null,
+    Truth(bool),
+    Number(u64),
+    Text(&'a str),
+}
+
+/// A member of an object: its name, and its value.
+#[derive(Clone, Copy, Debug, Default)]
+pub struct FlatMember<'a> {
+    pub name: &'a str,
+    pub value: Scalar<'a>,
+}
+
+/// The members of an object, in the order of the line. Where a name comes twice, the later member counts.
+#[derive(Drop)]
+pub struct FlatObject<'a> {
+    pub members: ArrayVec<FlatMember<'a>, MOST_MEMBERS>,
+}
+
+impl<'a> FlatObject<'a> {
+    /// The object that a line is, where it has few members and each is a scalar. `None` says nothing of the line.
+    ///
+    /// It fails only for want of memory: the scratch grows to the length of the line.
+    pub fn parse(
+        line: &'a str,
+        scratch: &'a mut Scratch,
+    ) -> Result<Option<FlatObject<'a>>, AllocError>
+        ensures { IfOk result (λ object. IfSome object (λ object. read line.now ≡ Some (flat_data object.members.items))) }
+    {
+        let mut reader = Reader::new(line, scratch)?;
+        match reader.next() {
+            Some(Token::BeginObject) => {}
+            _ => return Ok(None),
+        }
+        let Some(object) = next_members(&mut reader) else {
+            return Ok(None);
+        };
+        match reader.next() {
+            Some(_) => Ok(None),
+            None => Ok(Some(object)),
+        }
+    }
+
+    /// The value of the member, if there is one.
+    pub fn get(&self, name: &str) -> Option<Scalar<'a>>
+        ensures { option_map scalar_data result ≡ get name.now (flat_data self.now.members.items) }
+    {
+        let members = self.members.as_slice();
+        let mut left = members.len();
+        while left > 0 {
+            left -= 1;
+            let member = members[left];
+            if name == member.name {
+                return Some(member.value);
+            }
+        }
+        None
+    }
+}
+
+// The members up to the bracket that closes their object.
+fn next_members<'a>(reader: &mut Reader<'a>) -> Option<FlatObject<'a>>
+    ensures { IfSome result (λ object. ReadsMembers object.members.items reader.old reader.new) }
+{
+    let mut found = ArrayVec::new();
+    while let Some(name) = reader.next_key().ok()? {
+        let value = next_scalar(reader)?;
+        found.try_push(FlatMember { name, value }).ok()?;
+    }
+    Some(FlatObject { members: found })
+}
+
+// The scalar that is next.
+fn next_scalar<'a>(reader: &mut Reader<'a>) -> Option<Scalar<'a>>
+    ensures value { IfSome result (λ scalar. ReadsScalar scalar reader.old reader.new) }
+    ensures shorter { OnSome result (length reader.new < length reader.old) }
+{
+    match reader.next()? {
+        Token::String(text) => Some(Scalar::Text(text)),
+        Token::Number(text) => match whole_number(text) {
+            Some(n) => Some(Scalar::Number(n)),
+            None => None,
+        },
+        Token::Bool(truth) => Some(Scalar::Truth(truth)),
+        Token::Null => Some(Scalar::Null),
+        _ => None,
+    }
+}
+
+// The number that a number's text says, where it is whole and of 64 bits.
+fn whole_number(text: &str) -> Option<u64>
+    ensures { IfSome result (λ n. number_of text.now ≡ Some (unsigned n)) }
+{
+    let bytes = text.as_bytes();
+    if has_minus(bytes) {
+        return None;
+    }
+    whole_numeral(&Numeral::scan(bytes))
+}
+
+fn has_minus(bytes: &[u8]) -> bool
+    ensures { result ≡ (slice_index bytes.now 0 == 45) }
+{
+    !bytes.is_empty() && bytes[0] == b'-'
+}
+
+// The number that a numeral without a sign says, where it is whole and of 64 bits.
+fn whole_numeral(numeral: &Numeral<'_>) -> Option<u64>
+    ensures { IfSome result (λ n. number_from false numeral.now ≡ Some (unsigned n)) }
+{
+    numeral.to_u64()
+}
