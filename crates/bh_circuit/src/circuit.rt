@@ -1,6 +1,7 @@
 //! The state of a circuit breaker, and how a submit and the end of a ticket move it.
 
-ghost use Rattle.std.specs.Prelude.{◌≡◌, ◌≤◌};
+ghost use Rattle.std.specs.Prelude.{◌≡◌, ◌≤◌, ℕ, true, false, Some};
+ghost use Rattle.bh_base.specs.declared.event.Health.{Health};
 ghost use Rattle.bh_base.specs.Circuit.{new_circuit, asked, asked_closed, asked_at, snapshot_at, ended as circuit_after, closes, taken_at, AreBefore};
 
 use crate::health::is_unhealthy;
@@ -70,6 +71,27 @@ impl Circuit {
             return Admit::Pass;
         }
         self.admit_by_state(now, props, health, serial)
+    }
+
+    /// Whether a submit at the moment `now` makes it take a new snapshot of health: where it does not, its answer is the
+    /// same whatever the health.
+    ///
+    /// It does where it is closed, no property decides, and its snapshot is `health_ms` old or there is none.
+    pub fn takes_snapshot(&self, now: Moment, props: &GroupProps) -> bool
+        requires { AreBefore now self.now }
+        ensures taken { result ≡ true → (serial : ℕ) (h : Health) →
+            (asked props.now now h serial self.now).circuit.snapshot ≡ Some (record { taken = now; health = h }) }
+        ensures unneeded { result ≡ false → (serial : ℕ) (h k : Health) →
+            asked props.now now h serial self.now ≡ asked props.now now k serial self.now }
+    {
+        if !props.circuit_on || props.force_open || props.force_closed {
+            return false;
+        }
+        match (self.state, self.snapshot) {
+            (CircuitState::Closed, Some(kept)) => now - kept.taken >= props.health_ms,
+            (CircuitState::Closed, None) => true,
+            _ => false,
+        }
     }
 
     /// Tells the circuit breaker that the ticket of the serial ended so at the moment `now`; true exactly where that

@@ -2,6 +2,7 @@
 -- into its begin, the case of its operation, and its end.
 use Rattle.std.specs.Prelude.{◌≡◌, ℕ, ◌+◌, ◌-◌, ◌*◌, ◌/◌, ◌<◌, ◌≤◌, ◌^◌, Bool, List, [], ◌∷◌, filter, find, length, position, Option, Some, None, true, if◌then◌else◌}
 use Rattle.bh_base.specs.declared.event.EventKind.{EventKind}
+use Rattle.bh_base.specs.declared.event.Health.{Health}
 use Rattle.bh_base.specs.declared.props.GroupProps.{GroupProps}
 use Rattle.bh_base.specs.declared.circuit.End.{End}
 use Rattle.bh_base.specs.declared.reply.Reply.{Reply}
@@ -11,7 +12,7 @@ use Rattle.bh_base.specs.declared.ticket.TicketState.{TicketState}
 use Rattle.bh_base.specs.History.{window_of, is_of_health}
 use Rattle.bh_base.specs.Tables.{no_rows, later_table}
 use Rattle.bh_base.specs.Machine.{Present, Outcome, cached_as, ended_in, is_due, is_joined_by, outcome, test_timed_out, with_ticket}
-use Rattle.bh_base.specs.Circuit.{closes, is_test}
+use Rattle.bh_base.specs.Circuit.{Asked, asked, closes, is_test}
 use Rattle.bh_core.specs.declared.tickets.DueRule.{DueRule}
 use Rattle.bh_base.specs.Ranges.{IsQueueLength}
 use Rattle.bh_base.specs.Bounds.{HeldBy, open_count}
@@ -67,6 +68,10 @@ done v out = record {
   table = (with_events out.events v).table;
   health = (if out.closed then no_rows (window_of v.present.props) else (with_events out.events v).health);
 }
+
+-- what the circuit breaker answers to a submit of the next serial, where this is the group's health
+abbrev pub asked_with : View → Health → Asked
+asked_with v h = asked v.present.props v.present.latest h v.present.serial v.present.circuit
 
 -- what the operation does in a step that has begun
 abbrev pub outcome_now : View → Op → Outcome

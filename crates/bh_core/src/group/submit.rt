@@ -4,11 +4,13 @@ ghost use Rattle.std.specs.Prelude.{◌≡◌, ◌<◌, ◌≤◌, None, Some, l
 ghost use Rattle.bh_base.specs.declared.step.Op.TheVariants as op;
 ghost use Rattle.bh_base.specs.Machine.{due_fallback, is_admitted, placed, rejected, submitted};
 ghost use Rattle.bh_base.specs.Seen.{view_rolling};
-ghost use Rattle.bh_core.specs.Desk.{HasRoom, IsDone, IsDoneBy, IsJoinable, desk_with_ticket};
+ghost use Rattle.bh_core.specs.Desk.{HasRoom, IsDone, IsDoneBy, IsJoinable, asked_with, desk_with_ticket};
 
 use super::Group;
 use bh_admit::pool_admits;
-use bh_base::{Admit, Cause, End, EventKind, Reply, Request, Strategy, Ticket, TicketState};
+use bh_base::{
+    Admit, Cause, End, EventKind, Health, Reply, Request, Strategy, Ticket, TicketState,
+};
 
 impl Group {
     pub fn submit(&mut self, request: &Request) -> Reply
@@ -54,7 +56,7 @@ impl Group {
         if self.tickets.len() >= self.props.slots {
             return Reply::GroupFull;
         }
-        let health = self.history.health();
+        let health = self.health_asked();
         let said = self
             .circuit
             .admit(self.history.latest(), &self.props, health, self.serial);
@@ -67,6 +69,23 @@ impl Group {
             ),
             Admit::Test => self.place(request, true),
             Admit::Pass => self.place(request, false),
+        }
+    }
+
+    // Health for the circuit breaker, which is counted only where it is looked at.
+    fn health_asked(&self) -> Health
+        ensures range { result.errors ≤ result.total }
+        ensures same { asked_with self.now.view result ≡ asked_with self.now.view (view_rolling self.now.view self.now.view.present.latest).health }
+    {
+        if self
+            .circuit
+            .takes_snapshot(self.history.latest(), &self.props)
+        {
+            return self.history.health();
+        }
+        Health {
+            errors: 0,
+            total: 0,
         }
     }
 
