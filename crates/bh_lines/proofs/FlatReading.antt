@@ -1,5 +1,5 @@
 -- The members of an object that holds scalars alone: how they are put, and what is found of them.
-use Rattle.std.proofs.Common.{◌≡◌, ◌+◌, ◌-◌, ◌<◌, ◌≤◌, ℕ, true, false, List, [], ◌∷◌, ◌++◌, length, take, get_or, Some, refl, sym, ap, ◌∙◌, subst, arith}
+use Rattle.std.proofs.Common.{◌≡◌, zero, suc, ◌+◌, ◌-◌, ◌<◌, ◌≤◌, ℕ, true, false, List, [], ◌∷◌, ◌++◌, length, take, get_or, Some, refl, sym, ap, ◌∙◌, subst, arith}
 use Rattle.std.proofs.lemmas.List.{take_more}
 use Rattle.std.specs.declared.cmp.Ordering.{Ordering}
 use Rattle.std.specs.declared.cmp.Ordering.TheVariants.{Less, Equal, Greater}
@@ -12,11 +12,47 @@ use Rattle.json.specs.Token.{Token}
 use Rattle.json.specs.Lex.{tokens}
 use Rattle.json.specs.Json as json
 use Rattle.json.proofs.Grammar.{value-begin_object}
-use Rattle.serde_json.specs.Data.{Data, Members, no_members, member, put}
+use Rattle.serde_json.specs.Data.{negative, float, Data, Members, no_members, member, put}
 use Rattle.serde_json.specs.Find.{get_member}
-use Rattle.serde_json.specs.Read.{read}
-use Rattle.bh_lines.specs.Flat.{scalar_data, put_all, flat_data, ReadsMembers}
+use Rattle.serde_json.specs.Read.{read, number_from}
+use Rattle.fast_float.specs.Text.{Parts, nearest}
+use Rattle.std.specs.Prelude.{ℤ, Float, Bool, None, if◌then◌else◌}
+use Rattle.std.specs.Float.{binary64, float_is_finite}
+use Rattle.bh_lines.specs.Flat.{are_members, is_over, is_scalar_then, is_whole, scalar_data, put_all, flat_data, ReadsMembers}
 use Rattle.bh_lines.specs.declared.flat.FlatMember.{FlatMember}
+
+not_whole : (fits finite : Bool) (z : ℤ) (x : Float) → is_whole (if fits then Some (negative z) else (if finite then Some (float x) else None)) ≡ false
+not_whole true finite z x = refl
+not_whole false true z x = refl
+not_whole false false z x = refl
+
+-- a number with a sign is not read as one that is whole and of 64 bits
+pub signed_is_not_whole : (p : Parts) → is_whole (number_from true p) ≡ false
+signed_is_not_whole p = not_whole _ (float_is_finite (nearest binary64 true p)) _ _
+
+-- members begin with a key or end with the bracket
+pub no_members_without_key : (n : ℕ) (ts : List Token) → json.read_key ts ≡ None → are_members n ts ≡ false
+unfolding are_members
+no_members_without_key zero ts e = rw e
+no_members_without_key (suc n) ts e = rw e
+
+pub no_members_without_room : (ts r : List Token) (k : List ℕ) → json.read_key ts ≡ Some (Some k, r) → are_members 0 ts ≡ false
+unfolding are_members
+no_members_without_room ts r k e = rw e
+
+pub no_members_without_scalar : (n : ℕ) (ts r : List Token) (k : List ℕ) → json.read_key ts ≡ Some (Some k, r) → ((rest : List Token → Bool) → is_scalar_then rest r ≡ false) → are_members n ts ≡ false
+unfolding are_members
+no_members_without_scalar zero ts r k e none = rw e
+no_members_without_scalar (suc n) ts r k e none = rw e (none (are_members n))
+
+pub members_over : (n : ℕ) (ts r : List Token) → json.read_key ts ≡ Some (None, r) → are_members n ts ≡ is_over r
+unfolding are_members
+members_over zero ts r e = rw e
+members_over (suc n) ts r e = rw e
+
+pub members_after_one : (n m : ℕ) (ts s r : List Token) (k : List ℕ) → json.read_key ts ≡ Some (Some k, s) → n ≡ suc m → ((rest : List Token → Bool) → is_scalar_then rest s ≡ rest r) → are_members n ts ≡ are_members m r
+unfolding are_members
+members_after_one n m ts s r k e more one = ap (λ x. are_members x ts) more ∙ rw e (one (are_members m))
 
 -- one more member is put over those before it
 pub put_all_push : (ms : List FlatMember) (m : FlatMember) (found : Members)

@@ -2,18 +2,20 @@
 //!
 //! Nearly every line is one, and its members borrow from the line; any other line is read as a tree.
 
-ghost use Rattle.std.specs.Prelude.{◌≡◌, ◌<◌, ◌==◌, false, length, slice_index, Some, option_map, IfOk, IfSome, OnSome};
+ghost use Rattle.std.specs.Prelude.{◌≡◌, ◌<◌, ◌==◌, ◌&&◌, Bool, false, List, length, slice_index, Some, is_some, option_map, IfOk, IfSome, MatchOption, OnSome};
+ghost use Rattle.json.specs.Lex.{tokens};
+ghost use Rattle.json.specs.Token.{Token as JsonToken};
 ghost use Rattle.serde_json.specs.Data.{unsigned};
 ghost use Rattle.serde_json.specs.Find.{get};
 ghost use Rattle.serde_json.specs.Read.{read, number_of, number_from};
-ghost use Rattle.bh_lines.specs.Flat.{scalar_data, flat_data, ReadsScalar, ReadsMembers};
+ghost use Rattle.bh_lines.specs.Flat.{are_members, is_flat, is_over, is_scalar_then, is_whole, scalar_data, flat_data, ReadsScalar, ReadsMembers};
 
 use arrayvec::ArrayVec;
 use fast_float::Numeral;
 use json::{Reader, Scratch, Token};
 use std::alloc::AllocError;
 
-// More than a step has.
+// More than a step has; `is_flat` has the same number.
 const MOST_MEMBERS: usize = 8;
 
 /// A value that holds no others. A number is whole and of 64 bits.
@@ -40,14 +42,16 @@ pub struct FlatObject<'a> {
 }
 
 impl<'a> FlatObject<'a> {
-    /// The object that a line is, where it has few members and each is a scalar. `None` says nothing of the line.
+    /// The object that a line is, where it is one of at most eight members and each is a scalar; else `None`, which says
+    /// no more of the line.
     ///
     /// It fails only for want of memory: the scratch grows to the length of the line.
     pub fn parse(
         line: &'a str,
         scratch: &'a mut Scratch,
     ) -> Result<Option<FlatObject<'a>>, AllocError>
-        ensures { IfOk result (λ object. IfSome object (λ object. read line.now ≡ Some (flat_data object.members.items))) }
+        ensures found { IfOk result (λ object. is_some object ≡ is_flat (tokens line.now)) }
+        ensures value { IfOk result (λ object. IfSome object (λ object. read line.now ≡ Some (flat_data object.members.items))) }
     {
         let mut reader = Reader::new(line, scratch)?;
         match reader.next() {
@@ -82,7 +86,8 @@ impl<'a> FlatObject<'a> {
 
 // The members up to the bracket that closes their object.
 fn next_members<'a>(reader: &mut Reader<'a>) -> Option<FlatObject<'a>>
-    ensures { IfSome result (λ object. ReadsMembers object.members.items reader.old reader.new) }
+    ensures found { MatchOption result (are_members 8 reader.old ≡ false) (λ _. are_members 8 reader.old ≡ is_over reader.new) }
+    ensures value { IfSome result (λ object. ReadsMembers object.members.items reader.old reader.new) }
 {
     let mut found = ArrayVec::new();
     while let Some(name) = reader.next_key().ok()? {
@@ -94,6 +99,7 @@ fn next_members<'a>(reader: &mut Reader<'a>) -> Option<FlatObject<'a>>
 
 // The scalar that is next.
 fn next_scalar<'a>(reader: &mut Reader<'a>) -> Option<Scalar<'a>>
+    ensures found { (rest : List JsonToken → Bool) → is_scalar_then rest reader.old ≡ (is_some result && rest reader.new) }
     ensures value { IfSome result (λ scalar. ReadsScalar scalar reader.old reader.new) }
     ensures shorter { OnSome result (length reader.new < length reader.old) }
 {
@@ -111,7 +117,8 @@ fn next_scalar<'a>(reader: &mut Reader<'a>) -> Option<Scalar<'a>>
 
 // The number that a number's text says, where it is whole and of 64 bits.
 fn whole_number(text: &str) -> Option<u64>
-    ensures { IfSome result (λ n. number_of text.now ≡ Some (unsigned n)) }
+    ensures found { is_some result ≡ is_whole (number_of text.now) }
+    ensures value { IfSome result (λ n. number_of text.now ≡ Some (unsigned n)) }
 {
     let bytes = text.as_bytes();
     if has_minus(bytes) {
@@ -128,7 +135,8 @@ fn has_minus(bytes: &[u8]) -> bool
 
 // The number that a numeral without a sign says, where it is whole and of 64 bits.
 fn whole_numeral(numeral: &Numeral<'_>) -> Option<u64>
-    ensures { IfSome result (λ n. number_from false numeral.now ≡ Some (unsigned n)) }
+    ensures found { is_some result ≡ is_whole (number_from false numeral.now) }
+    ensures value { IfSome result (λ n. number_from false numeral.now ≡ Some (unsigned n)) }
 {
     numeral.to_u64()
 }

@@ -13,7 +13,7 @@ returns-in-String-clause-value c =
 pub returns-in-Some-clause-value : goal.returns-in-Some-clause-value
 returns-in-Some-clause-value c =
     let is : c.args.reader.now ≡ Token.number c.in-Number.text.now ∷ c.next.new.self = grind arith in
-    (json.number c.in-Number.text.now, λ depth. ap (value depth) is ∙ value_is depth _, rw c.in-Some.ensures)
+    (json.number c.in-Number.text.now, λ depth. ap (value depth) is ∙ value_is depth _, rw c.in-Some.ensures.value)
 
 pub returns-in-Bool-clause-value : goal.returns-in-Bool-clause-value
 returns-in-Bool-clause-value c =

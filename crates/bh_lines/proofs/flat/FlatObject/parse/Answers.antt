@@ -5,9 +5,9 @@ use Rattle.bh_lines.specs.Flat.{ReadsMembers}
 use Rattle.bh_lines.proofs.FlatReading.{read_flat}
 use Rattle.bh_lines.proofs.flat.FlatObject.parse.Goals as goal
 
-pub returns-in-None : goal.returns-in-None
-returns-in-None c =
+pub returns-in-None-clause-value : goal.returns-in-None-clause-value
+returns-in-None-clause-value c =
     let opens : tokens c.args.line.now ≡ Token.begin_object ∷ c.next.new.self = grind arith in
     let over : c.next_members.new.reader ≡ [] = c.in-None.ensures.value.0 in
     let found = c.in-Some.object.members.items in
-    read_flat c.args.line.now found c.next.new.self opens (subst (ReadsMembers found c.next.new.self) over c.in-Some.ensures)
+    read_flat c.args.line.now found c.next.new.self opens (subst (ReadsMembers found c.next.new.self) over c.in-Some.ensures.value)
