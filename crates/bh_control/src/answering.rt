@@ -4,14 +4,13 @@ ghost use Rattle.std.specs.Prelude.{◌≡◌, length, map, ◌++◌, ◌∷◌,
 ghost use Rattle.serde_json.specs.Data.{array, string};
 ghost use Rattle.serde_json.specs.View.{view};
 ghost use Rattle.bh_lines.specs.ReplyLine.{line_of};
-ghost use Rattle.bh_lines.specs.FaultLine.{error_data};
 ghost use Rattle.bh_control.specs.ControlLine.{IsOfGroups};
 ghost use Rattle.bh_control.specs.Answering.{responder, texts_data, groups_data, groups_line, answer_line, Answers, IsAnswer};
 
 use crate::control::Control;
 use crate::control_line::ControlLine;
 use bh_base::{Answer, CallError, Reply, Text};
-use bh_lines::{fault_line, line_of, reply_line};
+use bh_lines::{error_line, fault_line, line_of, reply_line};
 use serde_json::{Value, json};
 use std::alloc::{AllocError, Global};
 
@@ -105,18 +104,4 @@ fn answer_line(alloc: Global, answer: Result<Answer, CallError>) -> Result<Strin
         Err(CallError::Taken) => error_line(alloc, "taken"),
         Err(CallError::NoGroup) => error_line(alloc, "group"),
     }
-}
-
-// The line that says why there is no answer.
-fn error_line(alloc: Global, why: &str) -> Result<String, AllocError>
-    ensures { IfOk result (λ s. string_bytes s ≡ line_of (error_data why.now)) }
-{
-    let value = error_value(alloc, why)?;
-    line_of(alloc, &value)
-}
-
-fn error_value(alloc: Global, why: &str) -> Result<Value, AllocError>
-    ensures { IfOk result (λ v. view v ≡ error_data why.now) }
-{
-    json!(in alloc; {"error": why})
 }

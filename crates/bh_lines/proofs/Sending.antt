@@ -21,14 +21,14 @@ sent-first (Ok x) a b c first rest one other = record {
 }
 sent-first (Err e) a b c first rest one other = tt
 
--- a writer that began with nothing was sent a value, and its bytes got a line feed
-pub line-sent : (d : Data) (made wrote : Written) (start items line done : List ℕ) → start ≡ [] → made.before ≡ start → made.tokens ≡ [] → Sends made wrote (data_tokens d)
-    → items ≡ wrote.before ++ print wrote.tokens → line ≡ items → done ≡ line ++ 10 ∷ [] → done ≡ line_of d
-line-sent d made wrote start items line done none before tokens sent is text pushed =
+-- a writer that began with nothing was sent a value, and what it printed got a line feed
+pub line-sent : (d : Data) (made wrote : Written) (start : List ℕ) → start ≡ [] → made.before ≡ start → made.tokens ≡ [] → Sends made wrote (data_tokens d)
+    → (wrote.before ++ print wrote.tokens) ++ 10 ∷ [] ≡ line_of d
+line-sent d made wrote start none before tokens sent =
     let whole : wrote.tokens ≡ data_tokens d = sent.tokens ∙ ap (λ ts. ts ++ data_tokens d) tokens in
     let printed : wrote.before ++ print wrote.tokens ≡ compact_text d =
     ap (λ bs. bs ++ print wrote.tokens) (sent.before ∙ before ∙ none) ∙ ap print whole ∙ print-outline d in
-    pushed ∙ ap (λ bs. bs ++ 10 ∷ []) (text ∙ is ∙ printed)
+    ap (λ bs. bs ++ 10 ∷ []) printed
 
 counts-sent : (names : List (List ℕ)) (counts : List ℕ) → counts_tokens names counts ++ end_object ∷ [] ≡ members_tokens (members_outline (counts_members names counts))
 counts-sent [] counts = refl

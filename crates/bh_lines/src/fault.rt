@@ -1,11 +1,9 @@
 //! The faults of a line, and the lines that answer them.
 
 ghost use Rattle.std.specs.Prelude.{◌≡◌, IfOk, string_bytes};
-ghost use Rattle.serde_json.specs.View.{view};
-ghost use Rattle.bh_lines.specs.FaultLine.{fault_word, error_data, fault_line};
+ghost use Rattle.bh_lines.specs.FaultLine.{fault_word, fault_line};
 
-use crate::replies::line_of;
-use serde_json::{Value, json};
+use crate::replies::error_line;
 use std::alloc::{AllocError, Global};
 
 /// Why a line says no step: the first that holds.
@@ -31,15 +29,7 @@ pub enum Fault {
 pub fn fault_line(alloc: Global, fault: Fault) -> Result<String, AllocError>
     ensures { IfOk result (λ s. string_bytes s ≡ fault_line fault) }
 {
-    let value = error_value(alloc, fault_word(fault))?;
-    line_of(alloc, &value)
-}
-
-// An object that says why nothing was done.
-fn error_value(alloc: Global, why: &str) -> Result<Value, AllocError>
-    ensures { IfOk result (λ v. view v ≡ error_data why.now) }
-{
-    json!(in alloc; {"error": why})
+    error_line(alloc, fault_word(fault))
 }
 
 fn fault_word(fault: Fault) -> &'static str

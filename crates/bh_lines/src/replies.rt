@@ -1,11 +1,13 @@
 //! Replies, each printed as a line of compact JSON with its members in the order of their names.
 
 ghost use Rattle.std.specs.Prelude.{◌≡◌, ◌++◌, ◌∷◌, [], ℕ, List, false, map, length, IfOk, OnOk, string_bytes};
+ghost use Rattle.json.specs.Print.{print};
 ghost use Rattle.json.specs.Token.{end_object};
 ghost use Rattle.json.specs.Tree.{members_tokens};
 ghost use Rattle.serde_json.specs.View.{view};
 ghost use Rattle.serde_json.specs.Written.{has_float, members_outline};
 ghost use Rattle.bh_lines.specs.ReplyLine.{cause_word, fallback_word, circuit_word, kind_names, named, numbered, fallback_due_data, assigned_data, expired_data, run_fallback_data, closed_data, value_data, fallback_value_data, error_answer_data, events_data, metrics_data, answer_data, reply_data, line_of, reply_line};
+ghost use Rattle.bh_lines.specs.FaultLine.{error_data};
 ghost use Rattle.bh_lines.specs.Sent.{Sends, data_tokens, counts_tokens};
 
 use crate::writing::{
@@ -26,6 +28,25 @@ pub fn reply_line(alloc: Global, reply: &Reply) -> Result<String, AllocError>
 {
     let mut writer = Writer::new(Vec::with_capacity(alloc, LINE_ROOM)?);
     write_reply(&mut writer, reply)?;
+    into_line(writer)
+}
+
+/// The line that says why nothing was done, with its line feed: an object whose one member `error` is the text. It fails
+/// only for want of memory.
+pub fn error_line(alloc: Global, why: &str) -> Result<String, AllocError>
+    ensures { IfOk result (λ s. string_bytes s ≡ line_of (error_data why.now)) }
+{
+    let mut writer = Writer::new(Vec::with_capacity(alloc, LINE_ROOM)?);
+    let members = [Member::Text("error", why)];
+    write_object(&mut writer, &members)?;
+    into_line(writer)
+}
+
+// What the writer printed, and a line feed.
+fn into_line(writer: Writer) -> Result<String, AllocError>
+    requires { writer.before ≡ [] }
+    ensures { IfOk result (λ s. string_bytes s ≡ (writer.before ++ print writer.tokens) ++ 10 ∷ []) }
+{
     let mut line = unsafe { String::from_utf8_unchecked(writer.into_inner()) };
     line.push('\n')?;
     Ok(line)

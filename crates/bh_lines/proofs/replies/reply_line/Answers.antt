@@ -1,10 +1,9 @@
-use Rattle.std.proofs.Common.{ap}
 use Rattle.bh_lines.specs.ReplyLine.{reply_data, reply_line}
 use Rattle.bh_lines.proofs.Sending.{line-sent}
 use Rattle.bh_lines.proofs.replies.reply_line.Goals as goal
 
 pub returns : goal.returns
-unfolding reply_line lib.Utf8.encode
+unfolding reply_line
 returns c =
-    line-sent (reply_data c.args.reply.now) c.new-writer.result c.write_reply.new.writer _ _ _ _ c.in_ok-with_capacity.ensures.items c.new-writer.ensures.before c.new-writer.ensures.tokens
-    c.in_ok-write_reply.ensures c.into_inner.ensures.items (ap (λ v. v.items) c.from_utf8_unchecked-line.ensures.value) c.in_ok-push.ensures.bytes
+    rw (line-sent (reply_data c.args.reply.now) c.new-writer.result c.write_reply.new.writer _ c.in_ok-with_capacity.ensures.items c.new-writer.ensures.before c.new-writer.ensures.tokens c.in_ok-write_reply.ensures)
+    at c.into_line.ensures
