@@ -1,23 +1,19 @@
 //! A service that threads share, by its public calls: that memory is there, what the calls answer that no clause
 //! speaks of, and that a thread that waits is woken.
 
-ghost use Rattle.std.specs.Prelude.{◌≤◌, IfOk, IfSome, OnOk, length};
-ghost use Rattle.bh_base.specs.Ranges.{IsInRange};
-ghost use Rattle.bh_audit.specs.Books.{AreNew};
+ghost use Rattle.std.specs.Prelude.{◌≤◌};
 
-use crate::samples::{props, step, submit, text};
-use bh_audit::{AuditError, AuditReport, Book, Clock, Next, Pass, PassError, Shared, StepError};
-use bh_base::{Answer, GroupId, GroupProps, Op, Reply, Strategy};
-use bh_core::{Core, RegisterError};
-use std::alloc::Global;
+use crate::samples::{props, step};
+use crate::script::{assert_text, number, reply_text, split_line, split_word, step_of};
+use crate::services::{A, B, assert_end, service, share, three_groups, two_groups};
+use bh_audit::{Book, Clock, Next, Pass, PassError, Shared, StepError};
+use bh_base::{GroupId, GroupProps, Op, Reply, Strategy};
+use std::alloc::{AllocError, Global};
+use std::process::Abort;
 use std::sync::Wait;
 use std::sync::atomic::{AtomicU64, Ordering};
-use std::test::Fail;
 use std::thread;
-
-const A: GroupId = GroupId(0);
-
-const B: GroupId = GroupId(1);
+use std::thread::Threads;
 
 /// Always says the same moment.
 #[derive(Drop)]
@@ -31,337 +27,348 @@ impl Clock for Still {
     }
 }
 
-/// Adds a group that did no step.
-fn add(core: &mut Core, props: GroupProps, steps: u64) -> Result<GroupId, RegisterError>
-    requires props { IsInRange props }
-    requires some { 1 ≤ steps }
-    requires few { steps ≤ 1024 }
-    requires new { AreNew steps core.old.views }
-    ensures { OnOk result (AreNew steps core.new.views) }
-{
-    core.register(props, steps)
+/// What a call said that makes a step.
+fn told_text(alloc: Global, told: &Result<Reply, StepError>) -> Result<String, AllocError> {
+    match told {
+        Ok(reply) => reply_text(alloc, reply),
+        Err(error) => format!(in alloc; "{error:?}"),
+    }
 }
 
-/// A core of two groups, of which the first has the settings that are built in.
-fn two_groups(alloc: Global, second: GroupProps, steps: u64) -> Result<Core, RegisterError>
-    requires props { IsInRange second }
-    requires some { 1 ≤ steps }
-    requires few { steps ≤ 1024 }
-    ensures { IfOk result (λ core. AreNew steps core.views) }
-{
-    let mut core = Core::new(alloc, 1000);
-    add(&mut core, props(), steps)?;
-    add(&mut core, second, steps)?;
-    Ok(core)
+fn next_text(alloc: Global, told: &Result<Next, StepError>) -> Result<String, AllocError> {
+    match told {
+        Ok(Next::Assigned { serial, arg }) => format!(in alloc;
+            "Assigned({serial} {})",
+            arg.as_str()
+        ),
+        Ok(other) => format!(in alloc; "{other:?}"),
+        Err(error) => format!(in alloc; "{error:?}"),
+    }
 }
 
-fn service(alloc: Global, core: Core, audit: Option<u64>) -> Result<Shared, Fail>
-    requires { IfSome audit (λ steps. AreNew steps core.views) }
-{
-    let book = Book::new(alloc, core, audit).ok().ok_or("no memory")?;
-    Ok(Shared::new(alloc, book).ok().ok_or("no memory")?)
+fn await_text<R: Wait>(
+    rt: &R,
+    alloc: Global,
+    shared: &Shared,
+    pass: &mut Pass,
+    words: &str,
+) -> Result<String, AllocError> {
+    let (serial, now) = split_word(words);
+    let told = shared.await_answer(rt, pass, number(serial), &Still(number(now)));
+    told_text(alloc, &told)
+}
+
+fn due_text(alloc: Global, told: &Result<Option<u64>, StepError>) -> Result<String, AllocError> {
+    format!(in alloc; "{told:?}")
+}
+
+/// What a look at the pass says.
+fn look_text(alloc: Global, pass: &Pass, name: &str) -> Result<String, AllocError> {
+    match name {
+        "receipts" => format!(in alloc; "{}", pass.receipts().len()),
+        "room" => format!(in alloc; "{}", pass.room_left()),
+        "marks" => format!(in alloc; "{:?}", pass.marks()),
+        _ => first_step_text(alloc, pass),
+    }
+}
+
+fn first_step_text(alloc: Global, pass: &Pass) -> Result<String, AllocError> {
+    match pass.receipts().get(0) {
+        Some(receipt) => format!(in alloc; "{:?}", receipt.step),
+        None => format!(in alloc; "none"),
+    }
+}
+
+/// What a call says that is no step of the pass's own making.
+fn ask_shared<R: Wait>(
+    rt: &R,
+    alloc: Global,
+    shared: &Shared,
+    pass: &mut Pass,
+    words: &str,
+) -> Result<String, AllocError> {
+    let (name, rest) = split_word(words);
+    match name {
+        "next" => next_text(alloc, &shared.next(rt, pass, &Still(number(rest)))),
+        "due" => due_text(alloc, &shared.expire_due(rt, pass, &Still(number(rest)))),
+        "await" => await_text(rt, alloc, shared, pass, rest),
+        _ => look_text(alloc, pass, name),
+    }
+}
+
+/// What the call of the words says: of a step, or of another call.
+fn ask<R: Wait>(
+    rt: &R,
+    alloc: Global,
+    shared: &Shared,
+    pass: &mut Pass,
+    words: &str,
+) -> Result<String, AllocError> {
+    match step_of(words) {
+        Some(step) => told_text(alloc, &shared.step(rt, pass, step)),
+        None => ask_shared(rt, alloc, shared, pass, words),
+    }
+}
+
+/// Asserts what is said to each line, which begins with the number of a pass.
+fn play<R: Abort + Wait + AllocGlobal>(
+    rt: &R,
+    shared: &Shared,
+    passes: &mut Vec<Pass>,
+    script: &str,
+) {
+    for line in script.lines() {
+        let (asked, want) = split_line(line);
+        let (at, words) = split_word(asked);
+        let pass = passes.get_mut(number(at) as usize).expect(rt, "a pass");
+        assert_text(rt, ask(rt, rt.alloc(), shared, pass, words), want, line);
+    }
+}
+
+/// The passes of these groups, with room for so many receipts.
+fn take_passes<R: Abort + AllocGlobal>(
+    rt: &R,
+    shared: &Shared,
+    wanted: &[(GroupId, u64)],
+) -> Vec<Pass> {
+    let mut passes = Vec::new(rt.alloc());
+    for (group, room) in wanted {
+        let pass = shared.pass(rt.alloc(), *group, *room).expect(rt, "a pass");
+        passes.push(pass).expect(rt, "memory");
+    }
+    passes
 }
 
 /// An audited service of two groups.
-fn audited(alloc: Global, steps: u64) -> Result<Shared, Fail>
+fn audited<R: Abort + AllocGlobal>(rt: &R, steps: u64) -> Shared
     requires some { 1 ≤ steps }
     requires few { steps ≤ 1024 }
 {
-    service(alloc, two_groups(alloc, props(), steps)?, Some(steps))
+    service(rt, props(), props(), steps)
 }
 
-fn collect(serial: u64) -> Op {
-    Op::Collect { serial }
-}
-
-fn finish(serial: u64, body: &str) -> Op
-    requires fits { length body.now ≤ 256 }
+/// A service of two groups without an audit.
+fn unaudited<R: Abort + AllocGlobal>(rt: &R, steps: u64) -> Shared
+    requires some { 1 ≤ steps }
+    requires few { steps ≤ 1024 }
 {
-    let body = text(body);
-    Op::Finish { serial, body }
+    let core = two_groups(rt.alloc(), props(), props(), steps).expect(rt, "memory");
+    share(rt, core, None)
 }
 
-/// Submits, starts and finishes the first ticket of the first group, and says whether the replies are right.
-fn run_first<R: Wait>(rt: &R, shared: &Shared, pass: &mut Pass) -> bool {
-    let assigned = Reply::Assigned {
-        serial: 1,
-        arg: text("x"),
-    };
-    shared.step(rt, pass, step(0, 0, &submit("x"))) == Ok(Reply::Queued(1))
-        && shared.step(rt, pass, step(0, 0, &Op::Start)) == Ok(assigned)
-        && shared.step(rt, pass, step(0, 0, &finish(1, "r"))) == Ok(Reply::Done)
+/// A book of two groups that may do two steps each.
+fn book(alloc: Global, audited: bool) -> Option<Book> {
+    let core = two_groups(alloc, props(), props(), 2).ok()?;
+    let audit = if audited { Some(2) } else { None };
+    Book::new(alloc, core, audit).ok()
 }
 
-/// What the end of a service said, with the length of the first journal.
-#[derive(Clone, Copy, Debug, PartialEq, Eq)]
-enum End {
-    Agreed(usize),
-    NotAudited,
-    Memory,
-    Missing(GroupId, u64, usize),
-    Mismatch(GroupId, u64, usize),
+/// Starts in the group, and tells the place of the step and the reply.
+fn start_text(alloc: Global, book: &mut Book, group: u64) -> Result<String, AllocError> {
+    let (place, reply) = book.apply(step(group, 0, &Op::Start));
+    format!(in alloc; "{place:?} {reply:?}")
 }
 
-fn first_length(report: &AuditReport) -> usize {
-    match report.journals.get(0) {
-        Some(journal) => journal.len(),
-        None => 0,
+/// Asserts the place and the reply of a step of the group of each line.
+fn assert_places<R: Abort + AllocGlobal>(rt: &R, book: &mut Book, script: &str) {
+    for line in script.lines() {
+        let (group, want) = split_line(line);
+        let told = start_text(rt.alloc(), book, number(group));
+        assert_text(rt, told, want, line);
     }
 }
 
-fn end_of(finished: &Result<AuditReport, AuditError>) -> End {
-    match finished {
-        Ok(report) => End::Agreed(first_length(report)),
-        Err(AuditError::NotAudited) => End::NotAudited,
-        Err(AuditError::Memory) => End::Memory,
-        Err(
-            AuditError::PassMissing {
-                group,
-                place,
-                report,
-            },
-        ) => End::Missing(*group, *place, first_length(report)),
-        Err(
-            AuditError::Mismatch {
-                group,
-                place,
-                report,
-            },
-        ) => End::Mismatch(*group, *place, first_length(report)),
+const PLACES: &str = "0 = Some(1) Idle
+0 = Some(2) Idle
+0 = None Worn
+1 = Some(1) Idle
+2 = None NoGroup
+";
+
+fn assert_book<R: Abort + AllocGlobal>(rt: &R, audited: bool, journal: Option<u64>) {
+    let mut book = book(rt.alloc(), audited).expect(rt, "memory");
+    assert_places(rt, &mut book, PLACES);
+    let (_, journals) = book.into_parts();
+    let first = journals.get(0).map(|journal| journal.len());
+    assert_eq!(rt; first, journal);
+}
+
+#[test]
+fn a_book_numbers_the_steps_of_each_group(rt: HostRuntime) {
+    assert_book(&rt, true, Some(2));
+    assert_book(&rt, false, None);
+}
+
+/// The first ticket of the first group is submitted, started and finished.
+const FIRST_RUN: &str = "0 0 0 submit x = Queued(1)
+0 0 0 start = Assigned(1 x)
+0 0 0 finish 1 r = Done
+";
+
+const WORN: &str = "0 0 0 collect 1 = Worn
+1 1 0 submit y = Queued(1)
+0 marks = Marks { worn: true, no_group: false, stopped: false }
+0 receipts = 3
+";
+
+#[test]
+fn a_worn_group_has_a_whole_account(rt: HostRuntime) {
+    let shared = audited(&rt, 3);
+    let mut passes = take_passes(&rt, &shared, &[(A, 10), (B, 10)]);
+    play(&rt, &shared, &mut passes, FIRST_RUN);
+    play(&rt, &shared, &mut passes, WORN);
+    assert_end(&rt, shared, passes, "3 of 3, 1 of 3, running");
+}
+
+#[test]
+fn a_mark_that_is_not_true_is_a_mismatch(rt: HostRuntime) {
+    let other = audited(&rt, 3);
+    let mut marked = take_passes(&rt, &other, &[(A, 10)]);
+    play(&rt, &other, &mut marked, FIRST_RUN);
+    play(&rt, &other, &mut marked, "0 0 0 collect 1 = Worn");
+
+    let shared = audited(&rt, 4);
+    let mut own = take_passes(&rt, &shared, &[(A, 10)]);
+    play(&rt, &shared, &mut own, FIRST_RUN);
+    assert_end(
+        &rt,
+        shared,
+        marked,
+        "mismatch at 0 4: 3 of 4, 0 of 4, running",
+    );
+}
+
+const TWO_PASSES: &str = "0 0 18446744073709551615 submit x = Queued(1)
+1 0 18446744073709551615 expire = Expired(0)
+";
+
+#[test]
+fn a_pass_that_is_not_there_is_missed(rt: HostRuntime) {
+    let shared = audited(&rt, 10);
+    let mut passes = take_passes(&rt, &shared, &[(A, 5), (A, 5)]);
+    play(&rt, &shared, &mut passes, TWO_PASSES);
+    passes.truncate(1);
+    assert_end(
+        &rt,
+        shared,
+        passes,
+        "missing at 0 2: 2 of 10, 0 of 10, running",
+    );
+}
+
+/// How many groups there are, and how many workers each of three numbers wants.
+fn workers_text<R: Wait>(rt: &R, alloc: Global, shared: &Shared) -> Result<String, AllocError> {
+    let groups = shared.groups(rt);
+    let mut text = format!(in alloc; "{groups} groups:")?;
+    for group in 0..3_u64 {
+        let workers = shared.workers(rt, GroupId(group));
+        text.push_str(format!(in alloc; " {workers}")?.as_str())?;
     }
-}
-
-fn start(book: &mut Book, group: u64) -> (Option<u64>, Reply) {
-    book.apply(step(group, 0, &Op::Start))
+    Ok(text)
 }
 
 #[test]
-fn a_book_numbers_the_steps_of_each_group(rt: HostRuntime) -> Result<(), Fail> {
-    let alloc = rt.alloc();
-    for audit in [Some(2), None] {
-        let core = two_groups(alloc, props(), 2)?;
-        let mut book = Book::new(alloc, core, audit).ok().ok_or("no memory")?;
-        assert_eq!(rt; start(&mut book, 0), (Some(1), Reply::Idle));
-        assert_eq!(rt; start(&mut book, 0), (Some(2), Reply::Idle));
-        assert_eq!(rt; start(&mut book, 0), (None, Reply::Worn));
-        assert_eq!(rt; start(&mut book, 1), (Some(1), Reply::Idle));
-        assert_eq!(rt; start(&mut book, 2), (None, Reply::NoGroup));
-        let (_, journals) = book.into_parts();
-        let first = journals.get(0).map(|journal| journal.len());
-        assert_eq!(rt; first, audit);
-    }
-    Ok(())
-}
-
-#[test]
-fn a_worn_group_has_a_whole_account(rt: HostRuntime) -> Result<(), Fail> {
-    let alloc = rt.alloc();
-    let shared = audited(alloc, 3)?;
-    let mut a = shared.pass(alloc, A, 10)?;
-    let mut b = shared.pass(alloc, B, 10)?;
-    assert!(rt; run_first(&rt, &shared, &mut a));
-    assert_eq!(rt;
-        shared.step(&rt, &mut a, step(0, 0, &collect(1))),
-        Ok(Reply::Worn)
-    );
-    assert_eq!(rt;
-        shared.step(&rt, &mut b, step(1, 0, &submit("y"))),
-        Ok(Reply::Queued(1))
-    );
-    assert!(rt; a.marks().worn);
-    assert_eq!(rt; a.receipts().len(), 3);
-
-    let report = shared.finish(alloc, vec![in alloc; a, b]?)?;
-    assert_eq!(rt; first_length(&report), 3);
-    assert_eq!(rt; report.journals.len(), 2);
-    assert_eq!(rt; report.journals[1].len(), 1);
-    assert_eq!(rt; report.groups[1], (props(), 3));
-    assert!(rt; !report.stopped);
-    Ok(())
-}
-
-#[test]
-fn a_mark_that_is_not_true_is_a_mismatch(rt: HostRuntime) -> Result<(), Fail> {
-    let alloc = rt.alloc();
-    let other = audited(alloc, 3)?;
-    let mut marked = other.pass(alloc, A, 10)?;
-    assert!(rt; run_first(&rt, &other, &mut marked));
-    assert_eq!(rt;
-        other.step(&rt, &mut marked, step(0, 0, &collect(1))),
-        Ok(Reply::Worn)
-    );
-
-    let shared = audited(alloc, 4)?;
-    let mut own = shared.pass(alloc, A, 10)?;
-    assert!(rt; run_first(&rt, &shared, &mut own));
-    let finished = shared.finish(alloc, vec![in alloc; marked]?);
-    assert_eq!(rt; end_of(&finished), End::Mismatch(A, 4, 3));
-    Ok(())
-}
-
-#[test]
-fn a_pass_that_is_not_there_is_missed(rt: HostRuntime) -> Result<(), Fail> {
-    let alloc = rt.alloc();
-    let shared = audited(alloc, 10)?;
-    let mut first = shared.pass(alloc, A, 5)?;
-    let mut second = shared.pass(alloc, A, 5)?;
-    assert_eq!(rt;
-        shared.step(&rt, &mut first, step(0, u64::MAX, &submit("x"))),
-        Ok(Reply::Queued(1))
-    );
-    assert_eq!(rt;
-        shared.step(&rt, &mut second, step(0, u64::MAX, &Op::Expire)),
-        Ok(Reply::Expired(0))
-    );
-    let finished = shared.finish(alloc, vec![in alloc; first]?);
-    assert_eq!(rt; end_of(&finished), End::Missing(A, 2, 2));
-    Ok(())
-}
-
-#[test]
-fn groups_and_their_workers(rt: HostRuntime) -> Result<(), Fail> {
-    let alloc = rt.alloc();
+fn groups_and_their_workers(rt: HostRuntime) {
     let by_callers = GroupProps {
         strategy: Strategy::Semaphore,
         ..props()
     };
-    let shared = service(alloc, two_groups(alloc, by_callers, 10)?, Some(10))?;
+    let shared = service(&rt, props(), by_callers, 10);
     assert!(rt; shared.audited());
-    assert_eq!(rt; shared.groups(&rt), 2);
-    assert_eq!(rt; shared.workers(&rt, A), 10);
-    assert_eq!(rt; shared.workers(&rt, B), 0);
-    assert_eq!(rt; shared.workers(&rt, GroupId(2)), 0);
-    assert_eq!(rt;
-        shared.pass(alloc, GroupId(2), 1).err(),
-        Some(PassError::NoGroup)
-    );
-    Ok(())
+    let text = workers_text(&rt, rt.alloc(), &shared);
+    assert_text(&rt, text, "2 groups: 10 0 0", "the workers");
+    let missing = shared.pass(rt.alloc(), GroupId(2), 1).err();
+    assert_eq!(rt; missing, Some(PassError::NoGroup));
 }
 
+const REFUSED: &str = "0 1 0 start = OtherGroup
+0 next 0 = PassFull
+0 0 0 start = Idle
+0 0 0 start = PassFull
+0 due 0 = Err(PassFull)
+0 receipts = 1
+0 first step = Step { group: GroupId(0), now: 0, op: Start }
+";
+
 #[test]
-fn a_refused_step_leaves_the_pass(rt: HostRuntime) -> Result<(), Fail> {
-    let alloc = rt.alloc();
-    let shared = audited(alloc, 10)?;
-    let mut pass = shared.pass(alloc, A, 1)?;
-    let start = step(0, 0, &Op::Start);
-    assert_eq!(rt;
-        shared.step(&rt, &mut pass, step(1, 0, &Op::Start)),
-        Err(StepError::OtherGroup)
-    );
-    assert_eq!(rt;
-        shared.next(&rt, &mut pass, &Still(0)),
-        Err(StepError::PassFull)
-    );
-    assert_eq!(rt; shared.step(&rt, &mut pass, start), Ok(Reply::Idle));
-    assert_eq!(rt;
-        shared.step(&rt, &mut pass, start),
-        Err(StepError::PassFull)
-    );
-    assert_eq!(rt;
-        shared.expire_due(&rt, &mut pass, &Still(0)),
-        Err(StepError::PassFull)
-    );
-    assert_eq!(rt; pass.receipts().len(), 1);
-    assert_eq!(rt; pass.receipts()[0].step, start);
-    Ok(())
+fn a_refused_step_leaves_the_pass(rt: HostRuntime) {
+    let shared = audited(&rt, 10);
+    let mut passes = take_passes(&rt, &shared, &[(A, 1)]);
+    play(&rt, &shared, &mut passes, REFUSED);
 }
 
+const DUE: &str = "0 due 1000 = Ok(None)
+0 0 0 submit x = Queued(1)
+0 due 999 = Ok(None)
+0 due 1000 = Ok(Some(1))
+0 receipts = 2
+";
+
 #[test]
-fn only_a_due_ticket_expires(rt: HostRuntime) -> Result<(), Fail> {
-    let alloc = rt.alloc();
-    let shared = audited(alloc, 10)?;
-    let mut pass = shared.pass(alloc, A, 5)?;
-    assert_eq!(rt; shared.expire_due(&rt, &mut pass, &Still(1000)), Ok(None));
-    shared.step(&rt, &mut pass, step(0, 0, &submit("x")))?;
-    assert_eq!(rt; shared.expire_due(&rt, &mut pass, &Still(999)), Ok(None));
-    assert_eq!(rt;
-        shared.expire_due(&rt, &mut pass, &Still(1000)),
-        Ok(Some(1))
-    );
-    assert_eq!(rt; pass.receipts().len(), 2);
-    Ok(())
+fn only_a_due_ticket_expires(rt: HostRuntime) {
+    let shared = audited(&rt, 10);
+    let mut passes = take_passes(&rt, &shared, &[(A, 5)]);
+    play(&rt, &shared, &mut passes, DUE);
 }
 
-#[test]
-fn passes_of_other_services(rt: HostRuntime) -> Result<(), Fail> {
-    let alloc = rt.alloc();
-    let clock = Still(0);
-    let shared = audited(alloc, 10)?;
-    let unaudited = service(alloc, two_groups(alloc, props(), 10)?, None)?;
-    let mut without_room = unaudited.pass(alloc, A, 5)?;
-    assert_eq!(rt;
-        shared.step(&rt, &mut without_room, step(0, 0, &Op::Start)),
-        Err(StepError::PassFull)
-    );
+const UNKNOWN_GROUP: &str = "0 2 0 start = NoGroup
+0 next 0 = NoGroup
+0 await 1 0 = NoGroup
+0 due 0 = Ok(None)
+0 receipts = 0
+0 marks = Marks { worn: false, no_group: true, stopped: false }
+";
 
-    let mut core = two_groups(alloc, props(), 10)?;
-    add(&mut core, props(), 10)?;
-    let larger = service(alloc, core, Some(10))?;
-    let mut third = larger.pass(alloc, GroupId(2), 5)?;
+#[test]
+fn passes_of_other_services(rt: HostRuntime) {
+    let shared = audited(&rt, 10);
+    let other = unaudited(&rt, 10);
+    let mut without_room = take_passes(&rt, &other, &[(A, 5)]);
+    play(&rt, &shared, &mut without_room, "0 0 0 start = PassFull");
+
+    let larger = three_groups(&rt, 10);
+    let mut third = take_passes(&rt, &larger, &[(GroupId(2), 5)]);
     shared.stop(&rt);
-    assert_eq!(rt;
-        shared.step(&rt, &mut third, step(2, 0, &Op::Start)),
-        Ok(Reply::NoGroup)
-    );
-    assert_eq!(rt; shared.next(&rt, &mut third, &clock), Ok(Next::NoGroup));
-    assert_eq!(rt;
-        shared.await_answer(&rt, &mut third, 1, &clock),
-        Ok(Reply::NoGroup)
-    );
-    assert_eq!(rt; shared.expire_due(&rt, &mut third, &clock), Ok(None));
-    assert!(rt; third.receipts().is_empty());
-    assert!(rt; third.marks().no_group && !third.marks().stopped);
-    Ok(())
+    play(&rt, &shared, &mut third, UNKNOWN_GROUP);
 }
 
+const NO_AUDIT: &str = "0 await 1 0 = Worn
+0 receipts = 0
+0 marks = Marks { worn: true, no_group: false, stopped: false }
+";
+
 #[test]
-fn a_service_without_an_audit(rt: HostRuntime) -> Result<(), Fail> {
-    let alloc = rt.alloc();
-    let shared = service(alloc, two_groups(alloc, props(), 3)?, None)?;
+fn a_service_without_an_audit(rt: HostRuntime) {
+    let shared = unaudited(&rt, 3);
     assert!(rt; !shared.audited());
-    let mut pass = shared.pass(alloc, A, 10)?;
-    assert_eq!(rt; pass.room_left(), 0);
-    assert!(rt; run_first(&rt, &shared, &mut pass));
-    assert_eq!(rt;
-        shared.await_answer(&rt, &mut pass, 1, &Still(0)),
-        Ok(Reply::Worn)
-    );
-    assert!(rt; pass.receipts().is_empty());
-    assert!(rt; pass.marks().worn);
-    let finished = shared.finish(alloc, vec![in alloc; pass]?);
-    assert_eq!(rt; end_of(&finished), End::NotAudited);
-    Ok(())
+    let mut passes = take_passes(&rt, &shared, &[(A, 10)]);
+    play(&rt, &shared, &mut passes, "0 room = 0");
+    play(&rt, &shared, &mut passes, FIRST_RUN);
+    play(&rt, &shared, &mut passes, NO_AUDIT);
+    assert_end(&rt, shared, passes, "not audited");
 }
 
-#[test]
-fn a_stopped_service_makes_no_one_wait(rt: HostRuntime) -> Result<(), Fail> {
-    let alloc = rt.alloc();
-    let clock = Still(7);
-    let shared = audited(alloc, 10)?;
-    let mut worker = shared.pass(alloc, A, 5)?;
-    let mut caller = shared.pass(alloc, A, 5)?;
-    shared.step(&rt, &mut caller, step(0, 0, &submit("x")))?;
-    let assigned = Next::Assigned {
-        serial: 1,
-        arg: text("x"),
-    };
-    assert_eq!(rt; shared.next(&rt, &mut worker, &clock), Ok(assigned));
-    let moment = worker.receipts().get(0).map(|receipt| receipt.step.now);
-    assert_eq!(rt; moment, Some(7));
+const BEFORE_STOP: &str = "1 0 0 submit x = Queued(1)
+0 next 7 = Assigned(1 x)
+0 first step = Step { group: GroupId(0), now: 7, op: Start }
+";
 
+const AFTER_STOP: &str = "0 next 7 = Stopped
+1 await 1 7 = Pending
+0 marks = Marks { worn: false, no_group: false, stopped: true }
+1 marks = Marks { worn: false, no_group: false, stopped: true }
+";
+
+#[test]
+fn a_stopped_service_makes_no_one_wait(rt: HostRuntime) {
+    let shared = audited(&rt, 10);
+    let mut passes = take_passes(&rt, &shared, &[(A, 5), (A, 5)]);
+    play(&rt, &shared, &mut passes, BEFORE_STOP);
     assert!(rt; !shared.stopped(&rt));
     shared.stop(&rt);
     assert!(rt; shared.stopped(&rt));
-    assert_eq!(rt; shared.next(&rt, &mut worker, &clock), Ok(Next::Stopped));
-    assert_eq!(rt;
-        shared.await_answer(&rt, &mut caller, 1, &clock),
-        Ok(Reply::Pending)
-    );
-    assert!(rt; worker.marks().stopped && caller.marks().stopped);
-    let report = shared.finish(alloc, vec![in alloc; worker, caller]?)?;
-    assert!(rt; report.stopped);
-    assert_eq!(rt; first_length(&report), 3);
-    Ok(())
+    play(&rt, &shared, &mut passes, AFTER_STOP);
+    assert_end(&rt, shared, passes, "3 of 10, 0 of 10, stopped");
 }
 
 /// Lets the other thread begin, and gives it time to wait.
@@ -377,31 +384,46 @@ fn give_way(begun: &AtomicU64) {
     }
 }
 
-#[test]
-fn the_step_that_answers_wakes_the_caller(rt: HostRuntime) -> Result<(), Fail> {
-    let alloc = rt.alloc();
-    let clock = Still(0);
-    let shared = audited(alloc, 10)?;
-    let mut worker = shared.pass(alloc, A, 5)?;
-    let mut caller = shared.pass(alloc, A, 5)?;
-    shared.step(&rt, &mut caller, step(0, 0, &submit("x")))?;
-    shared.next(&rt, &mut worker, &clock)?;
+type Told = Result<Reply, StepError>;
 
+/// Waits for the answer of the first ticket, while another thread finishes its run.
+fn await_beside_finish<R: Threads + Wait + Sync>(
+    rt: &R,
+    shared: &Shared,
+    caller: &mut Pass,
+    worker: &mut Pass,
+) -> (Told, Told) {
     let begun = AtomicU64::new(0);
-    let (answered, done) = thread::join(
-        &rt,
+    let finish = step_of("0 1 finish 1 r").unwrap_or(step(0, 1, &Op::Read));
+    thread::join(
+        rt,
         || {
             begun.store(1, Ordering::SeqCst);
-            shared.await_answer(&rt, &mut caller, 1, &clock)
+            shared.await_answer(rt, caller, 1, &Still(0))
         },
         || {
             give_way(&begun);
-            shared.step(&rt, &mut worker, step(0, 1, &finish(1, "r")))
+            shared.step(rt, worker, finish)
         },
-    );
-    assert_eq!(rt; done, Ok(Reply::Done));
-    assert_eq!(rt; answered, Ok(Reply::Answered(Answer::Value(text("r")))));
-    let finished = shared.finish(alloc, vec![in alloc; worker, caller]?);
-    assert_eq!(rt; end_of(&finished), End::Agreed(4));
-    Ok(())
+    )
+}
+
+fn assert_told<R: Abort + AllocGlobal>(rt: &R, told: &Told, want: &str) {
+    assert_text(rt, told_text(rt.alloc(), told), want, "the end");
+}
+
+#[test]
+fn the_step_that_answers_wakes_the_caller(rt: HostRuntime) {
+    let shared = audited(&rt, 10);
+    let mut callers = take_passes(&rt, &shared, &[(A, 5)]);
+    let mut workers = take_passes(&rt, &shared, &[(A, 5)]);
+    play(&rt, &shared, &mut callers, "0 0 0 submit x = Queued(1)");
+    play(&rt, &shared, &mut workers, "0 next 0 = Assigned(1 x)");
+    let caller = callers.get_mut(0).expect(&rt, "a pass");
+    let worker = workers.get_mut(0).expect(&rt, "a pass");
+    let (answered, done) = await_beside_finish(&rt, &shared, caller, worker);
+    assert_told(&rt, &done, "Done");
+    assert_told(&rt, &answered, "Value(r)");
+    workers.append(&mut callers).expect(&rt, "memory");
+    assert_end(&rt, shared, workers, "4 of 10, 0 of 10, running");
 }

@@ -3,9 +3,17 @@
 ghost use Rattle.std.specs.Prelude.{◌≤◌, length};
 
 use crate::samples::{props, step, submit, text};
-use bh_base::{GroupId, Op, Reply};
+use crate::script::play;
+use bh_base::{GroupId, Op, Reply, Step};
 use bh_core::{Core, RegisterError};
-use std::test::Fail;
+use std::process::Abort;
+
+/// Registers so many groups with the settings that are built in.
+fn register(rt: &impl Abort, core: &mut Core, count: u64) {
+    for _ in 0..count {
+        core.register(props(), 1024).expect(rt, "memory");
+    }
+}
 
 fn finish(serial: u64, body: &str) -> Op
     requires fits { length body.now ≤ 256 }
@@ -14,10 +22,9 @@ fn finish(serial: u64, body: &str) -> Op
     Op::Finish { serial, body }
 }
 
-#[test]
-fn run_equals_apply(rt: HostRuntime) -> Result<(), Fail> {
+fn steps() -> [Step; 8] {
     let collect = Op::Collect { serial: 1 };
-    let steps = [
+    [
         step(0, 0, &submit("x")),
         step(1, 0, &submit("y")),
         step(0, 1, &Op::Start),
@@ -26,33 +33,43 @@ fn run_equals_apply(rt: HostRuntime) -> Result<(), Fail> {
         step(1, 2, &finish(1, "two")),
         step(0, 3, &collect),
         step(1, 3, &collect),
-    ];
+    ]
+}
+
+/// Asserts that a run of the steps is replied to as the steps one by one.
+fn assert_run_equals_apply(rt: &(impl Abort + AllocGlobal), steps: &[Step]) {
     let mut whole = Core::new(rt.alloc(), 1000);
     let mut single = Core::new(rt.alloc(), 1000);
-    for _ in 0..2 {
-        whole.register(props(), 1024)?;
-        single.register(props(), 1024)?;
-    }
-    let replies = whole.run(&steps)?;
+    register(rt, &mut whole, 2);
+    register(rt, &mut single, 2);
+    let replies = whole.run(steps).expect(rt, "memory");
+    assert_replies(rt, &mut single, steps, replies.as_slice());
+}
+
+/// Asserts that the step by itself is replied to in the same way.
+fn assert_same(rt: &impl Abort, core: &mut Core, step: &Step, reply: &Reply) {
+    let alone = core.apply(*step);
+    assert!(rt; alone == *reply, "{step:?}");
+}
+
+fn assert_replies(rt: &impl Abort, core: &mut Core, steps: &[Step], replies: &[Reply]) {
     assert_eq!(rt; replies.len(), 8);
-    for (i, one) in steps.iter().enumerate() {
-        assert_eq!(rt;
-            replies.get(i).copied(),
-            Some(single.apply(*one)),
-            "step {i}"
-        );
+    for (step, reply) in steps.iter().zip(replies.iter()) {
+        assert_same(rt, core, step, reply);
     }
-    Ok(())
 }
 
 #[test]
-fn unregistered_group_is_no_group(rt: HostRuntime) -> Result<(), Fail> {
+fn run_equals_apply(rt: HostRuntime) {
+    assert_run_equals_apply(&rt, &steps());
+}
+
+#[test]
+fn unregistered_group_is_no_group(rt: HostRuntime) {
     let mut core = Core::new(rt.alloc(), 1000);
-    assert_eq!(rt; core.apply(step(0, 0, &Op::Start)), Reply::NoGroup);
-    core.register(props(), 1024)?;
-    assert_eq!(rt; core.apply(step(0, 0, &Op::Start)), Reply::Idle);
-    assert_eq!(rt; core.apply(step(1, 0, &Op::Start)), Reply::NoGroup);
-    Ok(())
+    play(&rt, &mut core, "0 0 start = NoGroup");
+    register(&rt, &mut core, 1);
+    play(&rt, &mut core, "0 0 start = Idle\n1 0 start = NoGroup");
 }
 
 #[test]
@@ -63,62 +80,68 @@ fn second_group_has_no_slots(rt: HostRuntime) {
         core.register(props(), 1024),
         Err(RegisterError::TooManySlots)
     );
-    assert_eq!(rt; core.apply(step(0, 0, &Op::Start)), Reply::Idle);
+    play(&rt, &mut core, "0 0 start = Idle");
+}
+
+/// A core of one group that may do so many steps.
+fn core_of_one(rt: &(impl Abort + AllocGlobal), steps: u64) -> Core
+    requires some { 1 ≤ steps }
+    requires few { steps ≤ 1024 }
+{
+    let mut core = Core::new(rt.alloc(), 64);
+    core.register(props(), steps).expect(rt, "memory");
+    core
 }
 
 #[test]
-fn worn_at_the_step_limit(rt: HostRuntime) -> Result<(), Fail> {
-    let mut core = Core::new(rt.alloc(), 64);
-    core.register(props(), 2)?;
-    assert_eq!(rt; core.apply(step(0, 0, &Op::Start)), Reply::Idle);
-    assert_eq!(rt; core.apply(step(0, 0, &Op::Start)), Reply::Idle);
-    assert_eq!(rt; core.apply(step(0, 0, &Op::Start)), Reply::Worn);
-    Ok(())
-}
-
-#[test]
-fn looks_say_what_a_step_is_answered(rt: HostRuntime) -> Result<(), Fail> {
-    let mut core = Core::new(rt.alloc(), 64);
-    assert_eq!(rt; core.groups(), 0);
-    let group = core.register(props(), 5)?;
-    assert_eq!(rt; core.groups(), 1);
-    let shown = core.props(group).map(|(shown, limit)| (*shown, limit));
-    assert_eq!(rt; shown, Some((props(), 5)));
-    assert!(rt; !core.startable(group));
-
-    assert_eq!(rt; core.apply(step(0, 0, &submit("x"))), Reply::Queued(1));
-    assert_eq!(rt; core.steps(group), 1);
-    assert!(rt; core.startable(group));
-    core.apply(step(0, 0, &Op::Start));
-    assert!(rt; !core.startable(group));
-
-    assert!(rt; core.pending(group, 1));
-    assert!(rt; !core.pending(group, 2));
-    assert_eq!(rt;
-        core.apply(step(0, 500, &Op::Collect { serial: 1 })),
-        Reply::Pending
+fn worn_at_the_step_limit(rt: HostRuntime) {
+    let mut core = core_of_one(&rt, 2);
+    play(
+        &rt,
+        &mut core,
+        "0 0 start = Idle\n0 0 start = Idle\n0 0 start = Worn",
     );
-
-    assert!(rt; !core.due(group, 999));
-    assert!(rt; core.due(group, 1000));
-    assert_eq!(rt; core.apply(step(0, 1000, &Op::Expire)), Reply::Expired(1));
-    assert!(rt; !core.due(group, 1000));
-    assert!(rt; !core.pending(group, 1));
-
-    assert!(rt; !core.worn(group));
-    core.apply(step(0, 1000, &Op::Read));
-    assert!(rt; core.worn(group));
-    Ok(())
 }
+
+const LOOKS: &str = "groups = 1
+startable 0 = 0
+0 0 submit x = Queued(1)
+steps 0 = 1
+startable 0 = 1
+0 0 start = Assigned(1 x)
+startable 0 = 0
+pending 0 1 = 1
+pending 0 2 = 0
+0 500 collect 1 = Pending
+due 0 999 = 0
+due 0 1000 = 1
+0 1000 expire = Expired(1)
+due 0 1000 = 0
+pending 0 1 = 0
+worn 0 = 0
+";
+
+#[test]
+fn looks_say_what_a_step_is_answered(rt: HostRuntime) {
+    let mut core = core_of_one(&rt, 5);
+    let shown = core.props(GroupId(0)).map(|(shown, limit)| (*shown, limit));
+    assert_eq!(rt; shown, Some((props(), 5)));
+    play(&rt, &mut core, LOOKS);
+    core.apply(step(0, 1000, &Op::Read));
+    play(&rt, &mut core, "worn 0 = 1");
+}
+
+const NOTHING_TO_SEE: &str = "groups = 0
+steps 0 = 0
+worn 0 = 0
+startable 0 = 0
+pending 0 1 = 0
+due 0 0 = 0
+";
 
 #[test]
 fn looks_at_an_unregistered_group(rt: HostRuntime) {
-    let core = Core::new(rt.alloc(), 64);
-    let group = GroupId(0);
-    assert!(rt; core.props(group).is_none());
-    assert_eq!(rt; core.steps(group), 0);
-    assert!(rt; !core.worn(group));
-    assert!(rt; !core.startable(group));
-    assert!(rt; !core.pending(group, 1));
-    assert!(rt; !core.due(group, 0));
+    let mut core = Core::new(rt.alloc(), 64);
+    assert!(rt; core.props(GroupId(0)).is_none());
+    play(&rt, &mut core, NOTHING_TO_SEE);
 }

@@ -3,13 +3,27 @@
 #![tactic(auto)]
 
 #[cfg(test)]
+mod admission;
+#[cfg(test)]
 mod audit;
+#[cfg(test)]
+mod audit_compare;
+#[cfg(test)]
+mod cache;
+#[cfg(test)]
+mod circuit;
 #[cfg(test)]
 mod groups;
 #[cfg(test)]
+mod random;
+#[cfg(test)]
 mod samples;
 #[cfg(test)]
+mod script;
+#[cfg(test)]
 mod services;
+#[cfg(test)]
+mod settings;
 #[cfg(test)]
 mod threads;
 #[cfg(test)]

@@ -1,20 +1,24 @@
 //! Audited services, and what their threads run and read, for the tests with threads.
 
-ghost use Rattle.std.specs.Prelude.{◌≡◌, ◌≤◌, IfOk, OnOk, length, true};
+ghost use Rattle.std.specs.Prelude.{◌≡◌, ◌≤◌, IfOk, IfSome, OnOk, length};
 ghost use Rattle.bh_base.specs.Ranges.{IsInRange};
 ghost use Rattle.bh_audit.specs.Books.{AreNew};
 
-use crate::samples::text;
-use bh_audit::{AuditReport, Book, Clock, Shared};
+use crate::samples::{props, text};
+use crate::script::{assert_text, number, split_word};
+use bh_audit::{AuditError, AuditReport, Book, Clock, Shared};
 use bh_base::{
-    Answer, CallError, Cause, FallbackEnd, GroupId, GroupProps, Moment, Request, RunEnd, Text,
+    Answer, CallError, Cause, FallbackEnd, GroupId, GroupProps, Moment, Reply, Request, RunEnd,
+    Step, Text,
 };
 use bh_core::{Core, RegisterError};
 use bh_journal::Pass;
-use bh_workers::{Dependency, Pace, RequestList};
-use std::alloc::Global;
-use std::test::Fail;
+use bh_workers::{Dependency, Driven, Pace, RequestList, call, drive};
+use std::alloc::{AllocError, Global};
+use std::process::Abort;
+use std::sync::Wait;
 use std::thread;
+use std::thread::Threads;
 
 pub const A: GroupId = GroupId(0);
 
@@ -31,30 +35,57 @@ pub(crate) fn add(core: &mut Core, props: GroupProps, steps: u64) -> Result<Grou
     core.register(props, steps)
 }
 
-/// An audited service of two groups.
-pub(crate) fn service(
+/// A core of two groups.
+pub(crate) fn two_groups(
     alloc: Global,
     first: GroupProps,
     second: GroupProps,
     steps: u64,
-) -> Result<Shared, Fail>
+) -> Result<Core, RegisterError>
+    requires first { IsInRange first }
+    requires second { IsInRange second }
+    requires some { 1 ≤ steps }
+    requires few { steps ≤ 1024 }
+    ensures { IfOk result (λ core. AreNew steps core.views) }
+{
+    let mut core = Core::new(alloc, 1000);
+    add(&mut core, first, steps)?;
+    add(&mut core, second, steps)?;
+    Ok(core)
+}
+
+/// An audited service of two groups.
+pub(crate) fn service<R: Abort + AllocGlobal>(
+    rt: &R,
+    first: GroupProps,
+    second: GroupProps,
+    steps: u64,
+) -> Shared
     requires first { IsInRange first }
     requires second { IsInRange second }
     requires some { 1 ≤ steps }
     requires few { steps ≤ 1024 }
 {
-    let mut core = Core::new(alloc, 1000);
-    add(&mut core, first, steps)?;
-    add(&mut core, second, steps)?;
-    share(alloc, core, steps)
+    let core = two_groups(rt.alloc(), first, second, steps).expect(rt, "memory");
+    share(rt, core, Some(steps))
 }
 
-/// An audited service of the groups.
-pub(crate) fn share(alloc: Global, core: Core, steps: u64) -> Result<Shared, Fail>
-    requires { AreNew steps core.views }
+/// An audited service of three groups.
+pub(crate) fn three_groups<R: Abort + AllocGlobal>(rt: &R, steps: u64) -> Shared
+    requires some { 1 ≤ steps }
+    requires few { steps ≤ 1024 }
 {
-    let book = Book::new(alloc, core, Some(steps)).ok().ok_or("no memory")?;
-    Ok(Shared::new(alloc, book).ok().ok_or("no memory")?)
+    let mut core = two_groups(rt.alloc(), props(), props(), steps).expect(rt, "memory");
+    add(&mut core, props(), steps).expect(rt, "memory");
+    share(rt, core, Some(steps))
+}
+
+/// A service of the groups.
+pub(crate) fn share<R: Abort + AllocGlobal>(rt: &R, core: Core, audit: Option<u64>) -> Shared
+    requires { IfSome audit (λ steps. AreNew steps core.views) }
+{
+    let book = Book::new(rt.alloc(), core, audit).ok().expect(rt, "memory");
+    Shared::new(rt.alloc(), book).ok().expect(rt, "memory")
 }
 
 /// A request that is not cached.
@@ -65,33 +96,164 @@ pub(crate) fn request(arg: &str) -> Request
     Request { cache: None, arg }
 }
 
-/// A list of one such request.
-pub(crate) fn list(alloc: Global, group: GroupId, arg: &str) -> Result<RequestList, Fail>
-    requires fits { length arg.now ≤ 64 }
-{
+/// The requests of these words to the group.
+pub(crate) fn requests(alloc: Global, words: &str) -> Option<Vec<Request>> {
     let mut requests = Vec::new(alloc);
-    add_request(&mut requests, arg)?;
-    Ok(RequestList { group, requests })
+    for word in words.split_whitespace() {
+        let arg = Text::new(word).ok()?;
+        requests.push(Request { cache: None, arg }).ok()?;
+    }
+    Some(requests)
 }
 
-/// One more request.
-pub(crate) fn add_request(requests: &mut Vec<Request>, arg: &str) -> Result<(), Fail>
-    requires fits { length arg.now ≤ 64 }
-{
-    let made = request(arg);
-    push(requests, &made)
+/// For each line a list of requests: the number of the group, and their arguments.
+pub(crate) fn lists(alloc: Global, lines: &str) -> Option<Vec<RequestList>> {
+    let mut lists = Vec::new(alloc);
+    for line in lines.lines() {
+        let (group, words) = split_word(line);
+        let requests = requests(alloc, words)?;
+        let group = GroupId(number(group));
+        lists.push(RequestList { group, requests }).ok()?;
+    }
+    Some(lists)
 }
 
-fn push<T: Copy>(items: &mut Vec<T>, item: &T) -> Result<(), Fail> {
-    match items.push(*item) {
-        Ok(()) => Ok(()),
-        Err(_) => Err(Fail::from("no memory")),
+fn answer_text(alloc: Global, answer: &Result<Answer, CallError>) -> Result<String, AllocError> {
+    match answer {
+        Ok(Answer::Value(body)) => format!(in alloc; "{}", body.as_str()),
+        Ok(Answer::FallbackValue { cause, body }) => format!(in alloc;
+            "{cause:?}:{}",
+            body.as_str()
+        ),
+        other => format!(in alloc; "{other:?}"),
     }
 }
 
-/// The run gave this body.
-pub(crate) fn is_value(answer: &Result<Answer, CallError>, body: &str) -> bool {
-    matches!(answer, Ok(Answer::Value(value)) if value.as_str() == body)
+/// The answers of one list, with a blank between them.
+fn list_text(alloc: Global, answers: &[Result<Answer, CallError>]) -> Result<String, AllocError> {
+    let mut text = String::new(alloc);
+    for (i, answer) in answers.iter().enumerate() {
+        text.push_str(if i == 0 { "" } else { " " })?;
+        text.push_str(answer_text(alloc, answer)?.as_str())?;
+    }
+    Ok(text)
+}
+
+/// The steps that the group did of those that it may do.
+fn group_text(
+    alloc: Global,
+    journal: &[(Step, Reply)],
+    shown: &GroupProps,
+    limit: u64,
+) -> Result<String, AllocError> {
+    let settings = if *shown == props() { "" } else { " changed" };
+    format!(in alloc; "{} of {limit}{settings}, ", journal.len())
+}
+
+/// The steps of each group, and whether the service was stopped.
+fn report_text(alloc: Global, report: &AuditReport) -> Result<String, AllocError> {
+    let mut text = String::new(alloc);
+    for (journal, (shown, limit)) in report.journals.iter().zip(report.groups.iter()) {
+        text.push_str(group_text(alloc, journal.as_slice(), shown, *limit)?.as_str())?;
+    }
+    text.push_str(if report.stopped { "stopped" } else { "running" })?;
+    Ok(text)
+}
+
+fn end_text(
+    alloc: Global,
+    finished: &Result<AuditReport, AuditError>,
+) -> Result<String, AllocError> {
+    match finished {
+        Ok(report) => report_text(alloc, report),
+        Err(AuditError::NotAudited) => format!(in alloc; "not audited"),
+        Err(AuditError::Memory) => format!(in alloc; "no memory"),
+        Err(
+            AuditError::PassMissing {
+                group,
+                place,
+                report,
+            },
+        ) => fault_text(alloc, "missing", *group, *place, report),
+        Err(
+            AuditError::Mismatch {
+                group,
+                place,
+                report,
+            },
+        ) => fault_text(alloc, "mismatch", *group, *place, report),
+    }
+}
+
+fn fault_text(
+    alloc: Global,
+    fault: &str,
+    group: GroupId,
+    place: u64,
+    report: &AuditReport,
+) -> Result<String, AllocError> {
+    let report = report_text(alloc, report)?;
+    format!(in alloc; "{fault} at {} {place}: {report}", group.0)
+}
+
+/// Asserts what the end of the service says with these passes.
+pub(crate) fn assert_end<R: Abort + AllocGlobal>(
+    rt: &R,
+    shared: Shared,
+    passes: Vec<Pass>,
+    want: &str,
+) {
+    let finished = shared.finish(rt.alloc(), passes);
+    assert_text(rt, end_text(rt.alloc(), &finished), want, "the end");
+}
+
+/// The answers of all lists, each on a line of its own.
+fn answers_text(alloc: Global, driven: &Driven) -> Result<String, AllocError> {
+    let mut text = String::new(alloc);
+    for own in driven.answers.iter() {
+        text.push_str(list_text(alloc, own.as_slice())?.as_str())?;
+        text.push_str("\n")?;
+    }
+    Ok(text)
+}
+
+/// Drives the lists, asserts their answers, and hands out the passes.
+pub(crate) fn assert_drive<
+    R: Threads + Wait + Sync + Abort + AllocGlobal,
+    D: Dependency + Sync,
+    C: Clock + Sync,
+>(rt: &R, shared: &Shared, dependency: &D, clock: &C, asked: &str, want: &str) -> Vec<Pass> {
+    let lists = lists(rt.alloc(), asked).expect(rt, "memory");
+    let driven = drive(
+        rt,
+        rt.alloc(),
+        shared,
+        dependency,
+        clock,
+        Steady,
+        lists.as_slice(),
+        100,
+    );
+    let driven = driven.expect(rt, "a drive");
+    assert_text(rt, answers_text(rt.alloc(), &driven), want, asked);
+    driven.passes
+}
+
+/// Asserts that the service's account agrees with the passes.
+pub(crate) fn assert_agreed<R: Abort + AllocGlobal>(rt: &R, shared: Shared, passes: Vec<Pass>) {
+    assert!(rt; shared.finish(rt.alloc(), passes).is_ok());
+}
+
+/// Asserts what a call with the argument x is answered.
+pub(crate) fn assert_call<R: Wait + Abort + AllocGlobal, D: Dependency>(
+    rt: &R,
+    shared: &Shared,
+    pass: &mut Pass,
+    dependency: &D,
+    want: &str,
+) {
+    let answer = call(rt, shared, pass, dependency, &Still, request("x"));
+    assert_text(rt, answer_text(rt.alloc(), &answer), want, "the call");
 }
 
 /// Always says 0.

@@ -1,22 +1,19 @@
 //! Threads that wait for one another. Each gate gives up after many turns, and then its test fails.
 
-ghost use Rattle.std.specs.Prelude.{◌≡◌};
-ghost use Rattle.bh_base.specs.Ranges.{IsInRange};
-
 use crate::samples::props;
 use crate::services::{
-    A, B, Steady, Still, add, add_request, is_value, list, service, share, success,
+    A, B, Steady, Still, add, assert_agreed, assert_drive, requests, service, share, success,
+    two_groups,
 };
-use bh_audit::Clock;
-use bh_base::{
-    Answer, CallError, Cause, FallbackEnd, GroupId, GroupProps, Moment, Request, RunEnd, Text,
-};
-use bh_core::Core;
+use bh_audit::{AuditReport, Clock, Shared};
+use bh_base::{Answer, CallError, Cause, FallbackEnd, GroupId, GroupProps, Moment, RunEnd, Text};
 use bh_workers::{Dependency, Driven, RequestList, drive};
 use std::alloc::Global;
+use std::process::Abort;
+use std::sync::Wait;
 use std::sync::atomic::{AtomicU64, Ordering};
-use std::test::Fail;
 use std::thread;
+use std::thread::Threads;
 
 /// How often a gate looks before it gives up.
 const TURNS: u64 = 1_000_000;
@@ -68,35 +65,14 @@ impl Dependency for HoldsFirst {
 }
 
 #[test]
-fn slow_a_does_not_hold_b(rt: HostRuntime) -> Result<(), Fail> {
-    let alloc = rt.alloc();
-    let shared = service(alloc, props(), props(), 100)?;
-    let mut second = list(alloc, B, "first")?;
-    add_request(&mut second.requests, "second")?;
-    let lists = vec![in alloc; list(alloc, A, "slow")?, second]?;
+fn slow_a_does_not_hold_b(rt: HostRuntime) {
+    let shared = service(&rt, props(), props(), 100);
     let held = HoldsFirst {
         answered: AtomicU64::new(0),
     };
-    let driven = drive(
-        &rt,
-        alloc,
-        &shared,
-        &held,
-        &Still,
-        Steady,
-        lists.as_slice(),
-        100,
-    );
-    let Driven { answers, passes } = driven.ok().ok_or("no drive")?;
-    for (i, bodies) in [&["slow"][..], &["first", "second"]].iter().enumerate() {
-        let own = answers.get(i).ok_or("no answers")?;
-        assert_eq!(rt; own.len(), bodies.len());
-        for (answer, body) in own.iter().zip(bodies.iter()) {
-            assert!(rt; is_value(answer, body), "{body}");
-        }
-    }
-    assert!(rt; shared.finish(alloc, passes).is_ok());
-    Ok(())
+    let asked = "0 slow\n1 first second";
+    let passes = assert_drive(&rt, &shared, &held, &Still, asked, "slow\nfirst second\n");
+    assert_agreed(&rt, shared, passes);
 }
 
 /// Holds each run until two have begun.
@@ -121,32 +97,21 @@ impl Dependency for Meets {
 }
 
 #[test]
-fn two_workers_meet(rt: HostRuntime) -> Result<(), Fail> {
-    let alloc = rt.alloc();
+fn two_workers_meet(rt: HostRuntime) {
     let two = GroupProps { core: 2, ..props() };
-    let shared = service(alloc, two, props(), 100)?;
-    let lists = vec![in alloc; list(alloc, A, "one")?, list(alloc, A, "other")?]?;
+    let shared = service(&rt, two, props(), 100);
     let meets = Meets {
         begun: AtomicU64::new(0),
     };
-    let driven = drive(
+    let passes = assert_drive(
         &rt,
-        alloc,
         &shared,
         &meets,
         &Still,
-        Steady,
-        lists.as_slice(),
-        100,
+        "0 one\n0 other",
+        "one\nother\n",
     );
-    let Driven { answers, passes } = driven.ok().ok_or("no drive")?;
-    for (i, body) in ["one", "other"].iter().enumerate() {
-        let own = answers.get(i).ok_or("no answers")?;
-        assert_eq!(rt; own.len(), 1);
-        assert!(rt; own.iter().all(|answer| is_value(answer, body)));
-    }
-    assert!(rt; shared.finish(alloc, passes).is_ok());
-    Ok(())
+    assert_agreed(&rt, shared, passes);
 }
 
 /// A moment that rises by a second at each reading.
@@ -192,41 +157,16 @@ fn instead() -> FallbackEnd {
 }
 
 #[test]
-fn timer_frees_caller(rt: HostRuntime) -> Result<(), Fail> {
-    let alloc = rt.alloc();
-    let shared = service(alloc, props(), props(), 100)?;
-    let lists = vec![in alloc; list(alloc, B, "x")?]?;
+fn timer_frees_caller(rt: HostRuntime) {
+    let shared = service(&rt, props(), props(), 100);
     let held = HoldsRuns {
         fallen_back: AtomicU64::new(0),
     };
     let rises = Rises {
         next: AtomicU64::new(0),
     };
-    let driven = drive(
-        &rt,
-        alloc,
-        &shared,
-        &held,
-        &rises,
-        Steady,
-        lists.as_slice(),
-        100,
-    );
-    let Driven { answers, passes } = driven.ok().ok_or("no drive")?;
-    let own = answers.get(0).ok_or("no answers")?;
-    assert_eq!(rt; own.len(), 1);
-    assert!(rt; own.iter().all(is_late_fallback));
-    assert!(rt; shared.finish(alloc, passes).is_ok());
-    Ok(())
-}
-
-fn is_late_fallback(answer: &Result<Answer, CallError>) -> bool {
-    match answer {
-        Ok(Answer::FallbackValue { cause, body }) => {
-            *cause == Cause::Timeout && body.as_str() == "instead"
-        }
-        _ => false,
-    }
+    let passes = assert_drive(&rt, &shared, &held, &rises, "1 x", "Timeout:instead\n");
+    assert_agreed(&rt, shared, passes);
 }
 
 /// The first group fails, the second is slow, and the others are well.
@@ -255,60 +195,76 @@ impl Dependency for Mixed {
     }
 }
 
-/// As many requests to the group.
-fn requests(alloc: Global, group: GroupId, count: u64) -> Result<RequestList, Fail> {
-    let mut requests = Vec::new(alloc);
-    for _ in 0..count {
-        add_request(&mut requests, "x")?;
-    }
-    Ok(RequestList { group, requests })
+/// A service of four groups of two workers each.
+fn four_groups<R: Abort + AllocGlobal>(rt: &R) -> Shared {
+    let two = GroupProps { core: 2, ..props() };
+    let mut core = two_groups(rt.alloc(), two, two, 1000).expect(rt, "memory");
+    add(&mut core, two, 1000).expect(rt, "memory");
+    add(&mut core, two, 1000).expect(rt, "memory");
+    share(rt, core, Some(1000))
 }
 
-#[test]
-fn four_hundred_calls_of_four_groups(rt: HostRuntime) -> Result<(), Fail> {
-    let alloc = rt.alloc();
-    let two = GroupProps { core: 2, ..props() };
-    let mut core = Core::new(alloc, 1000);
-    add(&mut core, two, 1000)?;
-    add(&mut core, two, 1000)?;
-    add(&mut core, two, 1000)?;
-    add(&mut core, two, 1000)?;
-    let shared = share(alloc, core, 1000)?;
-    let mut lists = Vec::new(alloc);
-    for number in 0..8u64 {
-        lists.push(requests(alloc, GroupId(number % 4), 50)?)?;
+/// Whether the answer is the argument of its request.
+fn is_value(answer: &Result<Answer, CallError>, body: &str) -> bool {
+    matches!(answer, Ok(Answer::Value(value)) if value.as_str() == body)
+}
+
+const FIFTY: &str =
+    "x x x x x x x x x x x x x x x x x x x x x x x x x x x x x x x x x x x x x x x x x x x x x x x x x x";
+
+/// Two lists of fifty requests to each group.
+fn eight_lists(alloc: Global) -> Option<Vec<RequestList>> {
+    let mut all = Vec::new(alloc);
+    for number in 0..8_u64 {
+        let requests = requests(alloc, FIFTY)?;
+        let group = GroupId(number % 4);
+        all.push(RequestList { group, requests }).ok()?;
     }
+    Some(all)
+}
+
+/// Whether the answers of a list are as the mixed dependency gives them: of the first group, some fallback's.
+fn are_mixed(well: bool, own: &[Result<Answer, CallError>]) -> bool {
+    own.len() == 50
+        && own
+            .iter()
+            .all(|answer| is_value(answer, "x") == well && answer.is_ok())
+}
+
+fn assert_mixed<R: Abort>(rt: &R, driven: &Driven) {
+    assert_eq!(rt; driven.answers.len(), 8);
+    for (number, own) in driven.answers.iter().enumerate() {
+        assert!(rt; are_mixed(number % 4 != 0, own.as_slice()), "list {number}");
+    }
+}
+
+fn drive_mixed<R: Threads + Wait + Sync + Abort + AllocGlobal>(rt: &R, shared: &Shared) -> Driven {
+    let lists = eight_lists(rt.alloc()).expect(rt, "memory");
     let driven = drive(
-        &rt,
-        alloc,
-        &shared,
+        rt,
+        rt.alloc(),
+        shared,
         &Mixed,
         &Still,
         Steady,
         lists.as_slice(),
         1000,
     );
-    let Driven { answers, passes } = driven.ok().ok_or("no drive")?;
-    assert_eq!(rt; answers.len(), 8);
-    for (number, own) in answers.iter().enumerate() {
-        assert_eq!(rt; own.len(), 50);
-        let well = number % 4 != 0;
-        assert!(rt;
-            own.iter()
-                .all(|answer| is_value(answer, "x") == well && answer.is_ok()),
-            "list {number}"
-        );
+    driven.expect(rt, "a drive")
+}
+
+/// Asserts that each group but the first did all steps of its calls.
+fn assert_journals<R: Abort>(rt: &R, report: &AuditReport) {
+    for journal in report.journals.iter().skip(1) {
+        assert_eq!(rt; journal.len(), 400);
     }
-    let report = shared
-        .finish(alloc, passes)
-        .ok()
-        .ok_or("the passes differ")?;
-    assert!(rt;
-        report
-            .journals
-            .iter()
-            .skip(1)
-            .all(|journal| journal.len() == 400)
-    );
-    Ok(())
+}
+
+#[test]
+fn four_hundred_calls_of_four_groups(rt: HostRuntime) {
+    let shared = four_groups(&rt);
+    let driven = drive_mixed(&rt, &shared);
+    assert_mixed(&rt, &driven);
+    let report = shared.finish(rt.alloc(), driven.passes).ok();
+    assert_journals(&rt, &report.expect(&rt, "the passes agree"));
 }

@@ -1,64 +1,33 @@
 //! Calls and drives: what they answer that no clause speaks of, and that a right run's account is agreed with.
 
-ghost use Rattle.std.specs.Prelude.{◌≡◌};
-
-use crate::samples::{props, text};
+use crate::samples::{props, step, text};
 use crate::services::{
-    A, B, Echo, Steady, Still, add, is_value, list, request, service, share, success,
+    A, B, Echo, Steady, Still, assert_call, assert_drive, assert_end, lists, service, success,
+    three_groups,
 };
 use bh_audit::Shared;
-use bh_base::{
-    Answer, CallError, Cause, FallbackEnd, GroupId, GroupProps, Op, RunEnd, Step, Strategy, Text,
-};
-use bh_core::Core;
-use bh_journal::{Marks, Pass};
-use bh_workers::{Dependency, DriveError, Driven, RequestList, call, drive};
+use bh_base::{Cause, FallbackEnd, GroupId, GroupProps, Op, RunEnd, Strategy, Text};
+use bh_journal::Pass;
+use bh_workers::{Dependency, DriveError, drive};
+use std::process::Abort;
 use std::sync::{Mutex, Wait};
-use std::test::Fail;
 
 #[test]
-fn drive_answers_two_lists(rt: HostRuntime) -> Result<(), Fail> {
-    let alloc = rt.alloc();
-    let shared = service(alloc, props(), props(), 100)?;
-    let lists = vec![in alloc; list(alloc, A, "x")?, list(alloc, B, "y")?]?;
-    let driven = drive(
-        &rt,
-        alloc,
-        &shared,
-        &Echo,
-        &Still,
-        Steady,
-        lists.as_slice(),
-        100,
-    );
-    let Driven { answers, passes } = driven.ok().ok_or("no drive")?;
-    assert_eq!(rt; answers.len(), 2);
-    for (i, body) in ["x", "y"].iter().enumerate() {
-        let own = answers.get(i).ok_or("no answers")?;
-        assert_eq!(rt; own.len(), 1);
-        assert!(rt; own.iter().all(|answer| is_value(answer, body)));
-    }
+fn drive_answers_two_lists(rt: HostRuntime) {
+    let shared = service(&rt, props(), props(), 100);
+    let passes = assert_drive(&rt, &shared, &Echo, &Still, "0 x\n1 y", "x\ny\n");
     // Two callers, ten workers of each group, and the timer's pass of each.
     assert_eq!(rt; passes.len(), 24);
-    let report = shared
-        .finish(alloc, passes)
-        .ok()
-        .ok_or("the passes differ")?;
-    assert!(rt; report.stopped);
-    assert_eq!(rt; report.groups.len(), 2);
-    assert!(rt; report.groups.iter().all(|group| *group == (props(), 100)));
-    assert!(rt; report.journals.iter().all(|journal| journal.len() == 4));
-    Ok(())
+    assert_end(&rt, shared, passes, "4 of 100, 4 of 100, stopped");
 }
 
 #[test]
-fn drive_without_the_group_starts_no_thread(rt: HostRuntime) -> Result<(), Fail> {
-    let alloc = rt.alloc();
-    let shared = service(alloc, props(), props(), 10)?;
-    let lists = vec![in alloc; list(alloc, A, "x")?, list(alloc, GroupId(2), "y")?]?;
+fn drive_without_the_group_starts_no_thread(rt: HostRuntime) {
+    let shared = service(&rt, props(), props(), 10);
+    let lists = lists(rt.alloc(), "0 x\n2 y").expect(&rt, "memory");
     let driven = drive(
         &rt,
-        alloc,
+        rt.alloc(),
         &shared,
         &Echo,
         &Still,
@@ -68,36 +37,34 @@ fn drive_without_the_group_starts_no_thread(rt: HostRuntime) -> Result<(), Fail>
     );
     assert!(rt; matches!(driven, Err(DriveError::NoGroup)));
     assert!(rt; !shared.stopped(&rt));
-    Ok(())
+}
+
+/// A pass of the group with room for so many receipts.
+fn pass<R: Abort + AllocGlobal>(rt: &R, shared: &Shared, group: GroupId, room: u64) -> Pass {
+    shared.pass(rt.alloc(), group, room).expect(rt, "a pass")
+}
+
+fn assert_no_receipt<R: Abort>(rt: &R, pass: &Pass, room: u64) {
+    assert_eq!(rt; pass.room_left(), room);
+    assert_eq!(rt; pass.receipts().len(), 0);
 }
 
 #[test]
-fn call_needs_five_free_receipts(rt: HostRuntime) -> Result<(), Fail> {
-    let alloc = rt.alloc();
-    let shared = service(alloc, props(), props(), 10)?;
-    let mut pass = shared.pass(alloc, A, 4).ok().ok_or("no pass")?;
-    let answer = call(&rt, &shared, &mut pass, &Echo, &Still, request("x"));
-    assert!(rt; answer == Err(CallError::PassFull));
-    assert_eq!(rt; pass.room_left(), 4);
-    assert_eq!(rt; pass.receipts().len(), 0);
-    Ok(())
+fn call_needs_five_free_receipts(rt: HostRuntime) {
+    let shared = service(&rt, props(), props(), 10);
+    let mut pass = pass(&rt, &shared, A, 4);
+    assert_call(&rt, &shared, &mut pass, &Echo, "Err(PassFull)");
+    assert_no_receipt(&rt, &pass, 4);
 }
 
 #[test]
-fn pass_of_an_unknown_group_is_no_group(rt: HostRuntime) -> Result<(), Fail> {
-    let alloc = rt.alloc();
-    let shared = service(alloc, props(), props(), 10)?;
-    let mut core = Core::new(alloc, 1000);
-    add(&mut core, props(), 10)?;
-    add(&mut core, props(), 10)?;
-    add(&mut core, props(), 10)?;
-    let larger = share(alloc, core, 10)?;
-    let mut pass = larger.pass(alloc, GroupId(2), 5).ok().ok_or("no pass")?;
-    let answer = call(&rt, &shared, &mut pass, &Echo, &Still, request("x"));
-    assert!(rt; answer == Err(CallError::NoGroup));
-    assert_eq!(rt; pass.receipts().len(), 0);
+fn pass_of_an_unknown_group_is_no_group(rt: HostRuntime) {
+    let shared = service(&rt, props(), props(), 10);
+    let larger = three_groups(&rt, 10);
+    let mut pass = pass(&rt, &larger, GroupId(2), 5);
+    assert_call(&rt, &shared, &mut pass, &Echo, "Err(NoGroup)");
+    assert_no_receipt(&rt, &pass, 5);
     assert!(rt; pass.marks().no_group);
-    Ok(())
 }
 
 /// While the caller runs the ticket, another pass ends the run and collects the answer.
@@ -110,25 +77,9 @@ struct Thief<'a, R: Wait> {
 fn steal<R: Wait>(rt: &R, shared: &Shared, pass: &mut Pass, group: GroupId) {
     let body = text("stolen");
     let finish = Op::Finish { serial: 1, body };
-    let _ = shared.step(
-        rt,
-        pass,
-        Step {
-            group,
-            now: 0,
-            op: finish,
-        },
-    );
+    let _ = shared.step(rt, pass, step(group.0, 0, &finish));
     let collect = Op::Collect { serial: 1 };
-    let _ = shared.step(
-        rt,
-        pass,
-        Step {
-            group,
-            now: 0,
-            op: collect,
-        },
-    );
+    let _ = shared.step(rt, pass, step(group.0, 0, &collect));
 }
 
 impl<'a, R: Wait> Dependency for Thief<'a, R> {
@@ -147,39 +98,30 @@ impl<'a, R: Wait> Dependency for Thief<'a, R> {
     }
 }
 
+/// A call of the second group, whose ticket the thief collects; the passes of both.
+fn robbed<R: Wait + Abort + AllocGlobal>(rt: &R, shared: &Shared) -> Vec<Pass> {
+    let mut own = pass(rt, shared, B, 10);
+    let thief = Thief {
+        rt,
+        shared,
+        pass: Mutex::new(pass(rt, shared, B, 10)),
+    };
+    assert_call(rt, shared, &mut own, &thief, "Err(Taken)");
+    let Thief {
+        rt: _,
+        shared: _,
+        pass,
+    } = thief;
+    vec![in rt.alloc(); own, pass.into_inner()].expect(rt, "memory")
+}
+
 #[test]
-fn ticket_that_another_pass_collected_is_taken(rt: HostRuntime) -> Result<(), Fail> {
-    let alloc = rt.alloc();
+fn ticket_that_another_pass_collected_is_taken(rt: HostRuntime) {
     let inline = GroupProps {
         strategy: Strategy::Semaphore,
         ..props()
     };
-    let shared = service(alloc, props(), inline, 10)?;
-    let mut pass = shared.pass(alloc, B, 10).ok().ok_or("no pass")?;
-    let own = shared.pass(alloc, B, 10).ok().ok_or("no pass")?;
-    let thief = Thief {
-        rt: &rt,
-        shared: &shared,
-        pass: Mutex::new(own),
-    };
-    let answer = call(&rt, &shared, &mut pass, &thief, &Still, request("x"));
-    assert!(rt; answer == Err(CallError::Taken));
-    let Thief {
-        rt: _,
-        shared: _,
-        pass: own,
-    } = thief;
-    let passes = vec![in alloc; pass, own.into_inner()]?;
-    let report = shared
-        .finish(alloc, passes)
-        .ok()
-        .ok_or("the passes differ")?;
-    assert!(rt;
-        report
-            .journals
-            .iter()
-            .map(|journal| journal.len())
-            .eq([0, 5])
-    );
-    Ok(())
+    let shared = service(&rt, props(), inline, 10);
+    let passes = robbed(&rt, &shared);
+    assert_end(&rt, shared, passes, "0 of 10, 5 of 10 changed, running");
 }

@@ -1,0 +1,127 @@
+//! Scripts: each line asks something, and says behind ` = ` what is answered. A test of many steps is then one text and
+//! one loop.
+
+use bh_base::{Answer, GroupId, Op, Reply, Request, Step, Text};
+use bh_core::Core;
+use std::alloc::{AllocError, Global};
+use std::process::Abort;
+
+/// The number, or 0 where there is none.
+pub(crate) fn number(word: &str) -> u64 {
+    word.parse::<u64>().unwrap_or(0)
+}
+
+/// The first word and the rest.
+pub(crate) fn split_word(words: &str) -> (&str, &str) {
+    words.split_once(' ').unwrap_or((words, ""))
+}
+
+/// What is asked, and what is to be answered.
+pub(crate) fn split_line(line: &str) -> (&str, &str) {
+    line.split_once(" = ").unwrap_or((line, ""))
+}
+
+fn submit(arg: &str) -> Option<Op> {
+    let arg = Text::new(arg).ok()?;
+    Some(Op::Submit(Request { cache: None, arg }))
+}
+
+fn finish(serial: u64, body: &str) -> Option<Op> {
+    let body = Text::new(body).ok()?;
+    Some(Op::Finish { serial, body })
+}
+
+/// An operation that says more than its name.
+fn operation_of(name: &str, rest: &str) -> Option<Op> {
+    match name {
+        "submit" => submit(rest),
+        "collect" => Some(Op::Collect {
+            serial: number(rest),
+        }),
+        "finish" => {
+            let (serial, body) = split_word(rest);
+            finish(number(serial), body)
+        }
+        _ => None,
+    }
+}
+
+fn operation(words: &str) -> Option<Op> {
+    match words {
+        "start" => Some(Op::Start),
+        "expire" => Some(Op::Expire),
+        "read" => Some(Op::Read),
+        _ => {
+            let (name, rest) = split_word(words);
+            operation_of(name, rest)
+        }
+    }
+}
+
+/// The step of the words: the group, the moment and the operation.
+pub(crate) fn step_of(words: &str) -> Option<Step> {
+    let (group, rest) = split_word(words);
+    let (now, rest) = split_word(rest);
+    let op = operation(rest)?;
+    Some(Step {
+        group: GroupId(number(group)),
+        now: number(now),
+        op,
+    })
+}
+
+/// The reply, with its texts as texts.
+pub(crate) fn reply_text(alloc: Global, reply: &Reply) -> Result<String, AllocError> {
+    match reply {
+        Reply::Assigned { serial, arg } => format!(in alloc; "Assigned({serial} {})", arg.as_str()),
+        Reply::Answered(Answer::Value(body)) => format!(in alloc; "Value({})", body.as_str()),
+        other => format!(in alloc; "{other:?}"),
+    }
+}
+
+/// What a look at the core says.
+fn look(core: &Core, name: &str, group: GroupId, number: u64) -> u64 {
+    match name {
+        "groups" => core.groups(),
+        "steps" => core.steps(group),
+        "worn" => u64::from(core.worn(group)),
+        "startable" => u64::from(core.startable(group)),
+        "pending" => u64::from(core.pending(group, number)),
+        "due" => u64::from(core.due(group, number)),
+        _ => u64::MAX,
+    }
+}
+
+fn look_text(alloc: Global, core: &Core, words: &str) -> Result<String, AllocError> {
+    let (name, rest) = split_word(words);
+    let (group, rest) = split_word(rest);
+    let seen = look(core, name, GroupId(number(group)), number(rest));
+    format!(in alloc; "{seen}")
+}
+
+/// What the core answers: to a step, or to a look.
+fn ask(alloc: Global, core: &mut Core, words: &str) -> Result<String, AllocError> {
+    match step_of(words) {
+        Some(step) => reply_text(alloc, &core.apply(step)),
+        None => look_text(alloc, core, words),
+    }
+}
+
+/// Asserts that the text was made, and is the other.
+pub(crate) fn assert_text<R: Abort>(
+    rt: &R,
+    told: Result<String, AllocError>,
+    want: &str,
+    at: &str,
+) {
+    let told = told.expect(rt, "memory");
+    assert_eq!(rt; told.as_str(), want, "at {at}");
+}
+
+/// Asserts what the core answers to each line.
+pub(crate) fn play(rt: &(impl Abort + AllocGlobal), core: &mut Core, script: &str) {
+    for line in script.lines() {
+        let (asked, want) = split_line(line);
+        assert_text(rt, ask(rt.alloc(), core, asked), want, line);
+    }
+}
