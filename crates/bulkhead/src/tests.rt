@@ -7,7 +7,6 @@ mod settings;
 mod streams;
 
 use crate::run::run_file;
-use std::alloc::Global;
 use std::process::Abort;
 
 const TWO_GROUPS: &str = "service.groups = [\"a\", \"b\"]\n";
@@ -35,9 +34,8 @@ const TWO_GROUPS_OUTPUT: &str = r#"{"reply":"queued","ticket":1}
 "#;
 
 // Runs the input under the settings, and asserts what comes of it.
-fn assert_run(
-    rt: &impl Abort,
-    alloc: Global,
+fn assert_run<R: Abort + AllocGlobal>(
+    rt: &R,
     settings: &[u8],
     input: &[u8],
     status: u8,
@@ -45,45 +43,48 @@ fn assert_run(
     errors: &str,
 ) {
     let mut reader: &[u8] = input;
-    let mut written = Vec::new(alloc);
-    let mut reported = Vec::new(alloc);
-    let answered = run_file(alloc, settings, &mut reader, &mut written, &mut reported);
+    let mut written = Vec::new(rt.alloc());
+    let mut reported = Vec::new(rt.alloc());
+    let answered = run_file(
+        rt.alloc(),
+        settings,
+        &mut reader,
+        &mut written,
+        &mut reported,
+    );
+    assert_end(rt, answered, status);
+    assert_bytes(rt, &written, output, "the output");
+    assert_bytes(rt, &reported, errors, "the errors");
+}
+
+fn assert_end<R: Abort>(rt: &R, answered: u8, status: u8) {
     assert_eq!(rt; answered, status);
-    assert_eq!(rt; written.as_slice(), output.as_bytes());
-    assert_eq!(rt; reported.as_slice(), errors.as_bytes());
+}
+
+fn assert_bytes<R: Abort>(rt: &R, written: &Vec<u8>, want: &str, what: &str) {
+    assert_eq!(rt; written.as_slice(), want.as_bytes(), "{what}");
+}
+
+// Runs the lines under the settings, and asserts that it is their answers that are written.
+fn assert_answers<R: Abort + AllocGlobal>(rt: &R, settings: &str, input: &str, output: &str) {
+    assert_run(rt, settings.as_bytes(), input.as_bytes(), 0, output, "");
 }
 
 #[test]
 fn no_line_is_answered_by_nothing(rt: HostRuntime) {
-    assert_run(&rt, rt.alloc(), ONE_GROUP.as_bytes(), b"", 0, "", "");
+    assert_answers(&rt, ONE_GROUP, "", "");
 }
 
 #[test]
 fn each_group_counts_its_own_tickets(rt: HostRuntime) {
-    assert_run(
-        &rt,
-        rt.alloc(),
-        TWO_GROUPS.as_bytes(),
-        TWO_GROUPS_INPUT.as_bytes(),
-        0,
-        TWO_GROUPS_OUTPUT,
-        "",
-    );
+    assert_answers(&rt, TWO_GROUPS, TWO_GROUPS_INPUT, TWO_GROUPS_OUTPUT);
 }
+
+const TWO_LINES: &str = "{\"op\":\"start\",\"group\":\"a\",\"now\":0}\r
+{\"op\":\"start\",\"group\":\"a\",\"now\":0}";
 
 #[test]
 fn lines_end_by_line_feed_or_with_the_input(rt: HostRuntime) {
-    let line = r#"{"op":"start","group":"a","now":0}"#;
-    let idle = "{\"reply\":\"idle\"}\n";
-    let input = format!(in rt.alloc(); "{line}\r\n{line}").expect(&rt, "memory");
-    let output = format!(in rt.alloc(); "{idle}{idle}").expect(&rt, "memory");
-    assert_run(
-        &rt,
-        rt.alloc(),
-        ONE_GROUP.as_bytes(),
-        input.as_str().as_bytes(),
-        0,
-        output.as_str(),
-        "",
-    );
+    let idle_twice = "{\"reply\":\"idle\"}\n{\"reply\":\"idle\"}\n";
+    assert_answers(&rt, ONE_GROUP, TWO_LINES, idle_twice);
 }

@@ -1,6 +1,6 @@
 //! Scripts of all operations, each under properties of its own.
 
-use super::assert_run;
+use super::{ONE_GROUP, assert_answers};
 
 const QUEUE_SETTINGS: &str = r#"service.groups = ["a"]
 hystrix.threadpool.default.coreSize = 1
@@ -30,15 +30,7 @@ const QUEUE_OUTPUT: &str = r#"{"reply":"queued","ticket":1}
 
 #[test]
 fn a_queue_takes_so_many_and_the_pool_refuses_more(rt: HostRuntime) {
-    assert_run(
-        &rt,
-        rt.alloc(),
-        QUEUE_SETTINGS.as_bytes(),
-        QUEUE_INPUT.as_bytes(),
-        0,
-        QUEUE_OUTPUT,
-        "",
-    );
+    assert_answers(&rt, QUEUE_SETTINGS, QUEUE_INPUT, QUEUE_OUTPUT);
 }
 
 const FALLBACK_SETTINGS: &str = r#"service.groups = ["a"]
@@ -65,15 +57,7 @@ const FALLBACK_OUTPUT: &str = r#"{"reply":"queued","ticket":1}
 
 #[test]
 fn a_refused_request_is_answered_by_its_fallback(rt: HostRuntime) {
-    assert_run(
-        &rt,
-        rt.alloc(),
-        FALLBACK_SETTINGS.as_bytes(),
-        FALLBACK_INPUT.as_bytes(),
-        0,
-        FALLBACK_OUTPUT,
-        "",
-    );
+    assert_answers(&rt, FALLBACK_SETTINGS, FALLBACK_INPUT, FALLBACK_OUTPUT);
 }
 
 const SLEEP_SETTINGS: &str = r#"service.groups = ["a"]
@@ -111,15 +95,7 @@ const SLEEP_OUTPUT: &str = r#"{"reply":"queued","ticket":1}
 
 #[test]
 fn an_open_circuit_takes_one_run_after_its_sleep_window(rt: HostRuntime) {
-    assert_run(
-        &rt,
-        rt.alloc(),
-        SLEEP_SETTINGS.as_bytes(),
-        SLEEP_INPUT.as_bytes(),
-        0,
-        SLEEP_OUTPUT,
-        "",
-    );
+    assert_answers(&rt, SLEEP_SETTINGS, SLEEP_INPUT, SLEEP_OUTPUT);
 }
 
 const BAD_REQUEST_SETTINGS: &str = r#"service.groups = ["a"]
@@ -151,14 +127,11 @@ const BAD_REQUEST_OUTPUT: &str = r#"{"reply":"queued","ticket":1}
 
 #[test]
 fn after_a_bad_request_the_next_submit_is_the_test_call(rt: HostRuntime) {
-    assert_run(
+    assert_answers(
         &rt,
-        rt.alloc(),
-        BAD_REQUEST_SETTINGS.as_bytes(),
-        BAD_REQUEST_INPUT.as_bytes(),
-        0,
+        BAD_REQUEST_SETTINGS,
+        BAD_REQUEST_INPUT,
         BAD_REQUEST_OUTPUT,
-        "",
     );
 }
 
@@ -197,15 +170,7 @@ const TIMEOUT_OUTPUT: &str = r#"{"reply":"queued","ticket":1}
 
 #[test]
 fn late_tickets_time_out(rt: HostRuntime) {
-    assert_run(
-        &rt,
-        rt.alloc(),
-        TIMEOUT_SETTINGS.as_bytes(),
-        TIMEOUT_INPUT.as_bytes(),
-        0,
-        TIMEOUT_OUTPUT,
-        "",
-    );
+    assert_answers(&rt, TIMEOUT_SETTINGS, TIMEOUT_INPUT, TIMEOUT_OUTPUT);
 }
 
 pub const CACHE_SETTINGS: &str = r#"service.groups = ["a"]
@@ -245,15 +210,7 @@ pub const CACHE_OUTPUT: &str = r#"{"reply":"queued","ticket":1}
 
 #[test]
 fn requests_of_one_key_share_a_ticket_until_the_context_is_closed(rt: HostRuntime) {
-    assert_run(
-        &rt,
-        rt.alloc(),
-        CACHE_SETTINGS.as_bytes(),
-        CACHE_INPUT.as_bytes(),
-        0,
-        CACHE_OUTPUT,
-        "",
-    );
+    assert_answers(&rt, CACHE_SETTINGS, CACHE_INPUT, CACHE_OUTPUT);
 }
 
 const MISSING_SETTINGS: &str = r#"service.groups = ["a"]
@@ -292,15 +249,7 @@ const MISSING_OUTPUT: &str = r#"{"reply":"queued","ticket":1}
 
 #[test]
 fn a_fallback_needs_a_permit_and_may_be_missing(rt: HostRuntime) {
-    assert_run(
-        &rt,
-        rt.alloc(),
-        MISSING_SETTINGS.as_bytes(),
-        MISSING_INPUT.as_bytes(),
-        0,
-        MISSING_OUTPUT,
-        "",
-    );
+    assert_answers(&rt, MISSING_SETTINGS, MISSING_INPUT, MISSING_OUTPUT);
 }
 
 const AUDIT_SETTINGS: &str = r#"service.groups = ["a", "b"]
@@ -323,15 +272,7 @@ const AUDIT_OUTPUT: &str = r#"{"reply":"queued","ticket":1}
 
 #[test]
 fn a_group_is_worn_after_its_audited_steps(rt: HostRuntime) {
-    assert_run(
-        &rt,
-        rt.alloc(),
-        AUDIT_SETTINGS.as_bytes(),
-        AUDIT_INPUT.as_bytes(),
-        0,
-        AUDIT_OUTPUT,
-        "",
-    );
+    assert_answers(&rt, AUDIT_SETTINGS, AUDIT_INPUT, AUDIT_OUTPUT);
 }
 
 const FAILED_INPUT: &str = r#"{"op":"submit","group":"a","now":0,"arg":"x"}
@@ -352,13 +293,5 @@ const FAILED_OUTPUT: &str = r#"{"reply":"queued","ticket":1}
 
 #[test]
 fn a_body_beside_a_failed_fallback_is_not_read(rt: HostRuntime) {
-    assert_run(
-        &rt,
-        rt.alloc(),
-        b"service.groups = [\"a\"]\n",
-        FAILED_INPUT.as_bytes(),
-        0,
-        FAILED_OUTPUT,
-        "",
-    );
+    assert_answers(&rt, ONE_GROUP, FAILED_INPUT, FAILED_OUTPUT);
 }

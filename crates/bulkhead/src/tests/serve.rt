@@ -1,5 +1,6 @@
 //! Connections over the loopback interface, with the service in a thread of its own.
 
+use super::{assert_bytes, assert_end};
 use crate::settings_file::settings_in;
 use bh_serve::serve_on;
 use std::io::{Read, Write};
@@ -51,30 +52,39 @@ fn say(rt: &impl Abort, mut stream: &TcpStream, bytes: &[u8]) {
     stream.write_all(bytes).expect(rt, "the service reads");
 }
 
+// The next byte that the service wrote, where there is one.
+fn hear_byte(rt: &impl Abort, mut stream: &TcpStream) -> Option<u8> {
+    let mut byte = [0u8; 1];
+    let count = stream.read(&mut byte).expect(rt, "the service writes");
+    if count == 0 { None } else { Some(byte[0]) }
+}
+
 // The next line that the service wrote.
-fn hear(rt: &(impl Abort + AllocGlobal), mut stream: &TcpStream) -> Vec<u8> {
+fn hear(rt: &(impl Abort + AllocGlobal), stream: &TcpStream) -> Vec<u8> {
     let mut line = Vec::new(rt.alloc());
     for _ in 0..4096 {
-        let mut byte = [0u8; 1];
-        let count = stream.read(&mut byte).expect(rt, "the service writes");
-        if count == 0 {
+        let Some(byte) = hear_byte(rt, stream) else {
             break;
-        }
-        line.push(byte[0]).expect(rt, "memory");
-        if byte[0] == b'\n' {
+        };
+        line.push(byte).expect(rt, "memory");
+        if byte == b'\n' {
             break;
         }
     }
     line
 }
 
+// Asserts the next line that the service wrote.
+fn assert_heard(rt: &(impl Abort + AllocGlobal), stream: &TcpStream, want: &str, at: &str) {
+    assert_bytes(rt, &hear(rt, stream), want, at);
+}
+
 // Sends a line, and asserts the line that answers it.
 fn assert_reply(rt: &(impl Abort + AllocGlobal), stream: &TcpStream, line: &str, reply: &str) {
     say(rt, stream, line.as_bytes());
     say(rt, stream, b"\n");
-    let heard = hear(rt, stream);
     let want = format!(in rt.alloc(); "{reply}\n").expect(rt, "memory");
-    assert_eq!(rt; heard.as_slice(), want.as_str().as_bytes(), "at {line}");
+    assert_heard(rt, stream, want.as_str(), line);
 }
 
 // Calls a group with an argument, and asserts the line that answers it.
@@ -107,87 +117,79 @@ fn ask_for_groups<R: Net<Listener = TcpListener, Stream = TcpStream> + Abort + A
     assert_call(rt, &stream, "a", "hi", r#"{"body":"hi","reply":"value"}"#);
 }
 
-#[test]
-fn groups_are_listed_and_a_call_is_answered(rt: HostRuntime) {
-    let listener = listen(&rt);
-    let addr = listener.local_addr().expect(&rt, "an address");
-    let errors = Mutex::new(Vec::new(rt.alloc()));
-    let (status, ()) = thread::join(
-        &rt,
-        || serve(&rt, TWO_GROUPS, &listener, 1, &errors),
-        || ask_for_groups(&rt, addr),
-    );
-    assert_eq!(rt; status, 0);
-    assert_eq!(rt; errors.into_inner().as_slice(), b"".as_slice());
+// What stands before and behind the equals sign.
+fn split(line: &str) -> (&str, &str) {
+    line.split_once(" = ").unwrap_or((line, ""))
 }
 
-const ECHO: [(&str, &str); 9] = [
-    (
-        "fail",
-        r#"{"body":"fallback","cause":"failure","reply":"fallback-value"}"#,
-    ),
-    (
-        "fail twice",
-        r#"{"cause":"failure","fallback":"failed","reply":"error"}"#,
-    ),
-    (
-        "fail bare",
-        r#"{"cause":"failure","fallback":"missing","reply":"error"}"#,
-    ),
-    ("bad", r#"{"reply":"bad-request"}"#),
-    ("sleep 20", r#"{"body":"sleep 20","reply":"value"}"#),
-    ("sleep 12345", r#"{"body":"sleep 12345","reply":"value"}"#),
-    ("sleep", r#"{"body":"sleep","reply":"value"}"#),
-    ("sleep 1x", r#"{"body":"sleep 1x","reply":"value"}"#),
-    ("", r#"{"body":"","reply":"value"}"#),
-];
+// Each line is an argument and the reply to a call with it.
+const ECHO: &str = r#"fail = {"body":"fallback","cause":"failure","reply":"fallback-value"}
+fail twice = {"cause":"failure","fallback":"failed","reply":"error"}
+fail bare = {"cause":"failure","fallback":"missing","reply":"error"}
+bad = {"reply":"bad-request"}
+sleep 20 = {"body":"sleep 20","reply":"value"}
+sleep 12345 = {"body":"sleep 12345","reply":"value"}
+sleep = {"body":"sleep","reply":"value"}
+sleep 1x = {"body":"sleep 1x","reply":"value"}
+ = {"body":"","reply":"value"}
+"#;
 
-// Every argument that the echo tells apart, under a worker and under a permit; then what else may be asked.
+// Every argument that the echo tells apart, under a worker and under a permit.
+fn ask_echo(rt: &(impl Abort + AllocGlobal), stream: &TcpStream) {
+    for line in ECHO.lines() {
+        let (arg, reply) = split(line);
+        assert_call(rt, stream, "a", arg, reply);
+        assert_call(rt, stream, "b", arg, reply);
+    }
+}
+
+// What else may be asked, and the replies.
+const ASKED: &str =
+    r#"{"op":"call","group":"a","arg":"sleep 1500"} = {"body":"fallback","cause":"timeout","reply":"fallback-value"}
+{"op":"call","group":"z","arg":"x"} = {"error":"group"}
+{"op":"call","group":"b","arg":"kept","context":7,"key":"k"} = {"body":"kept","reply":"value"}
+{"op":"call","group":"b","arg":"kept","context":7,"key":"k"} = {"body":"kept","reply":"value"}
+{"op":"close","group":"b","context":7} = {"released":1,"reply":"closed"}
+{"op":"close","group":"b","context":7} = {"released":0,"reply":"closed"}
+{ = {"error":"syntax"}
+{"op":"start"} = {"error":"op"}
+{"op":"metrics","group":"b"} = {"busy":0,"circuit":"closed","errors":3,"events":{"BAD_REQUEST":1,"EXCEPTION_THROWN":2,"FAILURE":3,"FALLBACK_FAILURE":1,"FALLBACK_MISSING":1,"FALLBACK_SUCCESS":1,"RESPONSE_FROM_CACHE":1,"SUCCESS":6},"free":64,"percent":33,"queued":0,"reply":"metrics","total":9}
+"#;
+
 fn ask_for_everything<R: Net<Listener = TcpListener, Stream = TcpStream> + Abort + AllocGlobal>(
     rt: &R,
     addr: SocketAddr,
 ) {
     let stream = connect(rt, addr);
-    for (arg, reply) in ECHO {
-        assert_call(rt, &stream, "a", arg, reply);
-        assert_call(rt, &stream, "b", arg, reply);
+    ask_echo(rt, &stream);
+    for line in ASKED.lines() {
+        let (asked, reply) = split(line);
+        assert_reply(rt, &stream, asked, reply);
     }
-    assert_call(
-        rt,
-        &stream,
-        "a",
-        "sleep 1500",
-        r#"{"body":"fallback","cause":"timeout","reply":"fallback-value"}"#,
-    );
-    assert_call(rt, &stream, "z", "x", r#"{"error":"group"}"#);
-    let cached = r#"{"op":"call","group":"b","arg":"kept","context":7,"key":"k"}"#;
-    assert_reply(rt, &stream, cached, r#"{"body":"kept","reply":"value"}"#);
-    assert_reply(rt, &stream, cached, r#"{"body":"kept","reply":"value"}"#);
-    let close = r#"{"op":"close","group":"b","context":7}"#;
-    assert_reply(rt, &stream, close, r#"{"released":1,"reply":"closed"}"#);
-    assert_reply(rt, &stream, close, r#"{"released":0,"reply":"closed"}"#);
-    assert_reply(rt, &stream, "{", r#"{"error":"syntax"}"#);
-    assert_reply(rt, &stream, r#"{"op":"start"}"#, r#"{"error":"op"}"#);
-    let metrics =
-        r#"{"busy":0,"circuit":"closed","errors":3,"events":{"BAD_REQUEST":1,"EXCEPTION_THROWN":2,"FAILURE":3,"FALLBACK_FAILURE":1,"FALLBACK_MISSING":1,"FALLBACK_SUCCESS":1,"RESPONSE_FROM_CACHE":1,"SUCCESS":6},"free":64,"percent":33,"queued":0,"reply":"metrics","total":9}"#;
-    assert_reply(rt, &stream, r#"{"op":"metrics","group":"b"}"#, metrics);
 }
 
-#[test]
-fn the_echo_answers_as_its_table_says(rt: HostRuntime) {
-    let listener = listen(&rt);
-    let addr = listener.local_addr().expect(&rt, "an address");
-    let errors = Mutex::new(Vec::new(rt.alloc()));
-    let (status, ()) = thread::join(
-        &rt,
-        || serve(&rt, TWO_GROUPS, &listener, 1, &errors),
-        || ask_for_everything(&rt, addr),
-    );
-    assert_eq!(rt; status, 0);
-    assert_eq!(rt; errors.into_inner().as_slice(), b"".as_slice());
+// Each connection calls, with an argument of its own.
+fn say_all(rt: &(impl Abort + AllocGlobal), streams: &Vec<TcpStream>, round: usize) {
+    for (i, stream) in streams.iter().enumerate() {
+        let group = i % 8;
+        let line = format!(in rt.alloc();
+            "{{\"op\":\"call\",\"group\":\"g{group}\",\"arg\":\"c{i} r{round}\"}}\n"
+        ).expect(rt, "memory");
+        say(rt, stream, line.as_str().as_bytes());
+    }
 }
 
-// All connections call at once, each with an argument of its own, and each gets its own back.
+// Each connection gets its own argument back.
+fn hear_all(rt: &(impl Abort + AllocGlobal), streams: &Vec<TcpStream>, round: usize) {
+    for (i, stream) in streams.iter().enumerate() {
+        let want = format!(in rt.alloc();
+            "{{\"body\":\"c{i} r{round}\",\"reply\":\"value\"}}\n"
+        ).expect(rt, "memory");
+        assert_heard(rt, stream, want.as_str(), "at once");
+    }
+}
+
+// All connections call at once.
 fn call_at_once<R: Net<Listener = TcpListener, Stream = TcpStream> + Abort + AllocGlobal>(
     rt: &R,
     addr: SocketAddr,
@@ -197,35 +199,31 @@ fn call_at_once<R: Net<Listener = TcpListener, Stream = TcpStream> + Abort + All
         streams.push(connect(rt, addr)).expect(rt, "memory");
     }
     for round in 0..ROUNDS {
-        for (i, stream) in streams.iter().enumerate() {
-            let group = i % 8;
-            let line = format!(in rt.alloc();
-                "{{\"op\":\"call\",\"group\":\"g{group}\",\"arg\":\"c{i} r{round}\"}}\n"
-            ).expect(rt, "memory");
-            say(rt, stream, line.as_str().as_bytes());
-        }
-        for (i, stream) in streams.iter().enumerate() {
-            let heard = hear(rt, stream);
-            let want = format!(in rt.alloc();
-                "{{\"body\":\"c{i} r{round}\",\"reply\":\"value\"}}\n"
-            ).expect(rt, "memory");
-            assert_eq!(rt; heard.as_slice(), want.as_str().as_bytes());
-        }
+        say_all(rt, &streams, round);
+        hear_all(rt, &streams, round);
     }
 }
 
-#[test]
-fn connections_that_call_at_once_get_their_own_answers(rt: HostRuntime) {
-    let listener = listen(&rt);
-    let addr = listener.local_addr().expect(&rt, "an address");
-    let errors = Mutex::new(Vec::new(rt.alloc()));
-    let (status, ()) = thread::join(
-        &rt,
-        || serve(&rt, EIGHT_GROUPS, &listener, CONNECTIONS as u32, &errors),
-        || call_at_once(&rt, addr),
-    );
-    assert_eq!(rt; status, 0);
-    assert_eq!(rt; errors.into_inner().as_slice(), b"".as_slice());
+// A connection that says half a line.
+fn say_half<R: Net<Listener = TcpListener, Stream = TcpStream> + Abort + AllocGlobal>(
+    rt: &R,
+    addr: SocketAddr,
+) {
+    let half = connect(rt, addr);
+    say(rt, &half, br#"{"op":"gro"#);
+    half.shutdown(Shutdown::Write).expect(rt, "a shutdown");
+    assert_heard(rt, &half, "{\"error\":\"syntax\"}\n", "half a line");
+    assert_heard(rt, &half, "", "half a line");
+}
+
+// A connection that says a line which is too long.
+fn say_long<R: Net<Listener = TcpListener, Stream = TcpStream> + Abort + AllocGlobal>(
+    rt: &R,
+    addr: SocketAddr,
+) {
+    let long = connect(rt, addr);
+    say(rt, &long, &[b'x'; 2000]);
+    assert_heard(rt, &long, "", "a long line");
 }
 
 // Connections that end badly beside two that go on.
@@ -235,46 +233,78 @@ fn break_off<R: Net<Listener = TcpListener, Stream = TcpStream> + Abort + AllocG
 ) {
     let first = connect(rt, addr);
     assert_call(rt, &first, "a", "one", r#"{"body":"one","reply":"value"}"#);
-
-    let half = connect(rt, addr);
-    say(rt, &half, br#"{"op":"gro"#);
-    half.shutdown(Shutdown::Write).expect(rt, "a shutdown");
-    assert_eq!(rt;
-        hear(rt, &half).as_slice(),
-        b"{\"error\":\"syntax\"}\n".as_slice()
-    );
-    assert_eq!(rt; hear(rt, &half).as_slice(), b"".as_slice());
-
-    let long = connect(rt, addr);
-    say(rt, &long, &[b'x'; 2000]);
-    assert_eq!(rt; hear(rt, &long).as_slice(), b"".as_slice());
-
+    say_half(rt, addr);
+    say_long(rt, addr);
     let silent = connect(rt, addr);
     drop(silent);
-
     assert_call(rt, &first, "a", "two", r#"{"body":"two","reply":"value"}"#);
     let last = connect(rt, addr);
-    assert_call(
+    let three = r#"{"body":"three","reply":"value"}"#;
+    assert_call(rt, &last, "b", "three", three);
+}
+
+// What the other side of the connections says.
+#[derive(Clone, Copy)]
+enum Talk {
+    Groups,
+    Everything,
+    AtOnce,
+    BrokenOff,
+}
+
+fn speak<R: Net<Listener = TcpListener, Stream = TcpStream> + Abort + AllocGlobal>(
+    rt: &R,
+    addr: SocketAddr,
+    what: Talk,
+) {
+    match what {
+        Talk::Groups => ask_for_groups(rt, addr),
+        Talk::Everything => ask_for_everything(rt, addr),
+        Talk::AtOnce => call_at_once(rt, addr),
+        Talk::BrokenOff => break_off(rt, addr),
+    }
+}
+
+// Serves so many connections beside the talk, and asserts that the service ends well with these errors.
+fn assert_served<
+    R: Threads
+        + Wait
+        + Clock
+        + Net<Listener = TcpListener, Stream = TcpStream>
+        + Abort
+        + AllocGlobal
+        + Sync,
+>(rt: &R, settings: &str, connections: u32, what: Talk, want: &str) {
+    let listener = listen(rt);
+    let addr = listener.local_addr().expect(rt, "an address");
+    let errors = Mutex::new(Vec::new(rt.alloc()));
+    let (status, ()) = thread::join(
         rt,
-        &last,
-        "b",
-        "three",
-        r#"{"body":"three","reply":"value"}"#,
+        || serve(rt, settings, &listener, connections, &errors),
+        || speak(rt, addr, what),
     );
+    assert_end(rt, status, 0);
+    assert_bytes(rt, &errors.into_inner(), want, "the errors");
+}
+
+#[test]
+fn groups_are_listed_and_a_call_is_answered(rt: HostRuntime) {
+    assert_served(&rt, TWO_GROUPS, 1, Talk::Groups, "");
+}
+
+#[test]
+fn the_echo_answers_as_its_table_says(rt: HostRuntime) {
+    assert_served(&rt, TWO_GROUPS, 1, Talk::Everything, "");
+}
+
+#[test]
+fn connections_that_call_at_once_get_their_own_answers(rt: HostRuntime) {
+    assert_served(&rt, EIGHT_GROUPS, CONNECTIONS as u32, Talk::AtOnce, "");
 }
 
 #[test]
 fn a_connection_that_breaks_off_ends_alone(rt: HostRuntime) {
-    let listener = listen(&rt);
-    let addr = listener.local_addr().expect(&rt, "an address");
-    let errors = Mutex::new(Vec::new(rt.alloc()));
-    let (status, ()) = thread::join(
-        &rt,
-        || serve(&rt, TWO_GROUPS, &listener, 5, &errors),
-        || break_off(&rt, addr),
-    );
-    assert_eq!(rt; status, 0);
-    assert_eq!(rt; errors.into_inner().as_slice(), b"fault: line\n".as_slice());
+    assert_served(&rt, TWO_GROUPS, 5, Talk::BrokenOff, "fault: line\n");
 }
 
 #[test]
@@ -283,9 +313,6 @@ fn a_connection_that_cannot_be_accepted_ends_the_service(rt: HostRuntime) {
     listener.set_nonblocking(true).expect(&rt, "a mode");
     let errors = Mutex::new(Vec::new(rt.alloc()));
     let status = serve(&rt, TWO_GROUPS, &listener, 1, &errors);
-    assert_eq!(rt; status, 3);
-    assert_eq!(rt;
-        errors.into_inner().as_slice(),
-        b"fault: network\n".as_slice()
-    );
+    assert_end(&rt, status, 3);
+    assert_bytes(&rt, &errors.into_inner(), "fault: network\n", "the errors");
 }

@@ -1,10 +1,9 @@
 //! Settings that are refused, and the lines that show the others.
 
-use super::{TWO_GROUPS_INPUT, assert_run};
+use super::{TWO_GROUPS_INPUT, assert_bytes, assert_end, assert_run};
 use crate::check::check_file;
 use crate::report;
 use bh_props::SettingsError;
-use std::alloc::Global;
 use std::io;
 use std::io::{ErrorKind, Write};
 use std::process::Abort;
@@ -85,136 +84,141 @@ impl Write for FullWriter {
 }
 
 // Shows the settings, and asserts what comes of it.
-fn assert_check(
-    rt: &impl Abort,
-    alloc: Global,
+fn assert_check<R: Abort + AllocGlobal>(
+    rt: &R,
     settings: &[u8],
     status: u8,
     output: &str,
     errors: &str,
 ) {
-    let mut written = Vec::new(alloc);
-    let mut reported = Vec::new(alloc);
-    let answered = check_file(alloc, settings, &mut written, &mut reported);
-    assert_eq!(rt; answered, status);
-    assert_eq!(rt; written.as_slice(), output.as_bytes());
-    assert_eq!(rt; reported.as_slice(), errors.as_bytes());
+    let mut written = Vec::new(rt.alloc());
+    let mut reported = Vec::new(rt.alloc());
+    let answered = check_file(rt.alloc(), settings, &mut written, &mut reported);
+    assert_end(rt, answered, status);
+    assert_bytes(rt, &written, output, "the output");
+    assert_bytes(rt, &reported, errors, "the errors");
 }
 
 // Asserts that the settings are refused so by a run and a check, and that nothing is written.
-fn assert_refused(rt: &impl Abort, alloc: Global, settings: &[u8], text: &str) {
+fn assert_refused<R: Abort + AllocGlobal>(rt: &R, settings: &[u8], text: &str) {
     let input = TWO_GROUPS_INPUT.as_bytes();
-    assert_run(rt, alloc, settings, input, 1, "", text);
-    assert_check(rt, alloc, settings, 1, "", text);
+    assert_run(rt, settings, input, 1, "", text);
+    assert_check(rt, settings, 1, "", text);
+}
+
+// Asserts that the lines, behind others, are refused for the reason.
+fn assert_refusal<R: Abort + AllocGlobal>(rt: &R, before: &str, lines: &str, reason: &str) {
+    let settings = format!(in rt.alloc(); "{before}{lines}").expect(rt, "memory");
+    let text = format!(in rt.alloc(); "settings refused: {reason}\n").expect(rt, "memory");
+    assert_refused(rt, settings.as_str().as_bytes(), text.as_str());
+}
+
+// Asserts a refusal for each of the cases, which stand with a blank line between two: the reason, and the lines.
+fn assert_refusals<R: Abort + AllocGlobal>(rt: &R, before: &str, cases: &str) {
+    for case in cases.split("\n\n") {
+        let (reason, lines) = case.split_once('\n').unwrap_or((case, ""));
+        assert_refusal(rt, before, lines, reason);
+    }
 }
 
 #[test]
 fn bytes_that_are_not_utf8_are_refused_as_syntax(rt: HostRuntime) {
-    assert_refused(&rt, rt.alloc(), b"\xff", "settings refused: 1 syntax\n");
+    assert_refused(&rt, b"\xff", "settings refused: 1 syntax\n");
 }
+
+const REFUSED_GROUPS: &str = r#"1 syntax
+service.groups = [
+
+2 no groups
+
+2 no groups
+service.groups = []
+
+2 no groups
+service.groups = ["a b", 1]
+
+3 bad name at 1
+service.groups = ["default"]
+
+3 bad name at 3
+service.groups = ["a", "a", "b c"]
+
+4 twice named at 2
+service.groups = ["a", "a"]
+
+4 twice named at 2
+service.groups = ["a", "a"]
+service.x = 1"#;
 
 #[test]
 fn settings_are_refused_in_order(rt: HostRuntime) {
-    let refused: [(&str, &str); 8] = [
-        ("service.groups = [", "1 syntax"),
-        ("", "2 no groups"),
-        ("service.groups = []", "2 no groups"),
-        ("service.groups = [\"a b\", 1]", "2 no groups"),
-        ("service.groups = [\"default\"]", "3 bad name at 1"),
-        (
-            "service.groups = [\"a\", \"a\", \"b c\"]",
-            "3 bad name at 3",
-        ),
-        ("service.groups = [\"a\", \"a\"]", "4 twice named at 2"),
-        (
-            "service.groups = [\"a\", \"a\"]\nservice.x = 1",
-            "4 twice named at 2",
-        ),
-    ];
-    for (settings, reason) in refused {
-        let text = format!(in rt.alloc(); "settings refused: {reason}\n").expect(&rt, "memory");
-        assert_refused(&rt, rt.alloc(), settings.as_bytes(), text.as_str());
-    }
+    assert_refusals(&rt, "", REFUSED_GROUPS);
 }
+
+const REFUSED_PROPERTIES: &str = r#"5 unknown service property
+service.x = 1
+
+5 unknown service property
+service.x = 1
+hystrix.threadpool.a.coreSize = "4"
+
+6 wrong type: a coreSize
+hystrix.threadpool.a.coreSize = "4"
+
+7 out of range: a coreSize
+hystrix.threadpool.a.coreSize = 65
+
+7 out of range: a execution.isolation.strategy
+hystrix.command.a.execution.isolation.strategy = "POOL"
+
+7 out of range: a service.auditSteps
+service.auditSteps = 0
+
+8 not a multiple: a
+hystrix.command.a.metrics.rollingStats.numBuckets = 3
+
+7 out of range: a service.auditSteps
+hystrix.command.a.metrics.rollingStats.numBuckets = 3
+service.auditSteps = 0"#;
 
 #[test]
 fn properties_are_refused_in_order(rt: HostRuntime) {
-    let refused: [(&str, &str); 8] = [
-        ("service.x = 1", "5 unknown service property"),
-        (
-            "service.x = 1\nhystrix.threadpool.a.coreSize = \"4\"",
-            "5 unknown service property",
-        ),
-        (
-            "hystrix.threadpool.a.coreSize = \"4\"",
-            "6 wrong type: a coreSize",
-        ),
-        (
-            "hystrix.threadpool.a.coreSize = 65",
-            "7 out of range: a coreSize",
-        ),
-        (
-            "hystrix.command.a.execution.isolation.strategy = \"POOL\"",
-            "7 out of range: a execution.isolation.strategy",
-        ),
-        (
-            "service.auditSteps = 0",
-            "7 out of range: a service.auditSteps",
-        ),
-        (
-            "hystrix.command.a.metrics.rollingStats.numBuckets = 3",
-            "8 not a multiple: a",
-        ),
-        (
-            "hystrix.command.a.metrics.rollingStats.numBuckets = 3\nservice.auditSteps = 0",
-            "7 out of range: a service.auditSteps",
-        ),
-    ];
-    for (settings, reason) in refused {
-        let settings = format!(in rt.alloc(); "service.groups = [\"a\"]\n{settings}\n").expect(
-            &rt, "memory",
-        );
-        let text = format!(in rt.alloc(); "settings refused: {reason}\n").expect(&rt, "memory");
-        assert_refused(&rt, rt.alloc(), settings.as_str().as_bytes(), text.as_str());
-    }
+    assert_refusals(&rt, "service.groups = [\"a\"]\n", REFUSED_PROPERTIES);
 }
 
 #[test]
 fn want_of_memory_is_a_fault(rt: HostRuntime) {
     let mut reported = Vec::new(rt.alloc());
     let status = report::settings(&mut reported, SettingsError::Memory);
-    assert_eq!(rt; status, 3);
-    assert_eq!(rt; reported.as_slice(), b"fault: memory\n".as_slice());
+    assert_end(&rt, status, 3);
+    assert_bytes(&rt, &reported, "fault: memory\n", "the errors");
 }
 
 #[test]
 fn every_property_of_every_group_is_shown(rt: HostRuntime) {
-    assert_check(
-        &rt,
+    assert_check(&rt, SHOWN_SETTINGS.as_bytes(), 0, SHOWN_LINES, "");
+}
+
+// Asserts that a check ends in a fault with a writer that takes so many bytes.
+fn assert_full<R: Abort + AllocGlobal>(rt: &R, room: usize, fails: bool) {
+    let mut writer = FullWriter { room, fails };
+    let mut reported = Vec::new(rt.alloc());
+    let status = check_file(
         rt.alloc(),
         SHOWN_SETTINGS.as_bytes(),
-        0,
-        SHOWN_LINES,
-        "",
+        &mut writer,
+        &mut reported,
     );
+    assert_end(rt, status, 3);
+    assert_bytes(rt, &reported, "fault: write\n", "the errors");
 }
 
 #[test]
 fn a_check_whose_writer_fails_or_takes_no_byte(rt: HostRuntime) {
-    for fails in [true, false] {
-        for room in [0, 10] {
-            let mut writer = FullWriter { room, fails };
-            let mut reported = Vec::new(rt.alloc());
-            let status = check_file(
-                rt.alloc(),
-                SHOWN_SETTINGS.as_bytes(),
-                &mut writer,
-                &mut reported,
-            );
-            assert_eq!(rt; status, 3);
-            assert_eq!(rt; reported.as_slice(), b"fault: write\n".as_slice());
-        }
-    }
+    assert_full(&rt, 0, true);
+    assert_full(&rt, 10, true);
+    assert_full(&rt, 0, false);
+    assert_full(&rt, 10, false);
 }
 
 // A writer that counts what it is asked.
@@ -244,6 +248,6 @@ fn a_check_is_one_write(rt: HostRuntime) {
         &mut writer,
         &mut reported,
     );
-    assert_eq!(rt; status, 0);
+    assert_end(&rt, status, 0);
     assert_eq!(rt; writer.writes, 1);
 }

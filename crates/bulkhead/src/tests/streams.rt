@@ -1,9 +1,11 @@
 //! Readers that give little at a time or fail, and writers that take little, fail or take none.
 
 use super::operations::{CACHE_INPUT, CACHE_OUTPUT, CACHE_SETTINGS};
+use super::{assert_bytes, assert_end};
 use crate::run::run_file;
 use std::io;
 use std::io::{ErrorKind, Read, Write};
+use std::process::Abort;
 
 // A reader that gives so many bytes at a time, and fails at a call where one is given.
 #[derive(Drop)]
@@ -62,57 +64,91 @@ fn feeds(bytes: &[u8]) -> usize {
     bytes.iter().filter(|byte| **byte == b'\n').count()
 }
 
-#[test]
-fn the_answers_to_one_piece_are_one_write(rt: HostRuntime) {
-    let mut reader: &[u8] = CACHE_INPUT.as_bytes();
-    let mut writer = PieceWriter {
-        written: Vec::new(rt.alloc()),
-        size: CACHE_OUTPUT.len(),
+// A reader of the script of the cache.
+fn pieces(size: usize, fails_at: Option<usize>) -> PieceReader<'static> {
+    PieceReader {
+        rest: CACHE_INPUT.as_bytes(),
+        size,
         calls: 0,
-        stuck_at: None,
-        fails: false,
-    };
+        fails_at,
+    }
+}
+
+fn writer<R: AllocGlobal>(
+    rt: &R,
+    size: usize,
+    stuck_at: Option<usize>,
+    fails: bool,
+) -> PieceWriter {
+    PieceWriter {
+        written: Vec::new(rt.alloc()),
+        size,
+        calls: 0,
+        stuck_at,
+        fails,
+    }
+}
+
+// Runs the script of the cache, and asserts how it ends.
+fn assert_piecewise<R: Abort + AllocGlobal>(
+    rt: &R,
+    reader: &mut PieceReader<'_>,
+    writer: &mut PieceWriter,
+    status: u8,
+    errors: &str,
+) {
     let mut reported = Vec::new(rt.alloc());
-    let status = run_file(
+    let answered = run_file(
         rt.alloc(),
         CACHE_SETTINGS.as_bytes(),
-        &mut reader,
-        &mut writer,
+        reader,
+        writer,
         &mut reported,
     );
-    assert_eq!(rt; status, 0);
+    assert_end(rt, answered, status);
+    assert_bytes(rt, &reported, errors, "the errors");
+}
+
+#[test]
+fn the_answers_to_one_piece_are_one_write(rt: HostRuntime) {
+    let mut reader = pieces(CACHE_INPUT.len(), None);
+    let mut writer = writer(&rt, CACHE_OUTPUT.len(), None, false);
+    assert_piecewise(&rt, &mut reader, &mut writer, 0, "");
     assert_eq!(rt; writer.calls, 1);
-    assert_eq!(rt; writer.written.as_slice(), CACHE_OUTPUT.as_bytes());
+    assert_bytes(&rt, &writer.written, CACHE_OUTPUT, "the output");
+}
+
+// Runs the script by pieces of such a size, and asserts that it is answered as ever.
+fn assert_pieces<R: Abort + AllocGlobal>(rt: &R, size: usize) {
+    let mut reader = pieces(size, None);
+    let mut writer = writer(rt, size, None, false);
+    assert_piecewise(rt, &mut reader, &mut writer, 0, "");
+    assert_bytes(rt, &writer.written, CACHE_OUTPUT, "the output");
 }
 
 #[test]
 fn pieces_of_any_length_give_the_same_bytes(rt: HostRuntime) {
     for size in 1..41 {
-        let mut reader = PieceReader {
-            rest: CACHE_INPUT.as_bytes(),
-            size,
-            calls: 0,
-            fails_at: None,
-        };
-        let mut writer = PieceWriter {
-            written: Vec::new(rt.alloc()),
-            size,
-            calls: 0,
-            stuck_at: None,
-            fails: false,
-        };
-        let mut reported = Vec::new(rt.alloc());
-        let status = run_file(
-            rt.alloc(),
-            CACHE_SETTINGS.as_bytes(),
-            &mut reader,
-            &mut writer,
-            &mut reported,
-        );
-        assert_eq!(rt; status, 0);
-        assert_eq!(rt; writer.written.as_slice(), CACHE_OUTPUT.as_bytes());
-        assert_eq!(rt; reported.as_slice(), b"".as_slice());
+        assert_pieces(&rt, size);
     }
+}
+
+// How many lines had come whole before the call of a reader of 40 bytes at a time.
+fn lines_before(call: usize) -> usize {
+    let given = CACHE_INPUT
+        .len()
+        .min(call.saturating_sub(1).saturating_mul(40));
+    feeds(&CACHE_INPUT.as_bytes()[..given])
+}
+
+// Asserts that the lines that had come whole were answered before the read that failed.
+fn assert_failed_read<R: Abort + AllocGlobal>(rt: &R, call: usize) {
+    let mut reader = pieces(40, Some(call));
+    let mut writer = writer(rt, CACHE_OUTPUT.len(), None, false);
+    assert_piecewise(rt, &mut reader, &mut writer, 3, "fault: read\n");
+    let written = writer.written.as_slice();
+    assert_eq!(rt; feeds(written), lines_before(call));
+    assert!(rt; CACHE_OUTPUT.as_bytes().starts_with(written));
 }
 
 #[test]
@@ -120,58 +156,24 @@ fn a_reader_that_fails_at_any_call(rt: HostRuntime) {
     // One for each piece of 40 bytes, and one that finds the end.
     let calls = CACHE_INPUT.len() / 40 + 2;
     for call in 1..calls + 1 {
-        let mut reader = PieceReader {
-            rest: CACHE_INPUT.as_bytes(),
-            size: 40,
-            calls: 0,
-            fails_at: Some(call),
-        };
-        let mut written = Vec::new(rt.alloc());
-        let mut reported = Vec::new(rt.alloc());
-        let status = run_file(
-            rt.alloc(),
-            CACHE_SETTINGS.as_bytes(),
-            &mut reader,
-            &mut written,
-            &mut reported,
-        );
-        assert_eq!(rt; status, 3);
-        assert_eq!(rt; reported.as_slice(), b"fault: read\n".as_slice());
-        // The lines that had come whole were answered before the read that failed.
-        let given = CACHE_INPUT.len().min(40 * (call - 1));
-        let lines = feeds(&CACHE_INPUT.as_bytes()[..given]);
-        assert_eq!(rt; feeds(written.as_slice()), lines);
-        assert!(rt; CACHE_OUTPUT.as_bytes().starts_with(written.as_slice()));
+        assert_failed_read(&rt, call);
     }
+}
+
+// Asserts that what was written before the call that failed or took nothing stays written.
+fn assert_stuck<R: Abort + AllocGlobal>(rt: &R, call: usize, fails: bool) {
+    let mut reader = pieces(CACHE_INPUT.len(), None);
+    let mut writer = writer(rt, 40, Some(call), fails);
+    assert_piecewise(rt, &mut reader, &mut writer, 3, "fault: write\n");
+    let written = writer.written.as_slice();
+    assert_eq!(rt; written.len(), call.saturating_sub(1).saturating_mul(40));
+    assert!(rt; CACHE_OUTPUT.as_bytes().starts_with(written));
 }
 
 #[test]
 fn a_writer_that_fails_or_takes_no_byte_at_any_call(rt: HostRuntime) {
-    for fails in [true, false] {
-        for call in 1..CACHE_OUTPUT.len() / 40 + 1 {
-            let mut reader: &[u8] = CACHE_INPUT.as_bytes();
-            let mut writer = PieceWriter {
-                written: Vec::new(rt.alloc()),
-                size: 40,
-                calls: 0,
-                stuck_at: Some(call),
-                fails,
-            };
-            let mut reported = Vec::new(rt.alloc());
-            let status = run_file(
-                rt.alloc(),
-                CACHE_SETTINGS.as_bytes(),
-                &mut reader,
-                &mut writer,
-                &mut reported,
-            );
-            assert_eq!(rt; status, 3);
-            assert_eq!(rt; reported.as_slice(), b"fault: write\n".as_slice());
-            let whole = 40 * (call - 1);
-            assert_eq!(rt;
-                writer.written.as_slice(),
-                &CACHE_OUTPUT.as_bytes()[..whole]
-            );
-        }
+    for call in 1..CACHE_OUTPUT.len() / 40 + 1 {
+        assert_stuck(&rt, call, true);
+        assert_stuck(&rt, call, false);
     }
 }
