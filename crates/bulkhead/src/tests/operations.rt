@@ -295,3 +295,25 @@ const FAILED_OUTPUT: &str = r#"{"reply":"queued","ticket":1}
 fn a_body_beside_a_failed_fallback_is_not_read(rt: HostRuntime) {
     assert_answers(&rt, ONE_GROUP, FAILED_INPUT, FAILED_OUTPUT);
 }
+
+// The same name twice, a nested member, many members, numbers of other forms, and escapes.
+const SHAPES_INPUT: &str = r#"{"op":"submit","group":"a","now":0,"arg":"one","arg":"two"}
+{"more":[{"op":"read"}],"op":"start","group":"a","now":1}
+{"p":1,"q":2,"r":3,"s":4,"t":5,"op":"submit","group":"a","now":2,"arg":"three"}
+{"n":-1.5e3,"op":"start","group":"a","now":3}
+{ "op" : "st\u0061rt", "group" : "\u0061", "now" : 4, "n" : null, "m" : true }
+{"op":"submit","arg":"four","now":18446744073709551615,"now":5,"group":"b","group":"a","m":{}}
+"#;
+
+const SHAPES_OUTPUT: &str = r#"{"reply":"queued","ticket":1}
+{"arg":"two","reply":"assigned","ticket":1}
+{"reply":"queued","ticket":2}
+{"arg":"three","reply":"assigned","ticket":2}
+{"reply":"idle"}
+{"reply":"queued","ticket":3}
+"#;
+
+#[test]
+fn members_are_read_in_any_shape(rt: HostRuntime) {
+    assert_answers(&rt, ONE_GROUP, SHAPES_INPUT, SHAPES_OUTPUT);
+}
