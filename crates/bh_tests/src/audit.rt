@@ -185,12 +185,19 @@ const PLACES: &str = "0 = Some(1) Idle
 2 = None NoGroup
 ";
 
+/// The length of the first journal, where there is one.
+fn first_length(book: Book) -> Option<u64> {
+    let (_, journals) = book.into_parts();
+    match journals.get(0) {
+        Some(journal) => Some(journal.len()),
+        None => None,
+    }
+}
+
 fn assert_book<R: Abort + AllocGlobal>(rt: &R, audited: bool, journal: Option<u64>) {
     let mut book = book(rt.alloc(), audited).expect(rt, "memory");
     assert_places(rt, &mut book, PLACES);
-    let (_, journals) = book.into_parts();
-    let first = journals.get(0).map(|journal| journal.len());
-    assert_eq!(rt; first, journal);
+    assert!(rt; first_length(book) == journal);
 }
 
 #[test]
@@ -278,7 +285,7 @@ fn groups_and_their_workers(rt: HostRuntime) {
     let text = workers_text(&rt, rt.alloc(), &shared);
     assert_text(&rt, text, "2 groups: 10 0 0", "the workers");
     let missing = shared.pass(rt.alloc(), GroupId(2), 1).err();
-    assert_eq!(rt; missing, Some(PassError::NoGroup));
+    assert!(rt; missing == Some(PassError::NoGroup));
 }
 
 const REFUSED: &str = "0 1 0 start = OtherGroup

@@ -1,7 +1,7 @@
 //! Passes that agree with a report, and the first difference of those that do not.
 
 use crate::samples;
-use crate::script::{assert_text, number, split_line, split_word};
+use crate::script::{assert_number, assert_text, number, split_line, split_word};
 use bh_base::{GroupId, Op, Reply, Step};
 use bh_journal::{AuditReport, Difference, Journal, Pass, Receipt, first_difference};
 use std::alloc::{AllocError, Global};
@@ -151,12 +151,12 @@ fn marks_are_held_to_the_report(rt: HostRuntime) {
 }
 
 fn assert_kept<R: Abort>(rt: &R, journal: Journal) {
-    assert_eq!(rt; journal.len(), 1);
-    assert_eq!(rt; journal.room_left(), 1);
-    assert_eq!(rt; journal.get(0), Some(entry(0, 10)));
-    assert_eq!(rt; journal.get(1), None);
+    assert_number(rt, journal.len(), 1);
+    assert_number(rt, journal.room_left(), 1);
+    assert!(rt; journal.get(0) == Some(entry(0, 10)));
+    assert!(rt; journal.get(1).is_none());
     let entries = journal.into_entries();
-    assert_eq!(rt; entries.as_slice(), [entry(0, 10)].as_slice());
+    assert!(rt; entries.as_slice() == [entry(0, 10)].as_slice());
 }
 
 #[test]

@@ -1,7 +1,9 @@
 //! The request cache.
 
+use crate::script::assert_number;
 use bh_base::{Text, Ticket, TicketState};
 use bh_cache::{drop_context, find};
+use std::process::Abort;
 
 /// A queued ticket of that name, which further requests may join.
 fn cached(serial: u64, context: u64, key: &str) -> Option<Ticket> {
@@ -30,18 +32,23 @@ fn tickets() -> Option<[Ticket; 4]> {
     ])
 }
 
-/// The place of the ticket of the context and the key `k`.
-fn find_in(tickets: &[Ticket], context: u64) -> Option<usize> {
-    let key = Text::new("k").ok()?;
-    find(tickets, context, &key)
+/// Asserts the place of the ticket of the context and the key `k`.
+fn assert_place<R: Abort>(rt: &R, tickets: &[Ticket], context: u64, want: Option<usize>) {
+    let key = Text::new("k").expect(rt, "a short text");
+    assert_eq!(rt; find(tickets, context, &key), want);
+}
+
+/// Asserts how many tickets the context leaves when it ends.
+fn assert_dropped<R: Abort>(rt: &R, tickets: &mut [Ticket], context: u64, want: u64) {
+    assert_number(rt, drop_context(tickets, context), want);
 }
 
 #[test]
 fn a_context_ends_for_all_its_keys_and_no_other(rt: HostRuntime) {
     let mut tickets = tickets().expect(&rt, "short texts");
-    assert_eq!(rt; find_in(&tickets, 7), Some(2));
-    assert_eq!(rt; drop_context(&mut tickets, 7), 3);
-    assert_eq!(rt; find_in(&tickets, 7), None);
-    assert_eq!(rt; find_in(&tickets, 8), Some(0));
-    assert_eq!(rt; drop_context(&mut tickets, 7), 0);
+    assert_place(&rt, &tickets, 7, Some(2));
+    assert_dropped(&rt, &mut tickets, 7, 3);
+    assert_place(&rt, &tickets, 7, None);
+    assert_place(&rt, &tickets, 8, Some(0));
+    assert_dropped(&rt, &mut tickets, 7, 0);
 }

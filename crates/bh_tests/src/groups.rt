@@ -3,8 +3,8 @@
 ghost use Rattle.std.specs.Prelude.{◌≤◌, length};
 
 use crate::samples::{props, step, submit, text};
-use crate::script::play;
-use bh_base::{GroupId, Op, Reply, Step};
+use crate::script::{assert_number, play};
+use bh_base::{GroupId, GroupProps, Op, Reply, Step};
 use bh_core::{Core, RegisterError};
 use std::process::Abort;
 
@@ -53,7 +53,7 @@ fn assert_same(rt: &impl Abort, core: &mut Core, step: &Step, reply: &Reply) {
 }
 
 fn assert_replies(rt: &impl Abort, core: &mut Core, steps: &[Step], replies: &[Reply]) {
-    assert_eq!(rt; replies.len(), 8);
+    assert_number(rt, replies.len() as u64, 8);
     for (step, reply) in steps.iter().zip(replies.iter()) {
         assert_same(rt, core, step, reply);
     }
@@ -75,11 +75,10 @@ fn unregistered_group_is_no_group(rt: HostRuntime) {
 #[test]
 fn second_group_has_no_slots(rt: HostRuntime) {
     let mut core = Core::new(rt.alloc(), 100);
-    assert_eq!(rt; core.register(props(), 1024), Ok(GroupId(0)));
-    assert_eq!(rt;
-        core.register(props(), 1024),
-        Err(RegisterError::TooManySlots)
-    );
+    let first = core.register(props(), 1024);
+    assert!(rt; first == Ok(GroupId(0)));
+    let second = core.register(props(), 1024);
+    assert!(rt; second == Err(RegisterError::TooManySlots));
     play(&rt, &mut core, "0 0 start = Idle");
 }
 
@@ -121,11 +120,16 @@ pending 0 1 = 0
 worn 0 = 0
 ";
 
+/// The settings and the step limit of the first group.
+fn shown_in(core: &Core) -> Option<(GroupProps, u64)> {
+    let (shown, limit) = core.props(GroupId(0))?;
+    Some((*shown, limit))
+}
+
 #[test]
 fn looks_say_what_a_step_is_answered(rt: HostRuntime) {
     let mut core = core_of_one(&rt, 5);
-    let shown = core.props(GroupId(0)).map(|(shown, limit)| (*shown, limit));
-    assert_eq!(rt; shown, Some((props(), 5)));
+    assert!(rt; shown_in(&core) == Some((props(), 5)));
     play(&rt, &mut core, LOOKS);
     core.apply(step(0, 1000, &Op::Read));
     play(&rt, &mut core, "worn 0 = 1");

@@ -118,6 +118,11 @@ pub(crate) fn assert_text<R: Abort>(
     assert_eq!(rt; told.as_str(), want, "at {at}");
 }
 
+/// Asserts that the numbers are the same.
+pub(crate) fn assert_number<R: Abort>(rt: &R, told: u64, want: u64) {
+    assert_eq!(rt; told, want);
+}
+
 /// Asserts what the core answers to each line.
 pub(crate) fn play(rt: &(impl Abort + AllocGlobal), core: &mut Core, script: &str) {
     for line in script.lines() {

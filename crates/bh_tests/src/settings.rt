@@ -1,6 +1,6 @@
 //! Whole files: what is shown of them, and why they are refused.
 
-use crate::script::{assert_text, split_word};
+use crate::script::{assert_number, assert_text, split_word};
 use bh_props::{SettingsError, read};
 use std::alloc::{AllocError, Global};
 use std::process::Abort;
@@ -78,8 +78,8 @@ fn every_value_of_the_example(rt: HostRuntime) {
 #[test]
 fn refused_memory(rt: HostRuntime) {
     match read(rt.alloc(), EXAMPLE) {
-        Ok(settings) => assert_eq!(rt; settings.groups.len(), 2),
-        Err(error) => assert_eq!(rt; error, SettingsError::Memory),
+        Ok(settings) => assert_number(&rt, settings.groups.len() as u64, 2),
+        Err(error) => assert!(rt; error == SettingsError::Memory),
     }
 }
 
@@ -210,7 +210,7 @@ metrics.rollingStats = 0"#;
 
 fn assert_one_group(rt: &(impl Abort + AllocGlobal), file: &str) {
     match read(rt.alloc(), file) {
-        Ok(settings) => assert_eq!(rt; settings.groups.len(), 1),
+        Ok(settings) => assert_number(rt, settings.groups.len() as u64, 1),
         Err(error) => assert!(rt; false, "{file}: {error}"),
     }
 }

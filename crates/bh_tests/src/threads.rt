@@ -1,6 +1,7 @@
 //! Threads that wait for one another. Each gate gives up after many turns, and then its test fails.
 
 use crate::samples::props;
+use crate::script::assert_number;
 use crate::services::{
     A, B, Steady, Still, add, assert_agreed, assert_drive, requests, service, share, success,
     two_groups,
@@ -232,7 +233,7 @@ fn are_mixed(well: bool, own: &[Result<Answer, CallError>]) -> bool {
 }
 
 fn assert_mixed<R: Abort>(rt: &R, driven: &Driven) {
-    assert_eq!(rt; driven.answers.len(), 8);
+    assert_number(rt, driven.answers.len() as u64, 8);
     for (number, own) in driven.answers.iter().enumerate() {
         assert!(rt; are_mixed(number % 4 != 0, own.as_slice()), "list {number}");
     }
@@ -256,7 +257,7 @@ fn drive_mixed<R: Threads + Wait + Sync + Abort + AllocGlobal>(rt: &R, shared: &
 /// Asserts that each group but the first did all steps of its calls.
 fn assert_journals<R: Abort>(rt: &R, report: &AuditReport) {
     for journal in report.journals.iter().skip(1) {
-        assert_eq!(rt; journal.len(), 400);
+        assert_number(rt, journal.len() as u64, 400);
     }
 }
 

@@ -1,6 +1,7 @@
 //! Calls and drives: what they answer that no clause speaks of, and that a right run's account is agreed with.
 
 use crate::samples::{props, step, text};
+use crate::script::assert_number;
 use crate::services::{
     A, B, Echo, Steady, Still, assert_call, assert_drive, assert_end, lists, service, success,
     three_groups,
@@ -17,7 +18,7 @@ fn drive_answers_two_lists(rt: HostRuntime) {
     let shared = service(&rt, props(), props(), 100);
     let passes = assert_drive(&rt, &shared, &Echo, &Still, "0 x\n1 y", "x\ny\n");
     // Two callers, ten workers of each group, and the timer's pass of each.
-    assert_eq!(rt; passes.len(), 24);
+    assert_number(&rt, passes.len() as u64, 24);
     assert_end(&rt, shared, passes, "4 of 100, 4 of 100, stopped");
 }
 
@@ -45,8 +46,8 @@ fn pass<R: Abort + AllocGlobal>(rt: &R, shared: &Shared, group: GroupId, room: u
 }
 
 fn assert_no_receipt<R: Abort>(rt: &R, pass: &Pass, room: u64) {
-    assert_eq!(rt; pass.room_left(), room);
-    assert_eq!(rt; pass.receipts().len(), 0);
+    assert_number(rt, pass.room_left(), room);
+    assert!(rt; pass.receipts().is_empty());
 }
 
 #[test]
