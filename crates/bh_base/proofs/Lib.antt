@@ -8,6 +8,7 @@ mod RowsCache
 mod RowsFallback
 pub mod Windows
 pub mod Tables
+pub mod LaterTables
 pub mod Kept
 pub mod Views
 pub mod Rising

@@ -1,0 +1,3 @@
+pub mod RingView
+pub mod Buckets
+pub mod Inside

@@ -1,0 +1,8 @@
+//! Rolling counts of events: the buckets of one window, which are used again as time goes on, so that what no window looks
+//! at any more takes no room (Hystrix wiki, "Configuration", `metrics.rollingStats`).
+#![tactic(auto)]
+
+mod counts;
+pub mod ring;
+
+pub use ring::Ring;

@@ -1,0 +1,159 @@
+//! A ring of buckets.
+
+ghost use Rattle.std.specs.Prelude.{◌≡◌, ℕ, ◌+◌, ◌<◌, ◌≤◌, ◌^◌, List, [], ◌∷◌, ◌++◌, IfOk, map};
+ghost use Rattle.bh_base.specs.declared.event.Event.{Event};
+ghost use Rattle.bh_base.specs.declared.event.EventKind.{EventKind};
+ghost use Rattle.bh_base.specs.History.{count, count_in, counts_by};
+ghost use Rattle.std.specs.List.{range_with_len};
+ghost use Rattle.bh_rolling.specs.Buckets.{cleared, fresh, renewed, within, within_count};
+ghost use Rattle.bh_rolling.specs.RingView.{IsTableOf, empty_ring, ring_count, ring_recorded};
+
+use crate::counts::{add, count_in, no_counts, raise};
+use bh_base::{Counts, EventKind, Moment, Window};
+use std::alloc::{AllocError, Global};
+use std::marker::Model;
+
+/// The events of one bucket of the window, which is the one of this number: its moments divided by the width.
+#[derive(Clone, Copy, Debug)]
+struct Bucket {
+    number: u64,
+    counts: Counts,
+}
+
+/// The counts of the events in one rolling window.
+///
+/// A bucket's place is its number modulo the number of buckets. Whoever records an event in a bucket of a later number at
+/// that place begins it anew, so a step costs the same however long it was since the one before.
+#[derive(Drop)]
+pub struct Ring {
+    window: Window,
+    latest: Moment,
+    buckets: Vec<Bucket>,
+}
+
+impl Model for Ring {
+    ghost use Rattle.bh_rolling.specs.RingView.{RingView};
+    ghost use Rattle.bh_rolling.specs.Inside.{ring_view, IsRing};
+
+    ghost Value = { RingView };
+
+    ghost view = { ring_view };
+
+    ghost invariant = { IsRing };
+}
+
+impl Ring {
+    /// A ring of so many buckets, each of so many milliseconds, without events. The error comes where memory for the
+    /// buckets was refused.
+    pub fn new(alloc: Global, buckets: u64, width: u64) -> Result<Ring, AllocError>
+        requires buckets { 0 < buckets }
+        requires width { 0 < width }
+        ensures empty { IfOk result (λ ring. ring ≡ empty_ring (record { buckets = buckets; width = width })) }
+        ensures events { IfOk result (λ ring. IsTableOf ring []) }
+    {
+        Ok(Ring {
+            window: Window { buckets, width },
+            latest: 0,
+            buckets: new_buckets(alloc, buckets)?,
+        })
+    }
+
+    /// Records an event of the kind at the moment, which is no earlier than any recorded before.
+    ///
+    /// The window at that moment has fewer than 2^60 events of the kind, as it has wherever fewer were recorded at all.
+    pub fn record(&mut self, now: Moment, kind: EventKind)
+        requires later { self.old.latest ≤ now }
+        requires few { ring_count self.old now kind < 2 ^ 60 }
+        ensures recorded { self.new ≡ ring_recorded now kind self.old }
+        ensures events { (events : List Event) → IsTableOf self.old events → IsTableOf self.new (events ++ record { moment = now; kind = kind } ∷ []) }
+    {
+        let number = now / self.window.width;
+        let place = (number % self.window.buckets) as usize;
+        let bucket = &mut self.buckets[place];
+        renew(bucket, number);
+        raise(&mut bucket.counts, kind);
+        self.latest = now;
+    }
+
+    /// How many events of each kind lie in the window at the moment, which is no earlier than any recorded.
+    pub fn counts(&self, now: Moment) -> Counts
+        requires { self.now.latest ≤ now }
+        ensures counts { result ≡ counts_by (ring_count self.now now) }
+        ensures bound { (k : EventKind) → count_in result k ≤ 2 ^ 60 }
+    {
+        sum_within(&self.buckets, self.window.buckets, now / self.window.width)
+    }
+
+    /// How many events of the kind lie in the window at the moment, which is no earlier than any recorded.
+    pub fn sum(&self, now: Moment, kind: EventKind) -> u64
+        requires { self.now.latest ≤ now }
+        ensures count { result ≡ ring_count self.now now kind }
+        ensures events { (events : List Event) → IsTableOf self.now events → result ≡ count self.now.window events now kind }
+    {
+        count_in(&self.counts(now), kind)
+    }
+
+    /// Forgets every event.
+    pub fn clear(&mut self)
+        ensures empty { self.new ≡ empty_ring self.old.window }
+        ensures events { IsTableOf self.new [] }
+    {
+        clear_buckets(&mut self.buckets);
+        self.latest = 0;
+    }
+}
+
+// Empty buckets, the first so many by their numbers.
+fn new_buckets(alloc: Global, count: u64) -> Result<Vec<Bucket>, AllocError>
+    ensures { IfOk result (λ buckets. buckets.items ≡ map fresh (range_with_len 0 count)) }
+{
+    let mut buckets = Vec::with_capacity(alloc, count as usize)?;
+    for number in 0..count {
+        buckets.push(Bucket {
+            number,
+            counts: no_counts(),
+        })?;
+    }
+    Ok(buckets)
+}
+
+// Makes the bucket the one of the number: one that had another number is empty from now on.
+fn renew(bucket: &mut Bucket, number: u64)
+    ensures { bucket.new ≡ renewed number bucket.old }
+{
+    if bucket.number != number {
+        bucket.number = number;
+        bucket.counts = no_counts();
+    }
+}
+
+// No bucket has an event any more.
+fn clear_buckets(buckets: &mut [Bucket])
+    ensures { buckets.new ≡ map cleared buckets.old }
+{
+    for bucket in buckets.iter_mut() {
+        bucket.counts = no_counts();
+    }
+}
+
+// Adds what the bucket has, where it has one of the `count` numbers up to `last`.
+fn add_within(sums: &mut Counts, bucket: &Bucket, count: u64, last: u64)
+    requires { (k : EventKind) → count_in sums.old k + within count last k bucket.now < 2 ^ 64 }
+    ensures { sums.new ≡ counts_by (λ k. count_in sums.old k + within count last k bucket.now) }
+{
+    if bucket.number <= last && last - bucket.number < count {
+        add(sums, &bucket.counts);
+    }
+}
+
+// The sums over the buckets that have one of the `count` numbers up to `last`.
+fn sum_within(buckets: &[Bucket], count: u64, last: u64) -> Counts
+    requires { (k : EventKind) → within_count count last k buckets.now ≤ 2 ^ 60 }
+    ensures { result ≡ counts_by (λ k. within_count count last k buckets.now) }
+{
+    let mut sums = no_counts();
+    for bucket in buckets {
+        add_within(&mut sums, bucket, count, last);
+    }
+    sums
+}
