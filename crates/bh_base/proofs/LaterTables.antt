@@ -5,7 +5,7 @@ use Rattle.std.specs.Prelude.{◌==◌, nat_lt, count_by, sum_by, if◌then◌el
 use Rattle.std.specs.List.{range_with_len}
 use Rattle.std.proofs.lemmas.Bool.Decides.{nat_tests}
 use Rattle.std.proofs.lemmas.List.FromFn.{sum_by-map-range_with_len_more, take-map-range_with_len, get_or-map-range_with_len}
-use Rattle.std.proofs.lemmas.List.Sums.{sum_by-cons, sum_by-take-le, sum_by-append}
+use Rattle.std.proofs.lemmas.List.Sums.{sum_by-cons, sum_by-take-le}
 use Rattle.bh_base.specs.declared.event.EventKind.{EventKind}
 use Rattle.bh_base.specs.declared.event.Counts.{Counts}
 use Rattle.bh_base.specs.declared.event.Window.{Window}
@@ -24,7 +24,7 @@ sum_by-take_more f d none (x ∷ xs) zero = omega (arith, sum_by-cons f x [])
 sum_by-take_more f d none (x ∷ xs) (suc i) =
     let before = rw add-one at (sum_by-take_more f d none xs i) in
     let grown : sum_by f (x ∷ take (suc i) xs) ≡ sum_by f (x ∷ take i xs) + f (get_or xs i d) =
-        omega (arith, before, sum_by-cons f x (take (suc i) xs), sum_by-cons f x (take i xs)) in
+    omega (arith, before, sum_by-cons f x (take (suc i) xs), sum_by-cons f x (take i xs)) in
     rw add-one grown
 
 -- the number that the new events of a kind are, in the first n buckets
@@ -132,6 +132,7 @@ later_table-later w latest between moment rows kinds early late =
             ap (λ c. count_in c k) (get_or-map-range_with_len row 0 w.buckets (age - second) (age - second) no_counts (omega arith) (omega arith))
             ∙ count_in-counts_by (λ l. row_at rows first (age - second) l + new_at [] (age - second) l) k
             ∙ none_more (row_at rows first (age - second) k) (new_at [] (age - second) k) (none_new (age - second == 0))
+
 -- a later window has no more of the events that are there
 pub sum_in-le : (w : Window) (latest moment : ℕ) (rows : List Counts) (k : EventKind) → sum_in w latest rows moment k ≤ sum_in w latest rows latest k
 sum_in-le w latest moment rows k =

@@ -15,4 +15,4 @@ pub mod Rising
 pub mod Answering
 pub mod Refusing
 pub mod Bounded
-pub mod Opened
+pub mod Few

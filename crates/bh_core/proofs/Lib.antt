@@ -1,4 +1,5 @@
-pub mod Dated
+pub mod Counting
+pub mod Histories
 pub mod Places
 pub mod Ops
 pub mod Timeouts

@@ -1,11 +1,10 @@
 -- One group of many makes a step.
 use Rattle.std.proofs.Common.{◌≡◌, ◌≢◌, ℕ, ◌<◌, ◌≤◌, Bool, true, false, List, [], ◌∷◌, ◌++◌, length, get_or, Option, Some, None, refl, ◌∙◌, sym, ap, arith, zero, suc}
-use Rattle.std.specs.Prelude.{slice_get, sum_by, if◌then◌else◌}
-use Rattle.std.specs.Option.{option_map}
+use Rattle.std.specs.Prelude.{slice_get, if◌then◌else◌}
 use Rattle.std.proofs.Math.ListN.{set}
-use Rattle.std.proofs.lemmas.List.{map-append, map-set, length-set, get_or-set_same}
-use Rattle.std.proofs.lemmas.List.Sums.{sum_by-set, sum_by-cons}
-use Rattle.std.proofs.lemmas.Option.{slice_get-map, slice_get_read, slice_get_past}
+use Rattle.std.proofs.lemmas.List.{length-set, get_or-set_same}
+use Rattle.std.proofs.lemmas.List.Sums.{sum_by-set}
+use Rattle.std.proofs.lemmas.Option.{slice_get_read, slice_get_past}
 use Rattle.bh_base.specs.declared.props.GroupProps.{GroupProps}
 use Rattle.bh_base.specs.declared.reply.Reply.{Reply}
 use Rattle.bh_base.specs.declared.step.Op.{Op}
@@ -13,39 +12,34 @@ use Rattle.bh_base.specs.Runs.{State, View, IsSound, view, step, begun, is_worn}
 use Rattle.bh_base.specs.Seen.{view_after, view_outcome, view_recorded, view_reply}
 use Rattle.bh_base.proofs.Kept.{Keeps, outcome_keeps}
 use Rattle.bh_base.proofs.Views.{after_seen, reply_seen}
-use Rattle.bh_core.specs.Desk.{Desk}
 use Rattle.bh_core.specs.Groups.{slots_in}
-use Rattle.bh_core.specs.Views.{views_of}
 
-abbrev view_in : Desk → View
-view_in d = d.view
-
-pub view_at : (ds : List Desk) (i : ℕ) (d : Desk) → i < length ds → d ≡ get_or ds i d → slice_get (views_of ds) i ≡ Some d.view
-view_at ds i d inside is = slice_get-map view_in ds i ∙ ap (option_map view_in) (slice_get_read ds (length ds) i d refl inside is)
+pub view_at : (ds : List View) (i : ℕ) (d : View) → i < length ds → d ≡ get_or ds i d → slice_get ds i ≡ Some d
+view_at ds i d inside is = slice_get_read ds (length ds) i d refl inside is
 
 pub one_view : (o : Option View) (a b : View) → o ≡ Some a → o ≡ Some b → a ≡ b
 one_view o a b p q = cc
 
 -- the group's reply is that of every state that it may be in
-pub step_reply : (ds : List Desk) (i : ℕ) (d : Desk) (s : State) (o : Op) (now : ℕ) (r : Reply) → i < length ds → d ≡ get_or ds i d → r ≡ view_reply d.view o now → IsSound s → slice_get (views_of ds) i ≡ Some (view s) → r ≡ (step s o now).reply
+pub step_reply : (ds : List View) (i : ℕ) (d : View) (s : State) (o : Op) (now : ℕ) (r : Reply) → i < length ds → d ≡ get_or ds i d → r ≡ view_reply d o now → IsSound s → slice_get ds i ≡ Some (view s) → r ≡ (step s o now).reply
 step_reply ds i d s o now r inside is said sound shown =
     said ∙ ap (λ v. view_reply v o now) (one_view _ _ _ (view_at ds i d inside is) shown) ∙ sym (reply_seen s o now sound)
 
-set_read : (ds : List Desk) (i : ℕ) (d : Desk) → i < length ds → d ≡ get_or (set ds i d) i d
+set_read : (ds : List View) (i : ℕ) (d : View) → i < length ds → d ≡ get_or (set ds i d) i d
 set_read ds i d inside = sym (get_or-set_same ds i d d inside)
 
 -- and it shows that state's successor then
-pub step_view : (ds : List Desk) (i : ℕ) (d e : Desk) (s : State) (o : Op) (now : ℕ) → i < length ds → d ≡ get_or ds i d → e.view ≡ view_after d.view o now → IsSound s → slice_get (views_of ds) i ≡ Some (view s) → slice_get (views_of (set ds i e)) i ≡ Some (view (step s o now).state)
+pub step_view : (ds : List View) (i : ℕ) (d e : View) (s : State) (o : Op) (now : ℕ) → i < length ds → d ≡ get_or ds i d → e ≡ view_after d o now → IsSound s → slice_get ds i ≡ Some (view s) → slice_get (set ds i e) i ≡ Some (view (step s o now).state)
 step_view ds i d e s o now inside is did sound shown =
     let longer : i < length (set ds i e) = omega (arith, length-set ds i e) in
     view_at (set ds i e) i e longer (set_read ds i e inside)
     ∙ ap Some (did ∙ ap (λ v. view_after v o now) (one_view _ _ _ (view_at ds i d inside is) shown) ∙ sym (after_seen s o now sound))
 
 -- by the view alone
-pub seen_reply : (ds : List Desk) (i : ℕ) (d : Desk) (v : View) (o : Op) (now : ℕ) (r : Reply) → i < length ds → d ≡ get_or ds i d → r ≡ view_reply d.view o now → slice_get (views_of ds) i ≡ Some v → r ≡ view_reply v o now
+pub seen_reply : (ds : List View) (i : ℕ) (d : View) (v : View) (o : Op) (now : ℕ) (r : Reply) → i < length ds → d ≡ get_or ds i d → r ≡ view_reply d o now → slice_get ds i ≡ Some v → r ≡ view_reply v o now
 seen_reply ds i d v o now r inside is said shown = said ∙ ap (λ u. view_reply u o now) (one_view _ _ _ (view_at ds i d inside is) shown)
 
-pub seen_view : (ds : List Desk) (i : ℕ) (d e : Desk) (v : View) (o : Op) (now : ℕ) → i < length ds → d ≡ get_or ds i d → e.view ≡ view_after d.view o now → slice_get (views_of ds) i ≡ Some v → slice_get (views_of (set ds i e)) i ≡ Some (view_after v o now)
+pub seen_view : (ds : List View) (i : ℕ) (d e : View) (v : View) (o : Op) (now : ℕ) → i < length ds → d ≡ get_or ds i d → e ≡ view_after d o now → slice_get ds i ≡ Some v → slice_get (set ds i e) i ≡ Some (view_after v o now)
 seen_view ds i d e v o now inside is did shown =
     let longer : i < length (set ds i e) = omega (arith, length-set ds i e) in
     view_at (set ds i e) i e longer (set_read ds i e inside)
@@ -59,15 +53,15 @@ slice_get-set_other (y ∷ ys) (suc i) x zero differ = refl
 slice_get-set_other (y ∷ ys) (suc i) x (suc j) differ = slice_get-set_other ys i x j (λ e. differ (ap suc e))
 
 -- the other groups show what they showed
-pub step_others : (ds : List Desk) (i : ℕ) (d : Desk) (j : ℕ) → j ≢ i → slice_get (views_of (set ds i d)) j ≡ slice_get (views_of ds) j
-step_others ds i d j differ = ap (λ vs. slice_get vs j) (map-set view_in ds i d) ∙ slice_get-set_other (views_of ds) i d.view j differ
+pub step_others : (ds : List View) (i : ℕ) (d : View) (j : ℕ) → j ≢ i → slice_get (set ds i d) j ≡ slice_get ds j
+step_others ds i d j differ = slice_get-set_other ds i d j differ
 
-pub known : (ds : List Desk) (i : ℕ) (d : Desk) → i < length ds → d ≡ get_or ds i d → slice_get (views_of ds) i ≡ None → ⊥
+pub known : (ds : List View) (i : ℕ) (d : View) → i < length ds → d ≡ get_or ds i d → slice_get ds i ≡ None → ⊥
 known ds i d inside is none = let e = view_at ds i d inside is in cc
 
 -- behind the last group there is none
-pub past_last : (ds : List Desk) (i : ℕ) (v : View) → length ds ≤ i → slice_get (views_of ds) i ≡ Some v → ⊥
-past_last ds i v past is = let e : slice_get (views_of ds) i ≡ None = slice_get-map view_in ds i ∙ ap (option_map view_in) (slice_get_past ds i past) in cc
+pub past_last : (ds : List View) (i : ℕ) (v : View) → length ds ≤ i → slice_get ds i ≡ Some v → ⊥
+past_last ds i v past is = let e : slice_get ds i ≡ None = slice_get_past ds i past in cc
 
 -- no step changes the properties
 after_props : (v : View) (o : Op) (now : ℕ) → (view_after v o now).present.props ≡ v.present.props
@@ -81,20 +75,16 @@ after_props v o now = at (is_worn v.present)
     at false = keeps.props
 
 -- with one more group behind the others
-pub views-push : (ds es : List Desk) (d : Desk) (v : View) (b : Bool) → b ≡ true → es ≡ (if b then ds ++ d ∷ [] else ds) → d.view ≡ v → views_of es ≡ views_of ds ++ v ∷ []
+pub views-push : (ds es : List View) (d : View) (v : View) (b : Bool) → b ≡ true → es ≡ (if b then ds ++ d ∷ [] else ds) → d ≡ v → es ≡ ds ++ v ∷ []
 views-push ds es d v b pushed e is =
-    ap views_of (e ∙ ap (λ c. if c then ds ++ d ∷ [] else ds) pushed) ∙ map-append view_in ds (d ∷ []) ∙ ap (λ w. views_of ds ++ w ∷ []) is
+    e ∙ ap (λ c. if c then ds ++ d ∷ [] else ds) pushed ∙ ap (λ w. ds ++ w ∷ []) is
 
-abbrev slots_of : Desk → ℕ
-slots_of d = d.view.present.props.slots
-
-pub slots-views : (ds : List Desk) → slots_in (views_of ds) ≡ sum_by slots_of ds
-slots-views [] = refl
-slots-views (d ∷ ds) = omega (arith, slots-views ds, sum_by-cons slots_of d ds, sum_by-cons (λ (v : View). v.present.props.slots) d.view (views_of ds))
+abbrev slots_of : View → ℕ
+slots_of d = d.present.props.slots
 
 -- so the slots stay in number
-pub step_slots : (ds : List Desk) (i : ℕ) (d e : Desk) (o : Op) (now : ℕ) → i < length ds → d ≡ get_or ds i d → e.view ≡ view_after d.view o now → slots_in (views_of (set ds i e)) ≡ slots_in (views_of ds)
+pub step_slots : (ds : List View) (i : ℕ) (d e : View) (o : Op) (now : ℕ) → i < length ds → d ≡ get_or ds i d → e ≡ view_after d o now → slots_in (set ds i e) ≡ slots_in ds
 step_slots ds i d e o now inside is did =
-    let kept : slots_of e ≡ slots_of d = ap (λ (v : View). v.present.props.slots) did ∙ ap (λ (p : GroupProps). p.slots) (after_props d.view o now) in
+    let kept : slots_of e ≡ slots_of d = ap (λ (v : View). v.present.props.slots) did ∙ ap (λ (p : GroupProps). p.slots) (after_props d o now) in
     let read : slots_of d ≡ slots_of (get_or ds i d) = ap slots_of is in
-    omega (arith, slots-views (set ds i e), slots-views ds, sum_by-set slots_of ds i e d inside, kept, read)
+    omega (arith, sum_by-set slots_of ds i e d inside, kept, read)

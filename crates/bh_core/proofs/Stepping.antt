@@ -13,7 +13,7 @@ use Rattle.bh_base.specs.Runs.{View, begun, released, is_worn}
 use Rattle.bh_base.specs.Seen.{view_rolling, view_outcome, view_recorded, view_after}
 use Rattle.bh_base.proofs.Tables.{later_table-again}
 use Rattle.bh_base.proofs.Kept.{Keeps, outcome_keeps}
-use Rattle.bh_core.specs.Desk.{Begins, outcome_now, done, with_event, with_events}
+use Rattle.bh_core.specs.Stepping.{Begins, outcome_now, done, with_event, with_events}
 
 -- the table with events added one by one
 table-with_events : (v : View) (latest : ℕ) (rows : List Counts) (kinds more : List EventKind) → v.table ≡ later_table (window_of v.present.props) latest rows v.present.latest kinds → (with_events more v).table ≡ later_table (window_of v.present.props) latest rows v.present.latest (kinds ++ more)

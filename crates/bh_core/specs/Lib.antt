@@ -1,10 +1,10 @@
 pub mod Groups
 pub mod Looks
-pub mod Past
-pub mod Events
+pub mod HistoryView
+pub mod History
+pub mod Counted
 pub mod Changes
-pub mod Desk
+pub mod Stepping
 pub mod Group
 pub mod Runs
-pub mod Views
 pub mod Whole

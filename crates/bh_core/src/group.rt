@@ -1,10 +1,11 @@
 //! One group.
 
-ghost use Rattle.std.specs.Prelude.{◌≡◌, ◌<◌, ◌≤◌, ◌^◌, IfOk};
+ghost use Rattle.std.specs.Prelude.{◌≡◌, ◌+◌, ◌<◌, ◌≤◌, ◌^◌, IfOk};
 ghost use Rattle.bh_base.specs.declared.step.Op.TheVariants as op;
 ghost use Rattle.bh_base.specs.Runs.{opened, view as view_of};
 ghost use Rattle.bh_base.specs.Seen.{view_after, view_reply};
-ghost use Rattle.bh_core.specs.Desk.{Begins, HasRoom, IsDone, IsServed, IsSteady, desk_ended, desk_with_event, released_desk};
+ghost use Rattle.bh_core.specs.Counted.{counted};
+ghost use Rattle.bh_core.specs.Stepping.{Begins, IsBounded, IsDone, IsServed, IsSteady, view_ended, with_event, released_view};
 
 mod expire;
 mod fallback;
@@ -19,7 +20,7 @@ use bh_circuit::{Circuit, percent};
 use std::alloc::{AllocError, Global};
 use std::marker::Model;
 
-/// A group, with room for all that its steps can bring.
+/// A group, with storage for all that its steps can bring.
 #[derive(Drop)]
 pub struct Group {
     props: GroupProps,
@@ -32,12 +33,12 @@ pub struct Group {
 }
 
 impl Model for Group {
-    ghost use Rattle.bh_core.specs.Desk.{Desk};
-    ghost use Rattle.bh_core.specs.Group.{desk_of, IsReady};
+    ghost use Rattle.bh_base.specs.Runs.{View};
+    ghost use Rattle.bh_core.specs.Group.{group_view, IsReady};
 
-    ghost Value = { Desk };
+    ghost Value = { View };
 
-    ghost view = { desk_of };
+    ghost view = { group_view };
 
     ghost invariant = { IsReady };
 }
@@ -47,11 +48,11 @@ impl Group {
     pub fn new(alloc: Global, props: GroupProps, limit: u64) -> Result<Self, AllocError>
         requires props { IsServed props }
         requires limit { limit ≤ 2 ^ 40 }
-        ensures view { IfOk result (λ desk. desk.view ≡ view_of (opened props limit)) }
+        ensures view { IfOk result (λ group. group ≡ view_of (opened props limit)) }
         ensures steady { IfOk result IsSteady }
     {
         let tickets = Tickets::with_room(alloc, props.slots as usize)?;
-        let history = History::new(alloc, &props, 2 * limit as usize)?;
+        let history = History::new(alloc, &props)?;
         Ok(Group {
             props,
             limit,
@@ -67,8 +68,8 @@ impl Group {
     pub fn apply(&mut self, op: &Op, now: Moment) -> Reply
         requires { IsSteady self.old }
         ensures steady { IsSteady self.new }
-        ensures reply { result ≡ view_reply self.old.view op.now now }
-        ensures view { self.new.view ≡ view_after self.old.view op.now now }
+        ensures reply { result ≡ view_reply self.old op.now now }
+        ensures view { self.new ≡ view_after self.old op.now now }
     {
         if self.steps == self.limit {
             return Reply::Worn;
@@ -82,9 +83,9 @@ impl Group {
     // The step gets its number and its moment.
     fn begin(&mut self, now: Moment)
         requires steady { IsSteady self.old }
-        requires fresh { self.old.view.present.steps < self.old.view.present.limit }
-        ensures begins { Begins self.old.view now self.new.view }
-        ensures room { HasRoom self.new }
+        requires fresh { self.old.present.steps < self.old.present.limit }
+        ensures begins { Begins self.old now self.new }
+        ensures bounded { IsBounded self.new }
     {
         self.steps += 1;
         self.history.advance(now);
@@ -92,14 +93,14 @@ impl Group {
 
     // Tickets that nobody needs are gone.
     fn release(&mut self)
-        ensures { self.new ≡ released_desk self.old }
+        ensures { self.new ≡ released_view self.old }
     {
         self.tickets.release();
     }
 
     // The case of the operation, in a step that has begun.
     fn act(&mut self, op: &Op) -> Reply
-        requires { HasRoom self.old }
+        requires { IsBounded self.old }
         ensures { IsDone self.old op.now result self.new }
     {
         match op {
@@ -139,15 +140,16 @@ impl Group {
 
     // Adds an event at the step's moment.
     fn record(&mut self, kind: EventKind)
-        requires { 0 < self.old.room }
-        ensures { self.new ≡ desk_with_event kind self.old }
+        requires { counted self.old < 2 ^ 60 }
+        ensures view { self.new ≡ with_event kind self.old }
+        ensures counted { counted self.new ≤ counted self.old + 2 }
     {
         self.history.record(kind);
     }
 
     // Tells the circuit breaker how the ticket ended; where that closes it, health starts anew.
     fn tell_circuit(&mut self, serial: Serial, end: End)
-        ensures { self.new ≡ desk_ended serial end self.old }
+        ensures { self.new ≡ view_ended serial end self.old }
     {
         if self.circuit.ended(serial, end, self.history.latest()) {
             self.history.restart_health();

@@ -7,6 +7,5 @@ pub mod laws;
 mod room;
 pub mod service;
 mod tickets;
-mod window;
 
 pub use service::{Core, RegisterError};

@@ -1,6 +1,6 @@
 //! All groups: each step goes to its own group and leaves the others as they are.
 
-ghost use Rattle.std.specs.Prelude.{◌≡◌, ◌≢◌, ◌↔◌, ℕ, ◌+◌, ◌<◌, ◌≤◌, [], ◌∷◌, ◌++◌, length, map, IfOk, OnOk, OnErr, Err, None, Some, slice_get, true};
+ghost use Rattle.std.specs.Prelude.{◌≡◌, ◌≢◌, ◌↔◌, ℕ, ◌+◌, ◌<◌, ◌≤◌, ◌^◌, [], ◌∷◌, ◌++◌, length, map, IfOk, OnOk, OnErr, Err, None, Some, slice_get, true};
 ghost use Rattle.bh_base.specs.declared.reply.Reply.{Reply};
 ghost use Rattle.bh_base.specs.Ranges.{IsInRange};
 ghost use Rattle.bh_base.specs.Replies.{can_reply};
@@ -41,12 +41,11 @@ pub enum RegisterError {
 
 impl Model for Core {
     ghost use Rattle.bh_core.specs.Groups.{Groups};
-    ghost use Rattle.bh_core.specs.Views.{views_of};
     ghost use Rattle.bh_core.specs.Whole.{IsWhole};
 
     ghost Value = { Groups };
 
-    ghost view = { λ c. record { slot_limit = c.slot_limit; views = views_of c.groups.items } };
+    ghost view = { λ c. record { slot_limit = c.slot_limit; views = c.groups.items } };
 
     ghost invariant = { IsWhole };
 }
@@ -64,14 +63,14 @@ impl Core {
         }
     }
 
-    /// Adds a group that may do so many steps, 1 to 1,024, and takes the memory for all that they can bring.
+    /// Adds a group that may do so many steps, 1 to 2^40, and takes the memory for all that they can bring.
     ///
     /// It is refused with `TooManySlots` where the slots of all groups would be more than the core may have, and
     /// else with `Memory` where a growth was refused; nothing has changed then.
     pub fn register(&mut self, props: GroupProps, step_limit: u64) -> Result<GroupId, RegisterError>
         requires props { IsInRange props }
         requires some_steps { 1 ≤ step_limit }
-        requires few_steps { step_limit ≤ 1024 }
+        requires few_steps { step_limit ≤ 2 ^ 40 }
         ensures number { IfOk result (λ id. id.0 ≡ length self.old.views) }
         ensures added { OnOk result (self.new ≡ record self.old { views = self.old.views ++ view (opened props step_limit) ∷ [] }) }
         ensures room { (result ≡ Err RegisterError.TooManySlots) ↔ (self.old.slot_limit < slots_in self.old.views + props.slots) }

@@ -1,5 +1,5 @@
 -- The text that a service writes for its lines.
-use Rattle.std.specs.Prelude.{ℕ, List, [], ◌∷◌, ◌++◌, Option, Some, None, Result, Ok, Err, slice_get, min, map}
+use Rattle.std.specs.Prelude.{ℕ, ◌^◌, List, [], ◌∷◌, ◌++◌, Option, Some, None, Result, Ok, Err, slice_get, min, map}
 use Rattle.bh_base.specs.declared.props.GroupProps.{GroupProps}
 use Rattle.bh_base.specs.declared.step.Step.{Step}
 use Rattle.bh_base.specs.declared.reply.Reply.{Reply}
@@ -18,7 +18,7 @@ names_in service = map (λ group. group.0) service.groups
 
 -- the most steps that a group may do
 abbrev pub most_steps : ℕ
-most_steps = 1024
+most_steps = 2 ^ 40
 
 -- the steps that each group may do: no more than the most, nor than may be audited
 abbrev pub step_limit : Option ℕ → ℕ

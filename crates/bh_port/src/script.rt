@@ -20,7 +20,7 @@ use std::alloc::Global;
 use std::io::{Read, Write};
 
 /// The most steps that a group may do, where an audit allows no fewer; a further one is answered as worn.
-pub const MOST_STEPS: u64 = 1024;
+pub const MOST_STEPS: u64 = 1 << 40;
 
 // So many bytes are asked of the reader at a time.
 const READ_SIZE: usize = 16_384;

@@ -153,7 +153,7 @@ fn step_both(
 const STRATEGIES: [Strategy; 3] = [Strategy::Thread, Strategy::Semaphore, Strategy::Thread];
 
 fn register<R: Abort>(rt: &R, core: &mut Core, strategy: Strategy) {
-    core.register(small(strategy), 1024).expect(rt, "memory");
+    core.register(small(strategy), 1 << 40).expect(rt, "memory");
 }
 
 /// Each of the three groups in a core of its own.

@@ -5,14 +5,14 @@ ghost use Rattle.bh_base.specs.declared.step.Op.TheVariants as op;
 ghost use Rattle.bh_base.specs.declared.ticket.TicketState.TheVariants as ticket;
 ghost use Rattle.bh_base.specs.Machine.{collected_in, fallback_answer, fallback_done_in};
 ghost use Rattle.bh_base.specs.Tickets.{is_held_at, is_in_fallback_at};
-ghost use Rattle.bh_core.specs.Desk.{HasRoom, IsDone, IsDoneBy};
+ghost use Rattle.bh_core.specs.Stepping.{IsBounded, IsDone, IsDoneBy};
 
 use super::Group;
 use bh_base::{Answer, Cause, EventKind, FallbackEnd, FallbackFault, Reply, Serial, TicketState};
 
 impl Group {
     pub fn collect(&mut self, serial: Serial) -> Reply
-        requires { HasRoom self.old }
+        requires { IsBounded self.old }
         ensures { IsDone self.old (op.Collect serial) result self.new }
     {
         match self.tickets.find_held(serial) {
@@ -32,9 +32,9 @@ impl Group {
 
     // A holder asks for the answer of a ticket that needs a fallback.
     fn fall_back(&mut self, serial: Serial, place: usize, cause: Cause) -> Reply
-        requires room { HasRoom self.old }
-        requires held { position (is_held_at serial) self.old.view.present.tickets ≡ Some place }
-        ensures { IsDoneBy self.old (collected_in (ticket.NeedsFallback cause) serial self.old.view.present) result self.new }
+        requires bounded { IsBounded self.old }
+        requires held { position (is_held_at serial) self.old.present.tickets ≡ Some place }
+        ensures { IsDoneBy self.old (collected_in (ticket.NeedsFallback cause) serial self.old.present) result self.new }
     {
         if !self.props.fallback_on {
             let answer = error(cause, FallbackFault::Disabled);
@@ -54,7 +54,7 @@ impl Group {
     }
 
     pub fn fallback_done(&mut self, serial: Serial, end: &FallbackEnd) -> Reply
-        requires { HasRoom self.old }
+        requires { IsBounded self.old }
         ensures { IsDone self.old (op.FallbackDone serial end.now) result self.new }
     {
         match self.tickets.find_in_fallback(serial) {
@@ -76,9 +76,9 @@ impl Group {
         cause: Cause,
         end: &FallbackEnd,
     ) -> Reply
-        requires room { HasRoom self.old }
-        requires found { position (is_in_fallback_at serial) self.old.view.present.tickets ≡ Some place }
-        ensures { IsDoneBy self.old (fallback_done_in (ticket.InFallback cause) serial end.now self.old.view.present) result self.new }
+        requires bounded { IsBounded self.old }
+        requires found { position (is_in_fallback_at serial) self.old.present.tickets ≡ Some place }
+        ensures { IsDoneBy self.old (fallback_done_in (ticket.InFallback cause) serial end.now self.old.present) result self.new }
     {
         let answer = fallback_answer(end, cause);
         self.tickets.answer(place, &answer);

@@ -12,31 +12,31 @@ use bh_base::{GroupProps, Moment, Serial};
 
 impl Group {
     pub fn props(&self) -> &GroupProps
-        ensures { result.now ≡ self.now.view.present.props }
+        ensures { result.now ≡ self.now.present.props }
     {
         &self.props
     }
 
     pub fn step_limit(&self) -> u64
-        ensures { result ≡ self.now.view.present.limit }
+        ensures { result ≡ self.now.present.limit }
     {
         self.limit
     }
 
     pub fn steps(&self) -> u64
-        ensures { result ≡ self.now.view.present.steps }
+        ensures { result ≡ self.now.present.steps }
     {
         self.steps
     }
 
     pub fn is_worn(&self) -> bool
-        ensures { result ≡ is_worn self.now.view.present }
+        ensures { result ≡ is_worn self.now.present }
     {
         self.steps == self.limit
     }
 
     pub fn is_startable(&self) -> bool
-        ensures { (moment : ℕ) → result ≡ is_assigned (view_reply self.now.view op.Start moment) }
+        ensures { (moment : ℕ) → result ≡ is_assigned (view_reply self.now op.Start moment) }
     {
         if self.is_worn() {
             return false;
@@ -45,7 +45,7 @@ impl Group {
     }
 
     pub fn is_pending(&self, serial: Serial) -> bool
-        ensures { (moment : ℕ) → result ≡ is_pending (view_reply self.now.view (op.Collect serial) moment) }
+        ensures { (moment : ℕ) → result ≡ is_pending (view_reply self.now (op.Collect serial) moment) }
     {
         if self.is_worn() {
             return false;
@@ -57,7 +57,7 @@ impl Group {
     }
 
     pub fn is_due(&self, now: Moment) -> bool
-        ensures { result ≡ expires_some (view_reply self.now.view op.Expire now) }
+        ensures { result ≡ expires_some (view_reply self.now op.Expire now) }
     {
         if self.is_worn() {
             return false;
@@ -71,7 +71,7 @@ impl Group {
 
     // The moment of a step that comes at the given one: never before the latest.
     fn moment_of(&self, now: Moment) -> Moment
-        ensures { result ≡ max self.now.view.present.latest now }
+        ensures { result ≡ max self.now.present.latest now }
     {
         self.history.latest().max(now)
     }

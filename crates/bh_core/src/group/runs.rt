@@ -4,7 +4,7 @@ ghost use Rattle.std.specs.Prelude.{◌≡◌, find};
 ghost use Rattle.bh_base.specs.declared.step.Op.TheVariants as op;
 ghost use Rattle.bh_base.specs.Machine.{run_ended};
 ghost use Rattle.bh_base.specs.Tickets.{is_busy_at};
-ghost use Rattle.bh_core.specs.Desk.{HasRoom, IsDone, IsDoneBy};
+ghost use Rattle.bh_core.specs.Stepping.{IsBounded, IsDone, IsDoneBy};
 
 use super::Group;
 use crate::tickets::is_running;
@@ -30,7 +30,7 @@ impl Group {
     }
 
     pub fn finish(&mut self, serial: Serial, body: &Text<256>) -> Reply
-        requires { HasRoom self.old }
+        requires { IsBounded self.old }
         ensures { IsDone self.old (op.Finish serial body.now) result self.new }
     {
         let state = TicketState::Answered(Answer::Value(*body));
@@ -38,7 +38,7 @@ impl Group {
     }
 
     pub fn fail(&mut self, serial: Serial, bad: bool) -> Reply
-        requires { HasRoom self.old }
+        requires { IsBounded self.old }
         ensures { IsDone self.old (op.Fail serial bad) result self.new }
     {
         if bad {
@@ -51,8 +51,8 @@ impl Group {
 
     // The run of the ticket has ended, and the ticket goes on to the state, unless it had timed out.
     fn end_run(&mut self, serial: Serial, state: &TicketState, end: End, kind: EventKind) -> Reply
-        requires { HasRoom self.old }
-        ensures { IsDoneBy self.old (run_ended (find (is_busy_at serial) self.old.view.present.tickets) serial state.now end kind self.old.view.present) result self.new }
+        requires { IsBounded self.old }
+        ensures { IsDoneBy self.old (run_ended (find (is_busy_at serial) self.old.present.tickets) serial state.now end kind self.old.present) result self.new }
     {
         match self.tickets.find_busy(serial) {
             None => Reply::NotRunning,

@@ -4,7 +4,7 @@ ghost use Rattle.std.specs.Prelude.{◌≡◌, ◌<◌, ◌≤◌, None, Some, l
 ghost use Rattle.bh_base.specs.declared.step.Op.TheVariants as op;
 ghost use Rattle.bh_base.specs.Machine.{due_fallback, is_admitted, placed, rejected, submitted};
 ghost use Rattle.bh_base.specs.Seen.{view_rolling};
-ghost use Rattle.bh_core.specs.Desk.{HasRoom, IsDone, IsDoneBy, IsJoinable, asked_with, desk_with_ticket};
+ghost use Rattle.bh_core.specs.Stepping.{IsBounded, IsDone, IsDoneBy, IsJoinable, asked_with, view_with_ticket};
 
 use super::Group;
 use bh_admit::pool_admits;
@@ -14,7 +14,7 @@ use bh_base::{
 
 impl Group {
     pub fn submit(&mut self, request: &Request) -> Reply
-        requires { HasRoom self.old }
+        requires { IsBounded self.old }
         ensures { IsDone self.old (op.Submit request.now) result self.new }
     {
         if let Some(place) = self.find_cached(request) {
@@ -25,7 +25,7 @@ impl Group {
 
     // The place of the cached ticket that the request may join.
     fn find_cached(&self, request: &Request) -> Option<usize>
-        ensures { IsJoinable self.now.view.present request.now.cache result }
+        ensures { IsJoinable self.now.present request.now.cache result }
     {
         if !self.props.cache_on {
             return None;
@@ -38,8 +38,8 @@ impl Group {
 
     // The request joins the ticket at the place.
     fn join(&mut self, request: &Request, place: usize) -> Reply
-        requires room { HasRoom self.old }
-        requires found { IsJoinable self.old.view.present request.now.cache (Some place) }
+        requires bounded { IsBounded self.old }
+        requires found { IsJoinable self.old.present request.now.cache (Some place) }
         ensures { IsDone self.old (op.Submit request.now) result self.new }
     {
         let serial = self.tickets.get(place).serial;
@@ -50,8 +50,8 @@ impl Group {
 
     // The request gets a ticket of its own, unless there is no free slot.
     fn make_ticket(&mut self, request: &Request) -> Reply
-        requires { HasRoom self.old }
-        ensures { IsDoneBy self.old (submitted None request.now (view_rolling self.old.view self.old.view.present.latest) self.old.view.present) result self.new }
+        requires { IsBounded self.old }
+        ensures { IsDoneBy self.old (submitted None request.now (view_rolling self.old self.old.present.latest) self.old.present) result self.new }
     {
         if self.tickets.len() >= self.props.slots {
             return Reply::GroupFull;
@@ -75,7 +75,7 @@ impl Group {
     // Health for the circuit breaker, which is counted only where it is looked at.
     fn health_asked(&self) -> Health
         ensures range { result.errors ≤ result.total }
-        ensures same { asked_with self.now.view result ≡ asked_with self.now.view (view_rolling self.now.view self.now.view.present.latest).health }
+        ensures same { asked_with self.now result ≡ asked_with self.now (view_rolling self.now self.now.present.latest).health }
     {
         if self
             .circuit
@@ -91,9 +91,9 @@ impl Group {
 
     // The request runs, or waits for a worker, where there is room for it.
     fn place(&mut self, request: &Request, test: bool) -> Reply
-        requires room { HasRoom self.old }
-        requires free { length self.old.view.present.tickets < self.old.view.present.props.slots }
-        ensures { IsDoneBy self.old (placed request.now test self.old.view.present) result self.new }
+        requires bounded { IsBounded self.old }
+        requires free { length self.old.present.tickets < self.old.present.props.slots }
+        ensures { IsDoneBy self.old (placed request.now test self.old.present) result self.new }
     {
         if !self.is_admitted() {
             return self.reject(request, test);
@@ -113,7 +113,7 @@ impl Group {
 
     // Whether a permit is free, or the pool takes one more.
     fn is_admitted(&self) -> bool
-        ensures { result ≡ is_admitted self.now.view.present self.now.view.present.props.strategy }
+        ensures { result ≡ is_admitted self.now.present self.now.present.props.strategy }
     {
         let busy = self.tickets.busy_count();
         match self.props.strategy {
@@ -130,9 +130,9 @@ impl Group {
 
     // The request is rejected; a test call that is rejected has failed.
     fn reject(&mut self, request: &Request, test: bool) -> Reply
-        requires room { HasRoom self.old }
-        requires free { length self.old.view.present.tickets < self.old.view.present.props.slots }
-        ensures { IsDoneBy self.old (rejected self.old.view.present.props.strategy request.now test self.old.view.present) result self.new }
+        requires bounded { IsBounded self.old }
+        requires free { length self.old.present.tickets < self.old.present.props.slots }
+        ensures { IsDoneBy self.old (rejected self.old.present.props.strategy request.now test self.old.present) result self.new }
     {
         self.tell_circuit(self.serial, End::Error);
         match self.props.strategy {
@@ -163,9 +163,9 @@ impl Group {
         event: EventKind,
         test: bool,
     ) -> Reply
-        requires room { HasRoom self.old }
-        requires free { length self.old.view.present.tickets < self.old.view.present.props.slots }
-        ensures { IsDoneBy self.old (due_fallback cause event request.now test self.old.view.present) result self.new }
+        requires bounded { IsBounded self.old }
+        requires free { length self.old.present.tickets < self.old.present.props.slots }
+        ensures { IsDoneBy self.old (due_fallback cause event request.now test self.old.present) result self.new }
     {
         let serial = self.serial;
         self.add_ticket(request, &TicketState::NeedsFallback(cause), false, test);
@@ -175,9 +175,9 @@ impl Group {
 
     // Makes the ticket of a request.
     fn add_ticket(&mut self, request: &Request, state: &TicketState, busy: bool, test: bool)
-        requires room { HasRoom self.old }
-        requires free { length self.old.view.present.tickets < self.old.view.present.props.slots }
-        ensures { self.new ≡ desk_with_ticket request.now state.now busy test self.old }
+        requires bounded { IsBounded self.old }
+        requires free { length self.old.present.tickets < self.old.present.props.slots }
+        ensures { self.new ≡ view_with_ticket request.now state.now busy test self.old }
     {
         let ticket = Ticket {
             serial: self.serial,

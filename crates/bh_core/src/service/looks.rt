@@ -90,7 +90,7 @@ impl Core {
 
     // The group of the number, where it is registered.
     fn find(&self, group: GroupId) -> Option<&Group>
-        ensures found { IfSome result (λ found. slice_get self.now.views group.0 ≡ Some found.now.view) }
+        ensures found { IfSome result (λ found. slice_get self.now.views group.0 ≡ Some found.now) }
         ensures missing { IsNone result → slice_get self.now.views group.0 ≡ None }
     {
         let place = group.0;

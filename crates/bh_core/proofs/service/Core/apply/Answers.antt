@@ -70,7 +70,7 @@ returns-clause-seen c = λ v shown.
 
 pub returns-clause-kinds : goal.returns-clause-kinds
 returns-clause-kinds c =
-    ap (can_reply c.args.step.op) c.apply.ensures.reply ∙ view_reply_fits c.index_mut-group.result.now.view c.args.step.op c.args.step.now
+    ap (can_reply c.args.step.op) c.apply.ensures.reply ∙ view_reply_fits c.index_mut-group.result.now c.args.step.op c.args.step.now
 
 pub invariant_of-self : goal.invariant_of-self
 invariant_of-self c = record {

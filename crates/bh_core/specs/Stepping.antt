@@ -1,5 +1,4 @@
--- What the code of one group keeps: what the group shows, and the room for further events. Here a step is taken apart
--- into its begin, the case of its operation, and its end.
+-- A step of one group, taken apart into its begin, the case of its operation, and its end.
 use Rattle.std.specs.Prelude.{◌≡◌, ℕ, ◌+◌, ◌-◌, ◌*◌, ◌/◌, ◌<◌, ◌≤◌, ◌^◌, Bool, List, [], ◌∷◌, filter, find, length, position, Option, Some, None, true, if◌then◌else◌}
 use Rattle.bh_base.specs.declared.event.EventKind.{EventKind}
 use Rattle.bh_base.specs.declared.event.Health.{Health}
@@ -15,16 +14,11 @@ use Rattle.bh_base.specs.Machine.{Present, Outcome, cached_as, ended_in, is_due,
 use Rattle.bh_base.specs.Circuit.{Asked, asked, closes, is_test}
 use Rattle.bh_core.specs.declared.tickets.DueRule.{DueRule}
 use Rattle.bh_base.specs.Ranges.{IsQueueLength}
-use Rattle.bh_base.specs.Bounds.{HeldBy, open_count}
+use Rattle.bh_base.specs.Bounds.{HeldBy}
 use Rattle.bh_base.specs.Tickets.{is_kept}
 use Rattle.bh_base.specs.Runs.{View, begun, released}
 use Rattle.bh_base.specs.Seen.{view_rolling}
-
--- what the code of one group keeps, as its contracts see it: the group's view, and room for further events
-pub record Desk : Type 0 where
-  pub view : View
-  -- how many more events may be recorded
-  pub room : ℕ
+use Rattle.bh_core.specs.Counted.{counted}
 
 -- a step has begun and recorded nothing: its number and moment are there, and every count is what it was
 pub record Begins (old : View) (now : ℕ) (new : View) : Type 0 where
@@ -33,20 +27,23 @@ pub record Begins (old : View) (now : ℕ) (new : View) : Type 0 where
   pub health : new.health ≡ later_table (window_of old.present.props) old.present.latest old.health new.present.latest []
   pub rolling : view_rolling new new.present.latest ≡ view_rolling old new.present.latest
 
--- room for the events of the step at hand and of those to come: two for each, and one for each ticket that may still time
--- out; and for the next serial
-pub record HasRoom (d : Desk) : Type 0 where
-  pub events : 2 * (d.view.present.limit - d.view.present.steps) + open_count d.view.present.tickets + 2 ≤ d.room
-  pub serial : d.view.present.serial ≤ d.view.present.steps
-  pub step : 1 ≤ d.view.present.steps
-  pub held : HeldBy (d.view.present.steps - 1) d.view.present.tickets
+-- the most that the tables of a group can grow by in a step: each of its events may stand in both
+abbrev pub step_growth : ℕ
+step_growth = 2 * (4096 + 2)
 
--- between steps: no ticket has more holders than there were steps, each ticket is needed, and there is room for what is
--- to come: two events a step, and a timeout for each ticket that may time out
-pub record IsSteady (d : Desk) : Type 0 where
-  pub held : HeldBy d.view.present.steps d.view.present.tickets
-  pub kept : filter is_kept d.view.present.tickets ≡ d.view.present.tickets
-  pub room : 2 * (d.view.present.limit - d.view.present.steps) + open_count d.view.present.tickets ≤ d.room
+-- in a step that has begun no count can wrap: few events are counted, and there were as many steps as serials and holders
+pub record IsBounded (v : View) : Type 0 where
+  pub events : counted v ≤ 2 ^ 56
+  pub serial : v.present.serial ≤ v.present.steps
+  pub step : 1 ≤ v.present.steps
+  pub held : HeldBy (v.present.steps - 1) v.present.tickets
+
+-- between steps: no ticket has more holders than there were steps, each ticket is needed, and no more events are counted
+-- than so many steps can have brought
+pub record IsSteady (v : View) : Type 0 where
+  pub held : HeldBy v.present.steps v.present.tickets
+  pub kept : filter is_kept v.present.tickets ≡ v.present.tickets
+  pub events : counted v ≤ step_growth * v.present.steps
 
 -- with one more event at the latest moment
 abbrev pub with_event : EventKind → View → View
@@ -77,39 +74,30 @@ asked_with v h = asked v.present.props v.present.latest h v.present.serial v.pre
 abbrev pub outcome_now : View → Op → Outcome
 outcome_now v o = outcome o (view_rolling v v.present.latest) v.present
 
--- the reply, the view and the room are those of the outcome
-pub record IsDoneBy (old : Desk) (out : Outcome) (r : Reply) (new : Desk) : Type 0 where
+-- the reply and the view are those of the outcome
+pub record IsDoneBy (old : View) (out : Outcome) (r : Reply) (new : View) : Type 0 where
   pub reply : r ≡ out.reply
-  pub view : new.view ≡ done old.view out
-  pub room : new.room + length out.events ≡ old.room
+  pub view : new ≡ done old out
 
 -- the reply and what is left are those of the operation
-abbrev pub IsDone : Desk → Op → Reply → Desk → Type 0
-IsDone old o r new = IsDoneBy old (outcome_now old.view o) r new
-
--- with one more event at the latest moment, and room for one event less
-abbrev pub desk_with_event : EventKind → Desk → Desk
-desk_with_event k d = record { view = with_event k d.view; room = d.room - 1 }
+abbrev pub IsDone : View → Op → Reply → View → Type 0
+IsDone old o r new = IsDoneBy old (outcome_now old o) r new
 
 -- with a ticket of the next serial for the request, in the state, marked as busy and as the test call as told
-abbrev pub desk_with_ticket : Request → TicketState → Bool → Bool → Desk → Desk
-desk_with_ticket request state busy test d =
-    record d { view = record d.view { present = with_ticket request state busy test d.view.present } }
+abbrev pub view_with_ticket : Request → TicketState → Bool → Bool → View → View
+view_with_ticket request state busy test v = record v { present = with_ticket request state busy test v.present }
 
--- the desk once the circuit breaker was told how a ticket ended; health starts anew where that closed it
-abbrev pub desk_ended : ℕ → End → Desk → Desk
-desk_ended serial e d = record {
-  view = record {
-    present = ended_in d.view.present serial e;
-    table = d.view.table;
-    health = (if closes serial e d.view.present.circuit.state then no_rows (window_of d.view.present.props) else d.view.health);
-  };
-  room = d.room;
+-- the view once the circuit breaker was told how a ticket ended; health starts anew where that closed it
+abbrev pub view_ended : ℕ → End → View → View
+view_ended serial e v = record {
+  present = ended_in v.present serial e;
+  table = v.table;
+  health = (if closes serial e v.present.circuit.state then no_rows (window_of v.present.props) else v.health);
 }
 
 -- tickets that nobody needs are gone
-abbrev pub released_desk : Desk → Desk
-released_desk d = record d { view = record d.view { present = released d.view.present } }
+abbrev pub released_view : View → View
+released_view v = record v { present = released v.present }
 
 -- the ranges of properties that the storage of a group rests on
 pub record IsServed (props : GroupProps) : Type 0 where
@@ -124,13 +112,11 @@ pub record IsServed (props : GroupProps) : Type 0 where
 abbrev pub due_rule_of : Present → DueRule
 due_rule_of g = record { timeout_on = g.props.timeout_on; timeout_ms = g.props.timeout_ms; moment = g.latest }
 
--- the desk once the circuit breaker was told of a test call that is due
-abbrev pub desk_test_timed_out : Desk → Desk
-desk_test_timed_out d = record d {
-  view = record d.view {
-    present = record d.view.present {
-      circuit = test_timed_out (find (λ t. is_test t.serial d.view.present.circuit.state) (filter (is_due d.view.present) d.view.present.tickets)) d.view.present;
-    };
+-- the view once the circuit breaker was told of a test call that is due
+abbrev pub view_test_timed_out : View → View
+view_test_timed_out v = record v {
+  present = record v.present {
+    circuit = test_timed_out (find (λ t. is_test t.serial v.present.circuit.state) (filter (is_due v.present) v.present.tickets)) v.present;
   };
 }
 

@@ -1,0 +1,22 @@
+-- How many events the tables of a group have: the number by which it is shown that no count wraps.
+use Rattle.std.specs.Prelude.{ℕ, ◌+◌, List}
+use Rattle.bh_base.specs.declared.event.Counts.{Counts}
+use Rattle.bh_base.specs.declared.event.Window.{Window}
+use Rattle.bh_base.specs.History.{counts_by, window_of}
+use Rattle.bh_base.specs.Tables.{sum_in}
+use Rattle.bh_base.specs.Runs.{View}
+
+-- the sum over all kinds
+abbrev pub total : Counts → ℕ
+total c = c.bad_request + c.exception_thrown + c.failure + c.fallback_failure + c.fallback_missing + c.fallback_rejection + c.fallback_success + c.response_from_cache + c.semaphore_rejected + c.short_circuited + c.success + c.thread_pool_rejected + c.timeout
+
+-- the events in the window at the moment, by a table at that moment
+abbrev pub counted_in : Window → ℕ → List Counts → ℕ
+counted_in w moment table = total (counts_by (sum_in w moment table moment))
+
+-- those that both tables of a group have together
+unfoldable pub counted_at : Window → ℕ → List Counts → List Counts → ℕ
+counted_at w moment table health = counted_in w moment table + counted_in w moment health
+
+abbrev pub counted : View → ℕ
+counted v = counted_at (window_of v.present.props) v.present.latest v.table v.health
