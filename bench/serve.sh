@@ -2,15 +2,18 @@
 # Prints how many calls a second `serve` answers over 1, 8 and 64 connections, with the median (p50) and the 99th
 # percentile (p99) of the time that a call takes.
 #
-#   bench/serve.sh [-n CALLS] [-g GROUPS] [-p PORT] [PROGRAM]     PROGRAM is proved and built where none is given
+#   bench/serve.sh [-n CALLS] [-g GROUPS] [-w WORKERS] [-p PORT] [PROGRAM]
+#
+# WORKERS is how many each group has. PROGRAM is proved and built where none is given.
 set -euo pipefail
 
 here=$(cd "$(dirname "$0")" && pwd)
-calls=100000 groups=8 port=7412
-while getopts n:g:p: option; do
+calls=100000 groups=8 workers=10 port=7412
+while getopts n:g:w:p: option; do
     case $option in
     n) calls=$OPTARG ;;
     g) groups=$OPTARG ;;
+    w) workers=$OPTARG ;;
     p) port=$OPTARG ;;
     *) exit 2 ;;
     esac
@@ -26,13 +29,13 @@ if [ $# -eq 0 ]; then
 fi
 cc -O2 -o "$work/client" "$here/serve_client.c"
 
-# The workers of all groups are threads: few where there are many groups.
-awk -v GROUPS="$groups" 'BEGIN {
+# Every call that waits for a worker finds a place in its group's queue.
+awk -v GROUPS="$groups" -v WORKERS="$workers" 'BEGIN {
     printf("service.groups = [")
     for (group = 0; group < GROUPS; group++) {
         printf("\"g%d\",", group)
     }
-    printf("]\nhystrix.threadpool.default.coreSize = %d\n", GROUPS > 16 ? 1 : 10)
+    printf("]\nhystrix.threadpool.default.coreSize = %d\n", WORKERS)
     print("hystrix.threadpool.default.maxQueueSize = 64\nhystrix.threadpool.default.queueSizeRejectionThreshold = 64")
 }' >"$work/settings.toml"
 
@@ -52,7 +55,7 @@ has_ended() {
 for connections in 1 8 64; do
     "$program" serve "$work/settings.toml" --port "$port" --connections "$connections" >"$work/listening" &
     service=$!
-    within_ten_seconds grep -q listening "$work/listening" || { echo "the service does not listen" >&2; exit 1; }
+    within_ten_seconds grep -qs listening "$work/listening" || { echo "the service does not listen" >&2; exit 1; }
     "$work/client" "$port" "$connections" "$calls" "$groups"
     within_ten_seconds has_ended || { echo "the service does not end" >&2; exit 1; }
     wait "$service"
