@@ -1,14 +1,19 @@
-# Prints the steps of a load: GROUPS groups in turn, each with 850 steps. A group's requests run one after the other;
-# every eighth fails and is answered by its fallback, and every tenth is followed by a reading of the metrics.
+# Prints so many lines, the steps of so many groups in turn. A group's requests run one after the other; every eighth
+# fails and is answered by its fallback, and every tenth is followed by a reading of the metrics.
 #
-#   awk -v GROUPS=1000 -v STEPS=850 -f load.awk
+#   awk -v GROUPS=16 -v LINES=1000000 -f load.awk
 
+# The step of every group, until there are enough lines.
 function step(op, rest) {
-    steps[++count] = "{\"op\":\"" op "\",\"group\":\"group-%d\",\"now\":" count * 10 rest "}"
+    now += 10
+    for (group = 1; group <= GROUPS && printed < LINES; group++) {
+        printf("{\"op\":\"%s\",\"group\":\"group-%d\",\"now\":%d%s}\n", op, group, now, rest)
+        printed++
+    }
 }
 
 BEGIN {
-    for (ticket = 1; count < STEPS; ticket++) {
+    for (ticket = 1; printed < LINES; ticket++) {
         number = ",\"ticket\":" ticket
         step("submit", ",\"arg\":\"order " ticket "\"")
         step("start", "")
@@ -22,11 +27,6 @@ BEGIN {
         step("collect", number)
         if (ticket % 10 == 0) {
             step("read", "")
-        }
-    }
-    for (i = 1; i <= STEPS; i++) {
-        for (group = 1; group <= GROUPS; group++) {
-            printf(steps[i] "\n", group)
         }
     }
 }

@@ -27,7 +27,7 @@ exec 3<>"/dev/tcp/127.0.0.1/$port"
 ask() {
     echo "> $1"
     echo "$1" >&3
-    IFS= read -r reply <&3
+    IFS= read -t 10 -r reply <&3
     echo "< $reply"
 }
 

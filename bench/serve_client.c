@@ -1,0 +1,136 @@
+/* Calls a service over so many connections at once, one call after the other on each, and prints what it took.
+ *
+ *   serve_client PORT CONNECTIONS CALLS GROUPS
+ *
+ * One thread waits for all connections by epoll, so that it is not the limit: it prints how busy it was. The calls go
+ * to the groups g0, g1 .. in turn. Each answer has to be the echo of its argument. It talks to 127.0.0.1 alone, and
+ * ends with status 1 where no answer comes for ten seconds. */
+#include <arpa/inet.h>
+#include <errno.h>
+#include <netinet/in.h>
+#include <netinet/tcp.h>
+#include <stdio.h>
+#include <stdlib.h>
+#include <string.h>
+#include <sys/epoll.h>
+#include <sys/resource.h>
+#include <sys/socket.h>
+#include <time.h>
+#include <unistd.h>
+
+enum { MOST_CONNECTIONS = 64, MOST_LINE = 256, PATIENCE_MS = 10000 };
+
+typedef struct {
+    int socket;
+    long call;          /* the number of its call under way */
+    double sent;        /* when that was sent */
+    size_t received;    /* bytes of the answer so far */
+    char answer[MOST_LINE];
+} Connection;
+
+static Connection connections[MOST_CONNECTIONS];
+static long calls, groups, connection_count;
+
+static void fail(const char *why) {
+    fprintf(stderr, "%s\n", why);
+    exit(1);
+}
+
+static double seconds(void) {
+    struct timespec now;
+    clock_gettime(CLOCK_MONOTONIC, &now);
+    return now.tv_sec + now.tv_nsec / 1e9;
+}
+
+static double busy_seconds(void) {
+    struct rusage used;
+    getrusage(RUSAGE_SELF, &used);
+    return used.ru_utime.tv_sec + used.ru_stime.tv_sec + (used.ru_utime.tv_usec + used.ru_stime.tv_usec) / 1e6;
+}
+
+static void connect_to(Connection *connection, int port) {
+    struct sockaddr_in address = {.sin_family = AF_INET, .sin_port = htons(port)};
+    int on = 1;
+    address.sin_addr.s_addr = htonl(INADDR_LOOPBACK);
+    connection->socket = socket(AF_INET, SOCK_STREAM, 0);
+    if (connect(connection->socket, (struct sockaddr *)&address, sizeof address) != 0) fail("cannot connect");
+    setsockopt(connection->socket, IPPROTO_TCP, TCP_NODELAY, &on, sizeof on);
+}
+
+/* Sends the call of the connection's number. A call is far shorter than the buffer of a socket. */
+static void send_call(Connection *connection) {
+    char line[MOST_LINE];
+    int length = snprintf(line, sizeof line, "{\"op\":\"call\",\"group\":\"g%ld\",\"arg\":\"order %ld\"}\n",
+                          connection->call % groups, connection->call);
+    connection->received = 0;
+    connection->sent = seconds();
+    if (write(connection->socket, line, length) != length) fail("cannot write");
+}
+
+/* Reads what has come of the answer. True where it is whole. */
+static int receive(Connection *connection) {
+    char wanted[MOST_LINE];
+    ssize_t count = read(connection->socket, connection->answer + connection->received,
+                         sizeof connection->answer - 1 - connection->received);
+    if (count <= 0) fail("the service ended a connection");
+    connection->received += count;
+    connection->answer[connection->received] = 0;
+    if (connection->answer[connection->received - 1] != '\n') return 0;
+    snprintf(wanted, sizeof wanted, "{\"body\":\"order %ld\",\"reply\":\"value\"}\n", connection->call);
+    if (strcmp(connection->answer, wanted) != 0) {
+        fprintf(stderr, "call %ld of group g%ld: unexpected answer %s", connection->call, connection->call % groups,
+                connection->answer);
+        exit(1);
+    }
+    return 1;
+}
+
+static int by_size(const void *a, const void *b) {
+    double x = *(const double *)a, y = *(const double *)b;
+    return (x > y) - (x < y);
+}
+
+/* Makes all calls, and notes the seconds of each. */
+static void make_calls(int poll, double *took) {
+    struct epoll_event events[MOST_CONNECTIONS];
+    long done = 0;
+    while (done < calls) {
+        int ready = epoll_wait(poll, events, MOST_CONNECTIONS, PATIENCE_MS);
+        if (ready == 0) fail("no answer in ten seconds");
+        if (ready < 0 && errno != EINTR) fail("cannot wait");
+        for (int i = 0; i < ready; i++) {
+            Connection *connection = events[i].data.ptr;
+            if (!receive(connection)) continue;
+            took[done++] = seconds() - connection->sent;
+            connection->call += connection_count;
+            if (connection->call < calls) send_call(connection);
+        }
+    }
+}
+
+int main(int argc, char **argv) {
+    if (argc != 5) fail("serve_client PORT CONNECTIONS CALLS GROUPS");
+    connection_count = atol(argv[2]);
+    calls = atol(argv[3]);
+    groups = atol(argv[4]);
+    if (connection_count < 1 || connection_count > MOST_CONNECTIONS || calls < connection_count || groups < 1)
+        fail("1 to 64 connections, a call for each, and a group");
+    double *took = malloc(calls * sizeof *took);
+    int poll = epoll_create1(0);
+    if (!took || poll < 0) fail("no memory");
+    for (long i = 0; i < connection_count; i++) {
+        struct epoll_event event = {.events = EPOLLIN, .data.ptr = &connections[i]};
+        connect_to(&connections[i], atoi(argv[1]));
+        epoll_ctl(poll, EPOLL_CTL_ADD, connections[i].socket, &event);
+        connections[i].call = i;
+    }
+    double began = seconds(), busy = busy_seconds();
+    for (long i = 0; i < connection_count; i++) send_call(&connections[i]);
+    make_calls(poll, took);
+    double whole = seconds() - began;
+    busy = busy_seconds() - busy;
+    qsort(took, calls, sizeof *took, by_size);
+    printf("%2ld connections: %7.0f calls a second, p50 %.3f ms, p99 %.3f ms (client busy %.0f %%)\n", connection_count,
+           calls / whole, took[calls / 2] * 1000, took[calls * 99 / 100] * 1000, 100 * busy / whole);
+    return 0;
+}
