@@ -142,7 +142,7 @@ fn take_passes<R: Abort + AllocGlobal>(
 /// An audited service of two groups.
 fn audited<R: Abort + AllocGlobal>(rt: &R, steps: u64) -> Shared
     requires some { 1 ≤ steps }
-    requires few { steps ≤ 1024 }
+    requires few { steps ≤ 2 ^ 40 }
 {
     service(rt, props(), props(), steps)
 }
@@ -150,7 +150,7 @@ fn audited<R: Abort + AllocGlobal>(rt: &R, steps: u64) -> Shared
 /// A service of two groups without an audit.
 fn unaudited<R: Abort + AllocGlobal>(rt: &R, steps: u64) -> Shared
     requires some { 1 ≤ steps }
-    requires few { steps ≤ 1024 }
+    requires few { steps ≤ 2 ^ 40 }
 {
     let core = two_groups(rt.alloc(), props(), props(), steps).expect(rt, "memory");
     share(rt, core, None)

@@ -85,7 +85,7 @@ fn second_group_has_no_slots(rt: HostRuntime) {
 /// A core of one group that may do so many steps.
 fn core_of_one(rt: &(impl Abort + AllocGlobal), steps: u64) -> Core
     requires some { 1 ≤ steps }
-    requires few { steps ≤ 1024 }
+    requires few { steps ≤ 2 ^ 40 }
 {
     let mut core = Core::new(rt.alloc(), 64);
     core.register(props(), steps).expect(rt, "memory");

@@ -17,6 +17,8 @@ mod groups;
 #[cfg(test)]
 mod random;
 #[cfg(test)]
+mod rolling;
+#[cfg(test)]
 mod samples;
 #[cfg(test)]
 mod script;

@@ -4,7 +4,7 @@ ghost use Rattle.std.specs.Prelude.{◌<◌};
 ghost use Rattle.bh_base.specs.Ranges.{IsInRange};
 
 use crate::samples::{step, text};
-use bh_base::{FallbackEnd, GroupProps, Op, Reply, Request, Serial, Strategy};
+use bh_base::{FallbackEnd, GroupProps, Moment, Op, Reply, Request, Serial, Strategy};
 use bh_core::Core;
 use rand_core::{Rng, SeedableRng};
 use rand_xoshiro::Xoshiro256PlusPlus;
@@ -167,13 +167,25 @@ fn three_alone<R: Abort + AllocGlobal>(rt: &R) -> Vec<Alone> {
     three
 }
 
+/// The moment of a step: soon after the step before, or one of 0, far ahead and the last that there is.
+fn moment(rng: &mut Xoshiro256PlusPlus, i: u64, steps: u64) -> Moment {
+    if i >= steps / 100 * 99 {
+        return u64::MAX;
+    }
+    match below(rng, 500) {
+        0 => 0,
+        1 => i.saturating_add(100),
+        _ => i.saturating_add(below(rng, 6)),
+    }
+}
+
 /// So many random steps, and how many of them were told an answer.
 fn count_answers<R: Abort>(rt: &R, all: &mut Core, three: &mut Vec<Alone>, steps: u64) -> u64 {
     let mut rng = Xoshiro256PlusPlus::seed_from_u64(7);
     let mut answers = 0_u64;
     for i in 0..steps {
         let group = below(&mut rng, 3);
-        let now = i.saturating_add(below(&mut rng, 6));
+        let now = moment(&mut rng, i, steps);
         let alone = three.get_mut(group as usize).expect(rt, "a group");
         let told = step_both(&mut rng, all, alone, group, now);
         assert!(rt; told.alike, "step {i}");
@@ -189,6 +201,6 @@ fn three_groups_are_told_what_each_is_told_alone(rt: HostRuntime) {
         register(&rt, &mut all, strategy);
     }
     let mut three = three_alone(&rt);
-    let answers = count_answers(&rt, &mut all, &mut three, 3000);
-    assert!(rt; answers > 100);
+    let answers = count_answers(&rt, &mut all, &mut three, 100_000);
+    assert!(rt; answers > 1000);
 }

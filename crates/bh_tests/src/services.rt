@@ -28,7 +28,7 @@ pub const B: GroupId = GroupId(1);
 pub(crate) fn add(core: &mut Core, props: GroupProps, steps: u64) -> Result<GroupId, RegisterError>
     requires props { IsInRange props }
     requires some { 1 ≤ steps }
-    requires few { steps ≤ 1024 }
+    requires few { steps ≤ 2 ^ 40 }
     requires new { AreNew steps core.old.views }
     ensures { OnOk result (AreNew steps core.new.views) }
 {
@@ -45,7 +45,7 @@ pub(crate) fn two_groups(
     requires first { IsInRange first }
     requires second { IsInRange second }
     requires some { 1 ≤ steps }
-    requires few { steps ≤ 1024 }
+    requires few { steps ≤ 2 ^ 40 }
     ensures { IfOk result (λ core. AreNew steps core.views) }
 {
     let mut core = Core::new(alloc, 1000);
@@ -64,7 +64,7 @@ pub(crate) fn service<R: Abort + AllocGlobal>(
     requires first { IsInRange first }
     requires second { IsInRange second }
     requires some { 1 ≤ steps }
-    requires few { steps ≤ 1024 }
+    requires few { steps ≤ 2 ^ 40 }
 {
     let core = two_groups(rt.alloc(), first, second, steps).expect(rt, "memory");
     share(rt, core, Some(steps))
@@ -73,7 +73,7 @@ pub(crate) fn service<R: Abort + AllocGlobal>(
 /// An audited service of three groups.
 pub(crate) fn three_groups<R: Abort + AllocGlobal>(rt: &R, steps: u64) -> Shared
     requires some { 1 ≤ steps }
-    requires few { steps ≤ 1024 }
+    requires few { steps ≤ 2 ^ 40 }
 {
     let mut core = two_groups(rt.alloc(), props(), props(), steps).expect(rt, "memory");
     add(&mut core, props(), steps).expect(rt, "memory");
