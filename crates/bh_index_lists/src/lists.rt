@@ -5,14 +5,14 @@ ghost use Rattle.bh_index_lists.specs.Lists.{IsList, link_at, list_of, no_link, 
 ghost use Rattle.bh_index_lists.specs.Ties.{IsWithin, tied, tied_ends};
 
 /// The neighbours of a place in its list; a place that is on no list has none.
-#[derive(Clone, Copy, Debug, Default)]
+#[derive(Clone, Copy, Debug, Default, PartialEq, Eq)]
 pub struct Link {
     pub prev: Option<u32>,
     pub next: Option<u32>,
 }
 
 /// The ends of a list, and how many places it has. The default is the empty list.
-#[derive(Clone, Copy, Debug, Default)]
+#[derive(Clone, Copy, Debug, Default, PartialEq, Eq)]
 pub struct ListHead {
     pub first: Option<u32>,
     pub last: Option<u32>,
