@@ -22,12 +22,6 @@ module _ (L M : List Link) (heads : List ListHead) (on_list : List ℕ) (slot : 
     (was : c ≡ head_at heads (get_or on_list slot 0)) (same : length M ≡ length L)
     (isList : IsList M d) (taken : list_of M d ≡ without slot (list_of L c))
     (outside : (x : ℕ) → ¬ (Contains (list_of L c) x) → link_at M x ≡ link_at L x) where
-  number_of : ℕ → ℕ
-  number_of x = get_or on_list x 0
-
-  old : ℕ → List ℕ
-  old l = list_of L (head_at heads l)
-
   abbrev pub out : List ListHead
   out = set heads (get_or on_list slot 0) d
 
@@ -55,9 +49,6 @@ module _ (L M : List Link) (heads : List ListHead) (on_list : List ℕ) (slot : 
     abbrev pub end : List ListHead
     end = set out to f
 
-    left : ℕ → List ℕ
-    left l = without slot (list_of L (head_at heads l))
-
     put_is : list_of N f ≡ without slot (list_of L (head_at heads to)) ++ slot ∷ []
     put_is = put ∙ ap (λ (xs : List ℕ). xs ++ slot ∷ []) (ap (list_of M) was_to ∙ listed M (head_at out to) _ (taken-listed to to_within))
 
@@ -74,9 +65,6 @@ module _ (L M : List Link) (heads : List ListHead) (on_list : List ℕ) (slot : 
         ] in
         subst (λ (z : ListHead). IsListed N z (without slot (list_of L (head_at heads l)))) (sym (set_head_other out to l f ne))
         (listed-same M N (head_at out l) (without slot (list_of L (head_at heads l))) same' (λ x i. outside' x (away x i)) (taken-listed l lt))
-
-    on_list' : List ℕ
-    on_list' = set on_list slot to
 
     length_end : length end ≡ length heads
     length_end = length-set out to f ∙ length-set heads (get_or on_list slot 0) d

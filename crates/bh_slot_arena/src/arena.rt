@@ -11,10 +11,12 @@ use std::array;
 use std::marker::Model;
 use thiserror::Error;
 
-/// Slots with a payload each, which in each of `K` families are on lists. Families, lists and slots are numbered from
-/// 0, and a call is given numbers of families, lists and slots that are there.
+/// Slots with a payload each. In each of `K` families every slot is on exactly one list.
+///
+/// Families, lists and slots go by their numbers, from 0, and the calls take numbers of those that are there.
 #[derive(Drop)]
 pub struct Arena<T: Copy, const K: usize> {
+    /// How many slots there may be.
     limit: u32,
     payloads: Vec<T>,
     families: [Family; K],
@@ -152,7 +154,8 @@ impl<T: Copy, const K: usize> Arena<T, K> {
         self.payloads[slot as usize] = payload;
     }
 
-    /// The law of the lists: in each family every slot is on exactly one list, and there once. The call does nothing.
+    /// The law of the lists: in each family every slot is on exactly one list, and there once. The call does nothing;
+    /// its contract is the law.
     pub fn partition(&self, family: usize)
         requires { family < K }
         ensures lists { IsPartition (length self.now.payloads) (lists_in self.now family) }
