@@ -5,6 +5,8 @@
 #[cfg(test)]
 mod admission;
 #[cfg(test)]
+mod arena;
+#[cfg(test)]
 mod audit;
 #[cfg(test)]
 mod audit_compare;

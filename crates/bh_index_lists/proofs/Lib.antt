@@ -1,0 +1,5 @@
+pub mod Members
+pub mod Segments
+pub mod Ties
+pub mod Unlinked
+pub mod Pushed

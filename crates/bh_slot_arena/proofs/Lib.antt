@@ -1,0 +1,6 @@
+pub mod Moved
+pub mod Added
+pub mod Grown
+pub mod Parted
+pub mod Lasts
+pub mod Families

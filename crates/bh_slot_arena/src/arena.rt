@@ -1,0 +1,200 @@
+//! Slots with a payload each, on lists of several families.
+
+ghost use Rattle.std.specs.Prelude.{◌≡◌, ℕ, ◌+◌, ◌<◌, ◌≤◌, ◌↔◌, ◌≢◌, ◌^◌, [], ◌++◌, Contains, length, replicate, slice_get, slice_index, vec_len, vec_capacity, IfOk, OnOk, OnErr, Err, Some};
+ghost use Rattle.bh_slot_arena.specs.Lists.{IsPartition};
+ghost use Rattle.bh_slot_arena.specs.Slots.{lists_in, slots_on, with_moved, with_new_lists, with_new_slots, with_payload};
+ghost use Rattle.bh_slot_arena.specs.Family.{AddsSlots, IsReady, but_room, family_at, no_lists};
+
+use crate::family::Family;
+use std::alloc::{AllocError, Global};
+use std::array;
+use std::marker::Model;
+use thiserror::Error;
+
+/// Slots with a payload each. In each of `K` families every slot is on exactly one list.
+///
+/// Families, lists and slots go by their numbers, from 0, and the calls take numbers of those that are there.
+#[derive(Drop)]
+pub struct Arena<T: Copy, const K: usize> {
+    /// How many slots there may be.
+    limit: u32,
+    payloads: Vec<T>,
+    families: [Family; K],
+}
+
+/// Why no slot was added.
+#[derive(Clone, Copy, Debug, PartialEq, Eq, Error)]
+pub enum SlotsError {
+    /// There would be more slots than the arena may have.
+    #[error("too many slots")]
+    TooManySlots,
+    /// There is not enough memory for them.
+    #[error("out of memory")]
+    Memory,
+}
+
+impl<T: Copy, const K: usize> Model for Arena<T, K> {
+    ghost use Rattle.bh_slot_arena.specs.Slots.{ArenaView};
+    ghost use Rattle.std.specs.Prelude.{map, length};
+    ghost use Rattle.bh_slot_arena.specs.Whole.{IsWhole};
+
+    ghost Value = { ArenaView T };
+
+    ghost view = { λ a. record { limit = a.limit; payloads = a.payloads.items; families = map (λ f. f.lists) a.families } };
+
+    ghost invariant = { λ a. IsWhole a.limit (length a.payloads.items) K a.families };
+}
+
+impl<T: Copy, const K: usize> Arena<T, K> {
+    /// An arena without lists and slots, which may have so many slots.
+    pub fn new(alloc: Global, limit: u32) -> Self
+        ensures { result ≡ record { limit = limit; payloads = []; families = replicate K [] } }
+    {
+        Arena {
+            limit,
+            payloads: Vec::new(alloc),
+            families: array::from_fn(
+                |_| -> Family
+                    ensures { but_room result ≡ no_lists }
+                { Family::new(alloc) },
+            ),
+        }
+    }
+
+    /// Adds empty lists to a family, and answers the number of the first. Where memory is refused, nothing has changed.
+    pub fn add_lists(&mut self, family: usize, count: usize) -> Result<usize, AllocError>
+        requires { family < K }
+        ensures first { IfOk result (λ n. n ≡ length (lists_in self.old family)) }
+        ensures ok { OnOk result (self.new ≡ with_new_lists family count self.old) }
+        ensures err { OnErr result (self.new ≡ self.old) }
+    {
+        self.families[family].add_lists(count)
+    }
+
+    /// Adds slots, each with the payload `blank`, and answers the number of the first. They go to the end of one list
+    /// of each family, that of the number in `lists`, in the order of their numbers.
+    ///
+    /// It is refused with `TooManySlots` where there would be more slots than the arena may have, and else with
+    /// `Memory` where memory is refused; nothing has changed then.
+    pub fn add_slots(&mut self, count: u32, lists: [usize; K], blank: T) -> Result<u32, SlotsError>
+        requires { (f : ℕ) → f < K → slice_index lists f < length (lists_in self.old f) }
+        ensures first { IfOk result (λ n. n ≡ length self.old.payloads) }
+        ensures ok { OnOk result (self.new ≡ with_new_slots count lists.entry blank self.old) }
+        ensures limit { (result ≡ Err SlotsError.TooManySlots) ↔ (self.old.limit < length self.old.payloads + count) }
+        ensures err { OnErr result (self.new ≡ self.old) }
+    {
+        let first = self.payloads.len() as u32;
+        if self.limit - first < count {
+            return Err(SlotsError::TooManySlots);
+        }
+        if reserve_all(&mut self.families, count as usize).is_err() {
+            return Err(SlotsError::Memory);
+        }
+        if self.payloads.reserve(count as usize).is_err() {
+            return Err(SlotsError::Memory);
+        }
+        push_copies(&mut self.payloads, blank, count);
+        add_to_all(&mut self.families, first, count, &lists);
+        Ok(first)
+    }
+
+    /// Takes a slot off its list of a family, and puts it last on the list `to`, which may be the same one.
+    pub fn move_to_back(&mut self, family: usize, slot: u32, to: usize)
+        requires family { family < K }
+        requires slot { slot < length self.old.payloads }
+        requires list { to < length (lists_in self.old family) }
+        ensures moved { self.new ≡ with_moved family slot to self.old }
+
+        // Every list but these two stays.
+        ensures others { (l : ℕ) → l ≢ to → ¬ (Contains (slots_on self.old family l) slot) → slots_on self.new family l ≡ slots_on self.old family l }
+    {
+        self.families[family].move_to_back(slot, to);
+    }
+
+    /// The first slot of a list; None where the list is empty.
+    pub fn front(&self, family: usize, list: usize) -> Option<u32>
+        requires family { family < K }
+        requires list { list < length (lists_in self.now family) }
+        ensures { result ≡ slice_get (slots_on self.now family list) 0 }
+    {
+        self.families[family].front(list)
+    }
+
+    /// The slot behind a slot in its list of a family; None behind the last.
+    pub fn next(&self, family: usize, slot: u32) -> Option<u32>
+        requires family { family < K }
+        requires slot { slot < length self.now.payloads }
+        ensures { (l k : ℕ) → slice_get (slots_on self.now family l) k ≡ Some slot → result ≡ slice_get (slots_on self.now family l) (k + 1) }
+    {
+        self.families[family].next(slot)
+    }
+
+    /// How many slots a list has.
+    pub fn len_of(&self, family: usize, list: usize) -> usize
+        requires family { family < K }
+        requires list { list < length (lists_in self.now family) }
+        ensures { result ≡ length (slots_on self.now family list) }
+    {
+        self.families[family].len_of(list)
+    }
+
+    /// The payload of a slot.
+    pub fn get(&self, slot: u32) -> &T
+        requires { slot < length self.now.payloads }
+        ensures { Some result.now ≡ slice_get self.now.payloads slot }
+    {
+        &self.payloads[slot as usize]
+    }
+
+    /// Gives a slot another payload.
+    pub fn set(&mut self, slot: u32, payload: T)
+        requires { slot < length self.old.payloads }
+        ensures { self.new ≡ with_payload slot payload self.old }
+    {
+        self.payloads[slot as usize] = payload;
+    }
+
+    /// The law of the lists: in each family every slot is on exactly one list, and there once. The call does nothing;
+    /// its contract is the law.
+    pub fn partition(&self, family: usize)
+        requires { family < K }
+        ensures lists { IsPartition (length self.now.payloads) (lists_in self.now family) }
+        ensures families { length self.now.families ≡ K }
+        ensures limit { length self.now.payloads ≤ self.now.limit }
+    {
+        self.families[family].partition();
+    }
+}
+
+/// Takes the memory for so many slots more in each family.
+fn reserve_all(families: &mut [Family], count: usize) -> Result<(), AllocError>
+    ensures same { (f : ℕ) → but_room (family_at families.new f) ≡ but_room (family_at families.old f) }
+    ensures ok { OnOk result ((f : ℕ) → f < length families.old → count ≤ (family_at families.new f).room) }
+{
+    for family in families.iter_mut() {
+        family.reserve(count)?;
+    }
+    Ok(())
+}
+
+/// Adds so many copies of the payload within the room that is there.
+fn push_copies<T: Copy>(payloads: &mut Vec<T>, payload: T, count: u32)
+    requires { vec_len payloads.old + count ≤ vec_capacity payloads.old }
+    ensures { payloads.new.items ≡ payloads.old.items ++ replicate count payload }
+{
+    for _ in 0..count {
+        payloads.push_reserved(payload);
+    }
+}
+
+/// Puts the slots from `first` on at the end of one list of each family, that of the number in `lists`.
+fn add_to_all(families: &mut [Family], first: u32, count: u32, lists: &[usize])
+    requires lists { length lists.now ≡ length families.old }
+    requires few { first + count < 2 ^ 32 }
+    requires ready { (f : ℕ) → f < length families.old → IsReady first count (slice_index lists.now f) (family_at families.old f) }
+    ensures { (f : ℕ) → f < length families.old → AddsSlots first count (slice_index lists.now f) (family_at families.old f) (family_at families.new f) }
+{
+    for f in 0..families.len() {
+        families[f].add_slots(first, count, lists[f]);
+    }
+}
