@@ -5,6 +5,7 @@ mod operations;
 mod serve;
 mod settings;
 mod streams;
+mod words;
 
 use crate::run::run_file;
 use std::process::Abort;
