@@ -10,6 +10,7 @@ pub mod settings_file;
 mod tests;
 
 use bh_props::SettingsError;
+use clap::error::ErrorKind;
 use clap::{Arg, ArgAction, Command};
 use std::alloc::{AllocError, Global};
 use std::io::Write;
@@ -29,7 +30,7 @@ fn main(rt: HostRuntime) -> ExitCode {
             Ok(status) => status,
             Err(_) => report::settings(&mut rt.stderr(), SettingsError::Memory),
         },
-        Err(_) => BAD_WORDS,
+        Err(error) => refuse_words(&mut rt.stderr(), &error),
     };
     ExitCode::from(status)
 }
@@ -40,6 +41,14 @@ fn words(rt: &HostRuntime) -> io::Result<Vec<String>> {
     Ok(words)
 }
 
+// Says why there are no words, where memory was refused, and answers the exit status.
+fn refuse_words<E: Write>(errors: &mut E, error: &io::Error) -> u8 {
+    match error.kind() {
+        io::ErrorKind::OutOfMemory => report::settings(errors, SettingsError::Memory),
+        _ => BAD_WORDS,
+    }
+}
+
 // Does what the words say, and answers the exit status. Only what serves connections starts threads and waits.
 fn run_words<
     R: Net<Listener = TcpListener, Stream = TcpStream> + Threads + Wait + Clock + Print + Sync,
@@ -47,6 +56,7 @@ fn run_words<
     let command = command(rt.alloc())?;
     let matches = match command.try_get_matches_from(words) {
         Ok(matches) => matches,
+        Err(error) if error.kind() == ErrorKind::OutOfMemory => return Err(AllocError),
         Err(error) => {
             let _ = error.print(rt);
             return Ok(error.exit_code() as u8);

@@ -1,319 +1,435 @@
-//! Scripts of all operations, each under properties of its own.
+//! Scripts of all operations, each under properties of its own, in which each line stands beside its answer.
+//!
+//! A script is what it shows, its settings, and behind an empty line its lines, each with its answer behind ` -> `. Two
+//! empty lines stand between scripts.
 
-use super::{ONE_GROUP, assert_answers};
+use super::{assert_bytes, assert_end};
+use crate::run::run_file;
+use std::process::Abort;
 
-const QUEUE_SETTINGS: &str = r#"service.groups = ["a"]
+/// A script, taken apart.
+#[derive(Clone, Copy)]
+pub struct Script<'a> {
+    pub shows: &'a str,
+    pub settings: &'a str,
+    pub lines: &'a str,
+}
+
+pub fn script_of(text: &str) -> Script<'_> {
+    let (head, lines) = text.split_once("\n\n").unwrap_or((text, ""));
+    let (shows, settings) = head.split_once('\n').unwrap_or((head, ""));
+    Script {
+        shows,
+        settings,
+        lines,
+    }
+}
+
+/// The lines of a script, and their answers.
+#[derive(Drop)]
+pub struct Texts {
+    pub input: String,
+    pub output: String,
+}
+
+pub fn texts_of<R: Abort + AllocGlobal>(rt: &R, lines: &str) -> Texts {
+    let mut input = String::new(rt.alloc());
+    let mut output = String::new(rt.alloc());
+    for line in lines.lines() {
+        let (step, answer) = line.split_once(" -> ").unwrap_or((line, ""));
+        push_line(rt, &mut input, step);
+        push_line(rt, &mut output, answer);
+    }
+    Texts { input, output }
+}
+
+fn push_line<R: Abort>(rt: &R, text: &mut String, line: &str) {
+    text.push_str(line).expect(rt, "memory");
+    text.push_str("\n").expect(rt, "memory");
+}
+
+// Runs the script, and asserts that its lines are answered as it says.
+fn assert_script<R: Abort + AllocGlobal>(rt: &R, script: Script<'_>) {
+    let texts = texts_of(rt, script.lines);
+    let mut reader: &[u8] = texts.input.as_str().as_bytes();
+    let mut written = Vec::new(rt.alloc());
+    let mut reported = Vec::new(rt.alloc());
+    let answered = run_file(
+        rt.alloc(),
+        script.settings.as_bytes(),
+        &mut reader,
+        &mut written,
+        &mut reported,
+    );
+    assert_bytes(rt, &reported, "", script.shows);
+    assert_bytes(rt, &written, texts.output.as_str(), script.shows);
+    assert_end(rt, answered, 0);
+}
+
+fn assert_scripts<R: Abort + AllocGlobal>(rt: &R, scripts: &str) {
+    for text in scripts.split("\n\n\n") {
+        assert_script(rt, script_of(text));
+    }
+}
+
+const GROUPS: &str = r#"an empty input
+service.groups = ["a"]
+
+
+two groups, one ticket each
+service.groups = ["a", "b"]
+
+{"op":"submit","group":"a","now":0,"arg":"x"} -> {"reply":"queued","ticket":1}
+{"op":"submit","group":"b","now":0,"arg":"y"} -> {"reply":"queued","ticket":1}
+{"op":"start","group":"a","now":1} -> {"arg":"x","reply":"assigned","ticket":1}
+{"op":"start","group":"b","now":1} -> {"arg":"y","reply":"assigned","ticket":1}
+{"op":"finish","group":"a","now":2,"ticket":1,"body":"one"} -> {"reply":"done"}
+{"op":"finish","group":"b","now":2,"ticket":1,"body":"two"} -> {"reply":"done"}
+{"op":"collect","group":"a","now":3,"ticket":1} -> {"body":"one","reply":"value"}
+{"op":"collect","group":"b","now":3,"ticket":1} -> {"body":"two","reply":"value"}
+
+
+each group has its own clock, which never turns back
+service.groups = ["a", "b"]
+
+{"op":"submit","group":"a","now":5000,"arg":"x"} -> {"reply":"queued","ticket":1}
+{"op":"submit","group":"b","now":100,"arg":"y"} -> {"reply":"queued","ticket":1}
+{"op":"submit","group":"a","now":4000,"arg":"z"} -> {"reply":"queued","ticket":2}
+{"op":"expire","group":"a","now":5999} -> {"count":0,"reply":"expired"}
+{"op":"expire","group":"a","now":6000} -> {"count":2,"reply":"expired"}
+{"op":"expire","group":"b","now":1099} -> {"count":0,"reply":"expired"}
+{"op":"expire","group":"b","now":1100} -> {"count":1,"reply":"expired"}
+
+
+a group of one slot
+service.groups = ["a", "b"]
+service.slots.a = 1
+
+{"op":"submit","group":"a","now":0,"arg":"x","context":1,"key":"k"} -> {"reply":"queued","ticket":1}
+{"op":"submit","group":"a","now":0,"arg":"y"} -> {"reply":"group-full"}
+{"op":"submit","group":"b","now":0,"arg":"y"} -> {"reply":"queued","ticket":1}
+{"op":"start","group":"a","now":0} -> {"arg":"x","reply":"assigned","ticket":1}
+{"op":"finish","group":"a","now":1,"ticket":1,"body":"r"} -> {"reply":"done"}
+{"op":"collect","group":"a","now":1,"ticket":1} -> {"body":"r","reply":"value"}
+{"op":"submit","group":"a","now":2,"arg":"y"} -> {"reply":"group-full"}
+{"op":"submit","group":"a","now":2,"arg":"x","context":1,"key":"k"} -> {"reply":"joined","ticket":1}
+{"op":"collect","group":"a","now":2,"ticket":1} -> {"body":"r","reply":"value"}
+{"op":"close","group":"a","now":3,"context":1} -> {"released":1,"reply":"closed"}
+{"op":"submit","group":"a","now":3,"arg":"y"} -> {"reply":"queued","ticket":2}
+
+
+a group is worn after its audited steps
+service.groups = ["a", "b"]
+service.auditSteps = 3
+
+{"op":"submit","group":"a","now":0,"arg":"x"} -> {"reply":"queued","ticket":1}
+{"op":"start","group":"a","now":0} -> {"arg":"x","reply":"assigned","ticket":1}
+{"op":"finish","group":"a","now":0,"ticket":1,"body":"r"} -> {"reply":"done"}
+{"op":"collect","group":"a","now":0,"ticket":1} -> {"reply":"worn"}
+{"op":"submit","group":"b","now":0,"arg":"y"} -> {"reply":"queued","ticket":1}
+
+
+the greatest moment
+service.groups = ["a"]
+
+{"op":"submit","group":"a","now":18446744073709551615,"arg":"x"} -> {"reply":"queued","ticket":1}
+{"op":"expire","group":"a","now":18446744073709551615} -> {"count":0,"reply":"expired"}
+{"op":"submit","group":"a","now":5,"arg":"y"} -> {"reply":"queued","ticket":2}
+{"op":"read","group":"a","now":18446744073709551615} -> {"busy":0,"circuit":"closed","errors":0,"events":{},"free":62,"percent":0,"queued":2,"reply":"metrics","total":0}"#;
+
+#[test]
+fn groups_have_tickets_slots_clocks_and_steps_of_their_own(rt: HostRuntime) {
+    assert_scripts(&rt, GROUPS);
+}
+
+const ADMISSION: &str = r#"a refused request is answered by its fallback
+service.groups = ["a"]
+hystrix.threadpool.default.coreSize = 1
+
+{"op":"submit","group":"a","now":0,"arg":"x"} -> {"reply":"queued","ticket":1}
+{"op":"submit","group":"a","now":0,"arg":"y"} -> {"cause":"thread-pool-rejected","reply":"fallback-due","ticket":2}
+{"op":"collect","group":"a","now":1,"ticket":2} -> {"cause":"thread-pool-rejected","reply":"run-fallback"}
+{"op":"fallback","group":"a","now":1,"ticket":2,"end":"success","body":"z"} -> {"reply":"done"}
+{"op":"collect","group":"a","now":2,"ticket":2} -> {"body":"z","cause":"thread-pool-rejected","reply":"fallback-value"}
+{"op":"collect","group":"a","now":2,"ticket":2} -> {"reply":"no-ticket"}
+{"op":"read","group":"a","now":2} -> {"busy":0,"circuit":"closed","errors":1,"events":{"FALLBACK_SUCCESS":1,"THREAD_POOL_REJECTED":1},"free":63,"percent":100,"queued":1,"reply":"metrics","total":1}
+
+
+a queue takes so many, and the pool refuses more
+service.groups = ["a"]
 hystrix.threadpool.default.coreSize = 1
 hystrix.threadpool.default.maxQueueSize = 5
 hystrix.threadpool.default.queueSizeRejectionThreshold = 1
-"#;
 
-const QUEUE_INPUT: &str = r#"{"op":"submit","group":"a","now":0,"arg":"x"}
-{"op":"submit","group":"a","now":0,"arg":"y"}
-{"op":"submit","group":"a","now":0,"arg":"z"}
-{"op":"start","group":"a","now":1}
-{"op":"start","group":"a","now":1}
-{"op":"finish","group":"a","now":2,"ticket":1,"body":"r"}
-{"op":"start","group":"a","now":3}
-{"op":"submit","group":"a","now":3,"arg":"w"}
-"#;
+{"op":"submit","group":"a","now":0,"arg":"x"} -> {"reply":"queued","ticket":1}
+{"op":"submit","group":"a","now":0,"arg":"y"} -> {"reply":"queued","ticket":2}
+{"op":"submit","group":"a","now":0,"arg":"z"} -> {"cause":"thread-pool-rejected","reply":"fallback-due","ticket":3}
+{"op":"start","group":"a","now":1} -> {"arg":"x","reply":"assigned","ticket":1}
+{"op":"start","group":"a","now":1} -> {"reply":"idle"}
+{"op":"finish","group":"a","now":2,"ticket":1,"body":"r"} -> {"reply":"done"}
+{"op":"start","group":"a","now":3} -> {"arg":"y","reply":"assigned","ticket":2}
+{"op":"submit","group":"a","now":3,"arg":"w"} -> {"reply":"queued","ticket":4}
 
-const QUEUE_OUTPUT: &str = r#"{"reply":"queued","ticket":1}
-{"reply":"queued","ticket":2}
-{"cause":"thread-pool-rejected","reply":"fallback-due","ticket":3}
-{"arg":"x","reply":"assigned","ticket":1}
-{"reply":"idle"}
-{"reply":"done"}
-{"arg":"y","reply":"assigned","ticket":2}
-{"reply":"queued","ticket":4}
-"#;
+
+a group without fallbacks, and one with a single permit
+service.groups = ["a", "b"]
+hystrix.command.default.fallback.enabled = false
+hystrix.command.b.execution.isolation.strategy = "SEMAPHORE"
+hystrix.command.b.execution.isolation.semaphore.maxConcurrentRequests = 1
+
+{"op":"submit","group":"a","now":0,"arg":"x"} -> {"reply":"queued","ticket":1}
+{"op":"start","group":"a","now":0} -> {"arg":"x","reply":"assigned","ticket":1}
+{"op":"fail","group":"a","now":1,"ticket":1,"bad":false} -> {"reply":"done"}
+{"op":"collect","group":"a","now":2,"ticket":1} -> {"cause":"failure","fallback":"disabled","reply":"error"}
+{"op":"read","group":"a","now":2} -> {"busy":0,"circuit":"closed","errors":1,"events":{"EXCEPTION_THROWN":1,"FAILURE":1},"free":64,"percent":100,"queued":0,"reply":"metrics","total":1}
+{"op":"submit","group":"b","now":0,"arg":"x"} -> {"reply":"inline","ticket":1}
+{"op":"submit","group":"b","now":0,"arg":"y"} -> {"cause":"semaphore-rejected","reply":"fallback-due","ticket":2}
+{"op":"finish","group":"b","now":1,"ticket":1,"body":"r"} -> {"reply":"done"}
+{"op":"submit","group":"b","now":1,"arg":"z"} -> {"reply":"inline","ticket":3}
+
+
+a fallback needs a permit and may be missing
+service.groups = ["a"]
+hystrix.command.default.fallback.isolation.semaphore.maxConcurrentRequests = 1
+
+{"op":"submit","group":"a","now":0,"arg":"x"} -> {"reply":"queued","ticket":1}
+{"op":"submit","group":"a","now":0,"arg":"y"} -> {"reply":"queued","ticket":2}
+{"op":"start","group":"a","now":0} -> {"arg":"x","reply":"assigned","ticket":1}
+{"op":"start","group":"a","now":0} -> {"arg":"y","reply":"assigned","ticket":2}
+{"op":"fail","group":"a","now":1,"ticket":1,"bad":false} -> {"reply":"done"}
+{"op":"fail","group":"a","now":1,"ticket":2,"bad":false} -> {"reply":"done"}
+{"op":"collect","group":"a","now":2,"ticket":1} -> {"cause":"failure","reply":"run-fallback"}
+{"op":"collect","group":"a","now":2,"ticket":2} -> {"cause":"failure","fallback":"rejected","reply":"error"}
+{"op":"collect","group":"a","now":2,"ticket":1} -> {"reply":"pending"}
+{"op":"read","group":"a","now":2} -> {"busy":0,"circuit":"closed","errors":2,"events":{"EXCEPTION_THROWN":1,"FAILURE":2,"FALLBACK_REJECTION":1},"free":63,"percent":100,"queued":0,"reply":"metrics","total":2}
+{"op":"fallback","group":"a","now":3,"ticket":1,"end":"missing"} -> {"reply":"done"}
+{"op":"collect","group":"a","now":3,"ticket":1} -> {"cause":"failure","fallback":"missing","reply":"error"}
+{"op":"fallback","group":"a","now":3,"ticket":1,"end":"missing"} -> {"reply":"not-in-fallback"}
+
+
+a body beside a failed fallback is not read
+service.groups = ["a"]
+
+{"op":"submit","group":"a","now":0,"arg":"x"} -> {"reply":"queued","ticket":1}
+{"op":"start","group":"a","now":0} -> {"arg":"x","reply":"assigned","ticket":1}
+{"op":"fail","group":"a","now":1,"ticket":1,"bad":false} -> {"reply":"done"}
+{"op":"collect","group":"a","now":2,"ticket":1} -> {"cause":"failure","reply":"run-fallback"}
+{"op":"fallback","group":"a","now":3,"ticket":1,"end":"failure","body":7} -> {"reply":"done"}
+{"op":"collect","group":"a","now":4,"ticket":1} -> {"cause":"failure","fallback":"failed","reply":"error"}"#;
 
 #[test]
-fn a_queue_takes_so_many_and_the_pool_refuses_more(rt: HostRuntime) {
-    assert_answers(&rt, QUEUE_SETTINGS, QUEUE_INPUT, QUEUE_OUTPUT);
+fn requests_are_taken_on_or_fall_back(rt: HostRuntime) {
+    assert_scripts(&rt, ADMISSION);
 }
 
-const FALLBACK_SETTINGS: &str = r#"service.groups = ["a"]
+const CIRCUITS: &str = r#"half of two runs fail and open the circuit of their own group
+service.groups = ["a", "b"]
+hystrix.command.default.circuitBreaker.requestVolumeThreshold = 2
+hystrix.command.default.circuitBreaker.errorThresholdPercentage = 50
+hystrix.command.default.metrics.healthSnapshot.intervalInMilliseconds = 0
+
+{"op":"submit","group":"a","now":0,"arg":"p"} -> {"reply":"queued","ticket":1}
+{"op":"submit","group":"a","now":0,"arg":"q"} -> {"reply":"queued","ticket":2}
+{"op":"start","group":"a","now":1} -> {"arg":"p","reply":"assigned","ticket":1}
+{"op":"start","group":"a","now":1} -> {"arg":"q","reply":"assigned","ticket":2}
+{"op":"finish","group":"a","now":2,"ticket":1,"body":"r"} -> {"reply":"done"}
+{"op":"fail","group":"a","now":2,"ticket":2,"bad":false} -> {"reply":"done"}
+{"op":"submit","group":"a","now":3,"arg":"s"} -> {"cause":"short-circuited","reply":"fallback-due","ticket":3}
+{"op":"read","group":"a","now":3} -> {"busy":0,"circuit":"open","errors":1,"events":{"FAILURE":1,"SHORT_CIRCUITED":1,"SUCCESS":1},"free":61,"percent":50,"queued":0,"reply":"metrics","total":2}
+{"op":"submit","group":"b","now":0,"arg":"p"} -> {"reply":"queued","ticket":1}
+{"op":"start","group":"b","now":1} -> {"arg":"p","reply":"assigned","ticket":1}
+{"op":"fail","group":"b","now":2,"ticket":1,"bad":false} -> {"reply":"done"}
+{"op":"submit","group":"b","now":3,"arg":"q"} -> {"reply":"queued","ticket":2}
+
+
+an open circuit takes one run after its sleep window
+service.groups = ["a"]
+hystrix.command.default.circuitBreaker.requestVolumeThreshold = 1
+hystrix.command.default.metrics.healthSnapshot.intervalInMilliseconds = 0
+
+{"op":"submit","group":"a","now":0,"arg":"p"} -> {"reply":"queued","ticket":1}
+{"op":"start","group":"a","now":50} -> {"arg":"p","reply":"assigned","ticket":1}
+{"op":"fail","group":"a","now":50,"ticket":1,"bad":false} -> {"reply":"done"}
+{"op":"submit","group":"a","now":100,"arg":"q"} -> {"cause":"short-circuited","reply":"fallback-due","ticket":2}
+{"op":"submit","group":"a","now":5099,"arg":"r"} -> {"cause":"short-circuited","reply":"fallback-due","ticket":3}
+{"op":"submit","group":"a","now":5100,"arg":"s"} -> {"reply":"queued","ticket":4}
+{"op":"submit","group":"a","now":5100,"arg":"u"} -> {"cause":"short-circuited","reply":"fallback-due","ticket":5}
+{"op":"read","group":"a","now":5100} -> {"busy":0,"circuit":"half-open","errors":1,"events":{"FAILURE":1,"SHORT_CIRCUITED":3},"free":59,"percent":100,"queued":1,"reply":"metrics","total":1}
+{"op":"start","group":"a","now":5101} -> {"arg":"s","reply":"assigned","ticket":4}
+{"op":"finish","group":"a","now":5102,"ticket":4,"body":"ok"} -> {"reply":"done"}
+{"op":"read","group":"a","now":5103} -> {"busy":0,"circuit":"closed","errors":0,"events":{"FAILURE":1,"SHORT_CIRCUITED":3,"SUCCESS":1},"free":59,"percent":0,"queued":0,"reply":"metrics","total":0}
+{"op":"submit","group":"a","now":5104,"arg":"v"} -> {"reply":"queued","ticket":6}
+
+
+a bad request and a timeout of the test call
+service.groups = ["a", "b"]
+hystrix.command.default.circuitBreaker.requestVolumeThreshold = 1
+hystrix.command.default.metrics.healthSnapshot.intervalInMilliseconds = 0
+hystrix.command.b.execution.isolation.strategy = "SEMAPHORE"
+hystrix.command.b.execution.isolation.semaphore.maxConcurrentRequests = 1
+
+{"op":"submit","group":"a","now":0,"arg":"p"} -> {"reply":"queued","ticket":1}
+{"op":"start","group":"a","now":0} -> {"arg":"p","reply":"assigned","ticket":1}
+{"op":"fail","group":"a","now":0,"ticket":1,"bad":false} -> {"reply":"done"}
+{"op":"submit","group":"a","now":100,"arg":"q"} -> {"cause":"short-circuited","reply":"fallback-due","ticket":2}
+{"op":"submit","group":"a","now":5100,"arg":"r"} -> {"reply":"queued","ticket":3}
+{"op":"start","group":"a","now":5100} -> {"arg":"r","reply":"assigned","ticket":3}
+{"op":"fail","group":"a","now":5200,"ticket":3,"bad":true} -> {"reply":"done"}
+{"op":"collect","group":"a","now":5200,"ticket":3} -> {"reply":"bad-request"}
+{"op":"submit","group":"a","now":5200,"arg":"s"} -> {"reply":"queued","ticket":4}
+{"op":"submit","group":"b","now":0,"arg":"p"} -> {"reply":"inline","ticket":1}
+{"op":"expire","group":"b","now":1000} -> {"count":1,"reply":"expired"}
+{"op":"submit","group":"b","now":1000,"arg":"q"} -> {"cause":"short-circuited","reply":"fallback-due","ticket":2}
+{"op":"submit","group":"b","now":6000,"arg":"r"} -> {"cause":"semaphore-rejected","reply":"fallback-due","ticket":3}
+{"op":"finish","group":"b","now":6001,"ticket":1,"body":"z"} -> {"reply":"late"}
+{"op":"submit","group":"b","now":10999,"arg":"s"} -> {"cause":"short-circuited","reply":"fallback-due","ticket":4}
+{"op":"submit","group":"b","now":11000,"arg":"u"} -> {"reply":"inline","ticket":5}
+
+
+the test call times out in the queue
+service.groups = ["a"]
+hystrix.command.default.circuitBreaker.requestVolumeThreshold = 1
+hystrix.command.default.metrics.healthSnapshot.intervalInMilliseconds = 0
+
+{"op":"submit","group":"a","now":0,"arg":"p"} -> {"reply":"queued","ticket":1}
+{"op":"start","group":"a","now":0} -> {"arg":"p","reply":"assigned","ticket":1}
+{"op":"fail","group":"a","now":0,"ticket":1,"bad":false} -> {"reply":"done"}
+{"op":"submit","group":"a","now":1,"arg":"q"} -> {"cause":"short-circuited","reply":"fallback-due","ticket":2}
+{"op":"submit","group":"a","now":5001,"arg":"r"} -> {"reply":"queued","ticket":3}
+{"op":"expire","group":"a","now":6001} -> {"count":1,"reply":"expired"}
+{"op":"start","group":"a","now":6001} -> {"reply":"idle"}
+{"op":"submit","group":"a","now":11000,"arg":"s"} -> {"cause":"short-circuited","reply":"fallback-due","ticket":4}
+{"op":"submit","group":"a","now":11001,"arg":"u"} -> {"reply":"queued","ticket":5}
+
+
+a circuit that is forced open
+service.groups = ["a"]
+hystrix.command.default.circuitBreaker.forceOpen = true
+hystrix.command.default.fallback.enabled = false
+
+{"op":"submit","group":"a","now":0,"arg":"x"} -> {"cause":"short-circuited","reply":"fallback-due","ticket":1}
+{"op":"collect","group":"a","now":0,"ticket":1} -> {"cause":"short-circuited","fallback":"disabled","reply":"error"}
+{"op":"read","group":"a","now":0} -> {"busy":0,"circuit":"closed","errors":0,"events":{"EXCEPTION_THROWN":1,"SHORT_CIRCUITED":1},"free":64,"percent":0,"queued":0,"reply":"metrics","total":0}
+
+
+health is looked at once in an interval
+service.groups = ["a"]
+hystrix.command.default.circuitBreaker.requestVolumeThreshold = 1
+
+{"op":"submit","group":"a","now":0,"arg":"p"} -> {"reply":"queued","ticket":1}
+{"op":"start","group":"a","now":0} -> {"arg":"p","reply":"assigned","ticket":1}
+{"op":"fail","group":"a","now":1,"ticket":1,"bad":false} -> {"reply":"done"}
+{"op":"submit","group":"a","now":499,"arg":"q"} -> {"reply":"queued","ticket":2}
+{"op":"submit","group":"a","now":500,"arg":"r"} -> {"cause":"short-circuited","reply":"fallback-due","ticket":3}"#;
+
+#[test]
+fn circuits_open_and_close(rt: HostRuntime) {
+    assert_scripts(&rt, CIRCUITS);
+}
+
+const TIMES: &str = r#"a run that timed out keeps its worker until it ends
+service.groups = ["a"]
 hystrix.threadpool.default.coreSize = 1
-"#;
 
-const FALLBACK_INPUT: &str = r#"{"op":"submit","group":"a","now":0,"arg":"x"}
-{"op":"submit","group":"a","now":0,"arg":"y"}
-{"op":"collect","group":"a","now":1,"ticket":2}
-{"op":"fallback","group":"a","now":1,"ticket":2,"end":"success","body":"z"}
-{"op":"collect","group":"a","now":2,"ticket":2}
-{"op":"collect","group":"a","now":2,"ticket":2}
-{"op":"read","group":"a","now":2}
-"#;
+{"op":"submit","group":"a","now":0,"arg":"x"} -> {"reply":"queued","ticket":1}
+{"op":"start","group":"a","now":0} -> {"arg":"x","reply":"assigned","ticket":1}
+{"op":"expire","group":"a","now":999} -> {"count":0,"reply":"expired"}
+{"op":"expire","group":"a","now":1000} -> {"count":1,"reply":"expired"}
+{"op":"submit","group":"a","now":1001,"arg":"y"} -> {"cause":"thread-pool-rejected","reply":"fallback-due","ticket":2}
+{"op":"finish","group":"a","now":1002,"ticket":1,"body":"r"} -> {"reply":"late"}
+{"op":"submit","group":"a","now":1003,"arg":"z"} -> {"reply":"queued","ticket":3}
+{"op":"collect","group":"a","now":1003,"ticket":1} -> {"cause":"timeout","reply":"run-fallback"}
+{"op":"finish","group":"a","now":1004,"ticket":1,"body":"r"} -> {"reply":"not-running"}
+{"op":"read","group":"a","now":1004} -> {"busy":0,"circuit":"closed","errors":2,"events":{"THREAD_POOL_REJECTED":1,"TIMEOUT":1},"free":61,"percent":100,"queued":1,"reply":"metrics","total":2}
 
-const FALLBACK_OUTPUT: &str = r#"{"reply":"queued","ticket":1}
-{"cause":"thread-pool-rejected","reply":"fallback-due","ticket":2}
-{"cause":"thread-pool-rejected","reply":"run-fallback"}
-{"reply":"done"}
-{"body":"z","cause":"thread-pool-rejected","reply":"fallback-value"}
-{"reply":"no-ticket"}
-{"busy":0,"circuit":"closed","errors":1,"events":{"FALLBACK_SUCCESS":1,"THREAD_POOL_REJECTED":1},"free":63,"percent":100,"queued":1,"reply":"metrics","total":1}
-"#;
 
-#[test]
-fn a_refused_request_is_answered_by_its_fallback(rt: HostRuntime) {
-    assert_answers(&rt, FALLBACK_SETTINGS, FALLBACK_INPUT, FALLBACK_OUTPUT);
-}
-
-const SLEEP_SETTINGS: &str = r#"service.groups = ["a"]
-hystrix.command.default.circuitBreaker.requestVolumeThreshold = 1
-hystrix.command.default.metrics.healthSnapshot.intervalInMilliseconds = 0
-"#;
-
-const SLEEP_INPUT: &str = r#"{"op":"submit","group":"a","now":0,"arg":"p"}
-{"op":"start","group":"a","now":50}
-{"op":"fail","group":"a","now":50,"ticket":1,"bad":false}
-{"op":"submit","group":"a","now":100,"arg":"q"}
-{"op":"submit","group":"a","now":5099,"arg":"r"}
-{"op":"submit","group":"a","now":5100,"arg":"s"}
-{"op":"submit","group":"a","now":5100,"arg":"u"}
-{"op":"read","group":"a","now":5100}
-{"op":"start","group":"a","now":5101}
-{"op":"finish","group":"a","now":5102,"ticket":4,"body":"ok"}
-{"op":"read","group":"a","now":5103}
-{"op":"submit","group":"a","now":5104,"arg":"v"}
-"#;
-
-const SLEEP_OUTPUT: &str = r#"{"reply":"queued","ticket":1}
-{"arg":"p","reply":"assigned","ticket":1}
-{"reply":"done"}
-{"cause":"short-circuited","reply":"fallback-due","ticket":2}
-{"cause":"short-circuited","reply":"fallback-due","ticket":3}
-{"reply":"queued","ticket":4}
-{"cause":"short-circuited","reply":"fallback-due","ticket":5}
-{"busy":0,"circuit":"half-open","errors":1,"events":{"FAILURE":1,"SHORT_CIRCUITED":3},"free":59,"percent":100,"queued":1,"reply":"metrics","total":1}
-{"arg":"s","reply":"assigned","ticket":4}
-{"reply":"done"}
-{"busy":0,"circuit":"closed","errors":0,"events":{"FAILURE":1,"SHORT_CIRCUITED":3,"SUCCESS":1},"free":59,"percent":0,"queued":0,"reply":"metrics","total":0}
-{"reply":"queued","ticket":6}
-"#;
-
-#[test]
-fn an_open_circuit_takes_one_run_after_its_sleep_window(rt: HostRuntime) {
-    assert_answers(&rt, SLEEP_SETTINGS, SLEEP_INPUT, SLEEP_OUTPUT);
-}
-
-const BAD_REQUEST_SETTINGS: &str = r#"service.groups = ["a"]
-hystrix.command.default.circuitBreaker.requestVolumeThreshold = 1
-hystrix.command.default.metrics.healthSnapshot.intervalInMilliseconds = 0
-"#;
-
-const BAD_REQUEST_INPUT: &str = r#"{"op":"submit","group":"a","now":0,"arg":"p"}
-{"op":"start","group":"a","now":0}
-{"op":"fail","group":"a","now":0,"ticket":1,"bad":false}
-{"op":"submit","group":"a","now":100,"arg":"q"}
-{"op":"submit","group":"a","now":5100,"arg":"r"}
-{"op":"start","group":"a","now":5100}
-{"op":"fail","group":"a","now":5200,"ticket":3,"bad":true}
-{"op":"collect","group":"a","now":5200,"ticket":3}
-{"op":"submit","group":"a","now":5200,"arg":"s"}
-"#;
-
-const BAD_REQUEST_OUTPUT: &str = r#"{"reply":"queued","ticket":1}
-{"arg":"p","reply":"assigned","ticket":1}
-{"reply":"done"}
-{"cause":"short-circuited","reply":"fallback-due","ticket":2}
-{"reply":"queued","ticket":3}
-{"arg":"r","reply":"assigned","ticket":3}
-{"reply":"done"}
-{"reply":"bad-request"}
-{"reply":"queued","ticket":4}
-"#;
-
-#[test]
-fn after_a_bad_request_the_next_submit_is_the_test_call(rt: HostRuntime) {
-    assert_answers(
-        &rt,
-        BAD_REQUEST_SETTINGS,
-        BAD_REQUEST_INPUT,
-        BAD_REQUEST_OUTPUT,
-    );
-}
-
-const TIMEOUT_SETTINGS: &str = r#"service.groups = ["a"]
+queued tickets time out, each in its time
+service.groups = ["a"]
 hystrix.threadpool.default.coreSize = 1
 hystrix.threadpool.default.maxQueueSize = 5
-"#;
 
-const TIMEOUT_INPUT: &str = r#"{"op":"submit","group":"a","now":0,"arg":"x"}
-{"op":"submit","group":"a","now":500,"arg":"y"}
-{"op":"submit","group":"a","now":600,"arg":"z"}
-{"op":"expire","group":"a","now":1000}
-{"op":"start","group":"a","now":1001}
-{"op":"finish","group":"a","now":1002,"ticket":2,"body":"r"}
-{"op":"expire","group":"a","now":1600}
-{"op":"start","group":"a","now":1601}
-{"op":"collect","group":"a","now":1601,"ticket":1}
-{"op":"fallback","group":"a","now":1602,"ticket":1,"end":"failure"}
-{"op":"collect","group":"a","now":1602,"ticket":1}
-{"op":"read","group":"a","now":1602}
-"#;
+{"op":"submit","group":"a","now":0,"arg":"x"} -> {"reply":"queued","ticket":1}
+{"op":"submit","group":"a","now":500,"arg":"y"} -> {"reply":"queued","ticket":2}
+{"op":"submit","group":"a","now":600,"arg":"z"} -> {"reply":"queued","ticket":3}
+{"op":"expire","group":"a","now":1000} -> {"count":1,"reply":"expired"}
+{"op":"start","group":"a","now":1001} -> {"arg":"y","reply":"assigned","ticket":2}
+{"op":"finish","group":"a","now":1002,"ticket":2,"body":"r"} -> {"reply":"done"}
+{"op":"expire","group":"a","now":1600} -> {"count":1,"reply":"expired"}
+{"op":"start","group":"a","now":1601} -> {"reply":"idle"}
+{"op":"collect","group":"a","now":1601,"ticket":1} -> {"cause":"timeout","reply":"run-fallback"}
+{"op":"fallback","group":"a","now":1602,"ticket":1,"end":"failure"} -> {"reply":"done"}
+{"op":"collect","group":"a","now":1602,"ticket":1} -> {"cause":"timeout","fallback":"failed","reply":"error"}
+{"op":"read","group":"a","now":1602} -> {"busy":0,"circuit":"closed","errors":2,"events":{"EXCEPTION_THROWN":1,"FALLBACK_FAILURE":1,"SUCCESS":1,"TIMEOUT":2},"free":62,"percent":66,"queued":0,"reply":"metrics","total":3}
 
-const TIMEOUT_OUTPUT: &str = r#"{"reply":"queued","ticket":1}
-{"reply":"queued","ticket":2}
-{"reply":"queued","ticket":3}
-{"count":1,"reply":"expired"}
-{"arg":"y","reply":"assigned","ticket":2}
-{"reply":"done"}
-{"count":1,"reply":"expired"}
-{"reply":"idle"}
-{"cause":"timeout","reply":"run-fallback"}
-{"reply":"done"}
-{"cause":"timeout","fallback":"failed","reply":"error"}
-{"busy":0,"circuit":"closed","errors":2,"events":{"EXCEPTION_THROWN":1,"FALLBACK_FAILURE":1,"SUCCESS":1,"TIMEOUT":2},"free":62,"percent":66,"queued":0,"reply":"metrics","total":3}
-"#;
+
+events leave the rolling window
+service.groups = ["a"]
+
+{"op":"submit","group":"a","now":0,"arg":"x"} -> {"reply":"queued","ticket":1}
+{"op":"submit","group":"a","now":0,"arg":"y"} -> {"reply":"queued","ticket":2}
+{"op":"submit","group":"a","now":0,"arg":"z"} -> {"reply":"queued","ticket":3}
+{"op":"start","group":"a","now":0} -> {"arg":"x","reply":"assigned","ticket":1}
+{"op":"start","group":"a","now":0} -> {"arg":"y","reply":"assigned","ticket":2}
+{"op":"start","group":"a","now":0} -> {"arg":"z","reply":"assigned","ticket":3}
+{"op":"finish","group":"a","now":0,"ticket":1,"body":"r"} -> {"reply":"done"}
+{"op":"finish","group":"a","now":999,"ticket":2,"body":"r"} -> {"reply":"done"}
+{"op":"finish","group":"a","now":5500,"ticket":3,"body":"r"} -> {"reply":"done"}
+{"op":"read","group":"a","now":9999} -> {"busy":0,"circuit":"closed","errors":0,"events":{"SUCCESS":3},"free":61,"percent":0,"queued":0,"reply":"metrics","total":3}
+{"op":"read","group":"a","now":10000} -> {"busy":0,"circuit":"closed","errors":0,"events":{"SUCCESS":1},"free":61,"percent":0,"queued":0,"reply":"metrics","total":1}
+{"op":"read","group":"a","now":1010000} -> {"busy":0,"circuit":"closed","errors":0,"events":{},"free":61,"percent":0,"queued":0,"reply":"metrics","total":0}
+
+
+a window of one millisecond
+service.groups = ["a"]
+hystrix.command.default.metrics.rollingStats.timeInMilliseconds = 1
+hystrix.command.default.metrics.rollingStats.numBuckets = 1
+
+{"op":"submit","group":"a","now":0,"arg":"x"} -> {"reply":"queued","ticket":1}
+{"op":"start","group":"a","now":0} -> {"arg":"x","reply":"assigned","ticket":1}
+{"op":"finish","group":"a","now":0,"ticket":1,"body":"r"} -> {"reply":"done"}
+{"op":"read","group":"a","now":0} -> {"busy":0,"circuit":"closed","errors":0,"events":{"SUCCESS":1},"free":63,"percent":0,"queued":0,"reply":"metrics","total":1}
+{"op":"read","group":"a","now":1} -> {"busy":0,"circuit":"closed","errors":0,"events":{},"free":63,"percent":0,"queued":0,"reply":"metrics","total":0}"#;
 
 #[test]
-fn late_tickets_time_out(rt: HostRuntime) {
-    assert_answers(&rt, TIMEOUT_SETTINGS, TIMEOUT_INPUT, TIMEOUT_OUTPUT);
+fn tickets_time_out_and_events_leave_the_window(rt: HostRuntime) {
+    assert_scripts(&rt, TIMES);
 }
 
-pub const CACHE_SETTINGS: &str = r#"service.groups = ["a"]
-"#;
+pub const CACHE: &str = r#"requests of one key share a ticket until the context is closed
+service.groups = ["a"]
 
-pub const CACHE_INPUT: &str = r#"{"op":"submit","group":"a","now":0,"arg":"x","context":7,"key":"k"}
-{"op":"submit","group":"a","now":0,"arg":"x","context":7,"key":"k"}
-{"op":"submit","group":"a","now":0,"arg":"x","context":8,"key":"k"}
-{"op":"start","group":"a","now":1}
-{"op":"finish","group":"a","now":2,"ticket":1,"body":"r"}
-{"op":"collect","group":"a","now":3,"ticket":1}
-{"op":"collect","group":"a","now":3,"ticket":1}
-{"op":"collect","group":"a","now":3,"ticket":1}
-{"op":"submit","group":"a","now":4,"arg":"x","context":7,"key":"k"}
-{"op":"collect","group":"a","now":4,"ticket":1}
-{"op":"close","group":"a","now":5,"context":7}
-{"op":"close","group":"a","now":5,"context":7}
-{"op":"submit","group":"a","now":6,"arg":"x","context":7,"key":"k"}
-{"op":"read","group":"a","now":6}
-"#;
-
-pub const CACHE_OUTPUT: &str = r#"{"reply":"queued","ticket":1}
-{"reply":"joined","ticket":1}
-{"reply":"queued","ticket":2}
-{"arg":"x","reply":"assigned","ticket":1}
-{"reply":"done"}
-{"body":"r","reply":"value"}
-{"body":"r","reply":"value"}
-{"reply":"no-ticket"}
-{"reply":"joined","ticket":1}
-{"body":"r","reply":"value"}
-{"released":1,"reply":"closed"}
-{"released":0,"reply":"closed"}
-{"reply":"queued","ticket":3}
-{"busy":0,"circuit":"closed","errors":0,"events":{"RESPONSE_FROM_CACHE":2,"SUCCESS":1},"free":62,"percent":0,"queued":2,"reply":"metrics","total":1}
-"#;
+{"op":"submit","group":"a","now":0,"arg":"x","context":7,"key":"k"} -> {"reply":"queued","ticket":1}
+{"op":"submit","group":"a","now":0,"arg":"x","context":7,"key":"k"} -> {"reply":"joined","ticket":1}
+{"op":"submit","group":"a","now":0,"arg":"x","context":8,"key":"k"} -> {"reply":"queued","ticket":2}
+{"op":"start","group":"a","now":1} -> {"arg":"x","reply":"assigned","ticket":1}
+{"op":"finish","group":"a","now":2,"ticket":1,"body":"r"} -> {"reply":"done"}
+{"op":"collect","group":"a","now":3,"ticket":1} -> {"body":"r","reply":"value"}
+{"op":"collect","group":"a","now":3,"ticket":1} -> {"body":"r","reply":"value"}
+{"op":"collect","group":"a","now":3,"ticket":1} -> {"reply":"no-ticket"}
+{"op":"submit","group":"a","now":4,"arg":"x","context":7,"key":"k"} -> {"reply":"joined","ticket":1}
+{"op":"collect","group":"a","now":4,"ticket":1} -> {"body":"r","reply":"value"}
+{"op":"close","group":"a","now":5,"context":7} -> {"released":1,"reply":"closed"}
+{"op":"close","group":"a","now":5,"context":7} -> {"released":0,"reply":"closed"}
+{"op":"submit","group":"a","now":6,"arg":"x","context":7,"key":"k"} -> {"reply":"queued","ticket":3}
+{"op":"read","group":"a","now":6} -> {"busy":0,"circuit":"closed","errors":0,"events":{"RESPONSE_FROM_CACHE":2,"SUCCESS":1},"free":62,"percent":0,"queued":2,"reply":"metrics","total":1}"#;
 
 #[test]
-fn requests_of_one_key_share_a_ticket_until_the_context_is_closed(rt: HostRuntime) {
-    assert_answers(&rt, CACHE_SETTINGS, CACHE_INPUT, CACHE_OUTPUT);
-}
-
-const MISSING_SETTINGS: &str = r#"service.groups = ["a"]
-hystrix.command.default.fallback.isolation.semaphore.maxConcurrentRequests = 1
-"#;
-
-const MISSING_INPUT: &str = r#"{"op":"submit","group":"a","now":0,"arg":"x"}
-{"op":"submit","group":"a","now":0,"arg":"y"}
-{"op":"start","group":"a","now":0}
-{"op":"start","group":"a","now":0}
-{"op":"fail","group":"a","now":1,"ticket":1,"bad":false}
-{"op":"fail","group":"a","now":1,"ticket":2,"bad":false}
-{"op":"collect","group":"a","now":2,"ticket":1}
-{"op":"collect","group":"a","now":2,"ticket":2}
-{"op":"collect","group":"a","now":2,"ticket":1}
-{"op":"read","group":"a","now":2}
-{"op":"fallback","group":"a","now":3,"ticket":1,"end":"missing"}
-{"op":"collect","group":"a","now":3,"ticket":1}
-{"op":"fallback","group":"a","now":3,"ticket":1,"end":"missing"}
-"#;
-
-const MISSING_OUTPUT: &str = r#"{"reply":"queued","ticket":1}
-{"reply":"queued","ticket":2}
-{"arg":"x","reply":"assigned","ticket":1}
-{"arg":"y","reply":"assigned","ticket":2}
-{"reply":"done"}
-{"reply":"done"}
-{"cause":"failure","reply":"run-fallback"}
-{"cause":"failure","fallback":"rejected","reply":"error"}
-{"reply":"pending"}
-{"busy":0,"circuit":"closed","errors":2,"events":{"EXCEPTION_THROWN":1,"FAILURE":2,"FALLBACK_REJECTION":1},"free":63,"percent":100,"queued":0,"reply":"metrics","total":2}
-{"reply":"done"}
-{"cause":"failure","fallback":"missing","reply":"error"}
-{"reply":"not-in-fallback"}
-"#;
-
-#[test]
-fn a_fallback_needs_a_permit_and_may_be_missing(rt: HostRuntime) {
-    assert_answers(&rt, MISSING_SETTINGS, MISSING_INPUT, MISSING_OUTPUT);
-}
-
-const AUDIT_SETTINGS: &str = r#"service.groups = ["a", "b"]
-service.auditSteps = 3
-"#;
-
-const AUDIT_INPUT: &str = r#"{"op":"submit","group":"a","now":0,"arg":"x"}
-{"op":"start","group":"a","now":0}
-{"op":"finish","group":"a","now":0,"ticket":1,"body":"r"}
-{"op":"collect","group":"a","now":0,"ticket":1}
-{"op":"submit","group":"b","now":0,"arg":"y"}
-"#;
-
-const AUDIT_OUTPUT: &str = r#"{"reply":"queued","ticket":1}
-{"arg":"x","reply":"assigned","ticket":1}
-{"reply":"done"}
-{"reply":"worn"}
-{"reply":"queued","ticket":1}
-"#;
-
-#[test]
-fn a_group_is_worn_after_its_audited_steps(rt: HostRuntime) {
-    assert_answers(&rt, AUDIT_SETTINGS, AUDIT_INPUT, AUDIT_OUTPUT);
-}
-
-const FAILED_INPUT: &str = r#"{"op":"submit","group":"a","now":0,"arg":"x"}
-{"op":"start","group":"a","now":0}
-{"op":"fail","group":"a","now":1,"ticket":1,"bad":false}
-{"op":"collect","group":"a","now":2,"ticket":1}
-{"op":"fallback","group":"a","now":3,"ticket":1,"end":"failure","body":7}
-{"op":"collect","group":"a","now":4,"ticket":1}
-"#;
-
-const FAILED_OUTPUT: &str = r#"{"reply":"queued","ticket":1}
-{"arg":"x","reply":"assigned","ticket":1}
-{"reply":"done"}
-{"cause":"failure","reply":"run-fallback"}
-{"reply":"done"}
-{"cause":"failure","fallback":"failed","reply":"error"}
-"#;
-
-#[test]
-fn a_body_beside_a_failed_fallback_is_not_read(rt: HostRuntime) {
-    assert_answers(&rt, ONE_GROUP, FAILED_INPUT, FAILED_OUTPUT);
+fn requests_of_one_key_share_a_ticket(rt: HostRuntime) {
+    assert_scripts(&rt, CACHE);
 }
 
 // The same name twice, a nested member, many members, numbers of other forms, and escapes.
-const SHAPES_INPUT: &str = r#"{"op":"submit","group":"a","now":0,"arg":"one","arg":"two"}
-{"more":[{"op":"read"}],"op":"start","group":"a","now":1}
-{"p":1,"q":2,"r":3,"s":4,"t":5,"op":"submit","group":"a","now":2,"arg":"three"}
-{"n":-1.5e3,"op":"start","group":"a","now":3}
-{ "op" : "st\u0061rt", "group" : "\u0061", "now" : 4, "n" : null, "m" : true }
-{"op":"submit","arg":"four","now":18446744073709551615,"now":5,"group":"b","group":"a","m":{}}
-"#;
+const SHAPES: &str = r#"members in any shape
+service.groups = ["a"]
 
-const SHAPES_OUTPUT: &str = r#"{"reply":"queued","ticket":1}
-{"arg":"two","reply":"assigned","ticket":1}
-{"reply":"queued","ticket":2}
-{"arg":"three","reply":"assigned","ticket":2}
-{"reply":"idle"}
-{"reply":"queued","ticket":3}
-"#;
+{"op":"submit","group":"a","now":0,"arg":"one","arg":"two"} -> {"reply":"queued","ticket":1}
+{"more":[{"op":"read"}],"op":"start","group":"a","now":1} -> {"arg":"two","reply":"assigned","ticket":1}
+{"p":1,"q":2,"r":3,"s":4,"t":5,"op":"submit","group":"a","now":2,"arg":"three"} -> {"reply":"queued","ticket":2}
+{"n":-1.5e3,"op":"start","group":"a","now":3} -> {"arg":"three","reply":"assigned","ticket":2}
+{ "op" : "st\u0061rt", "group" : "\u0061", "now" : 4, "n" : null, "m" : true } -> {"reply":"idle"}
+{"op":"submit","arg":"four","now":18446744073709551615,"now":5,"group":"b","group":"a","m":{}} -> {"reply":"queued","ticket":3}"#;
 
 #[test]
 fn members_are_read_in_any_shape(rt: HostRuntime) {
-    assert_answers(&rt, ONE_GROUP, SHAPES_INPUT, SHAPES_OUTPUT);
+    assert_scripts(&rt, SHAPES);
 }

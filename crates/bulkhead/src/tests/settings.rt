@@ -1,6 +1,6 @@
 //! Settings that are refused, and the lines that show the others.
 
-use super::{TWO_GROUPS_INPUT, assert_bytes, assert_end, assert_run};
+use super::{assert_bytes, assert_end, assert_run};
 use crate::check::check_file;
 use crate::report;
 use bh_props::SettingsError;
@@ -101,8 +101,7 @@ fn assert_check<R: Abort + AllocGlobal>(
 
 // Asserts that the settings are refused so by a run and a check, and that nothing is written.
 fn assert_refused<R: Abort + AllocGlobal>(rt: &R, settings: &[u8], text: &str) {
-    let input = TWO_GROUPS_INPUT.as_bytes();
-    assert_run(rt, settings, input, 1, "", text);
+    assert_run(rt, settings, b"{}\n", 1, "", text);
     assert_check(rt, settings, 1, "", text);
 }
 
@@ -175,7 +174,7 @@ hystrix.command.a.execution.isolation.strategy = "POOL"
 service.auditSteps = 0
 
 8 not a multiple: a
-hystrix.command.a.metrics.rollingStats.numBuckets = 3
+hystrix.command.a.metrics.rollingStats.numBuckets = 7
 
 7 out of range: a service.auditSteps
 hystrix.command.a.metrics.rollingStats.numBuckets = 3
@@ -197,6 +196,41 @@ fn want_of_memory_is_a_fault(rt: HostRuntime) {
 #[test]
 fn every_property_of_every_group_is_shown(rt: HostRuntime) {
     assert_check(&rt, SHOWN_SETTINGS.as_bytes(), 0, SHOWN_LINES, "");
+}
+
+const OWN_SETTINGS: &str = r#"service.groups = ["a"]
+hystrix.command.default.circuitBreaker.requestVolumeThreshold = 5
+hystrix.command.a.circuitBreaker.requestVolumeThreshold = 7
+hystrix.command.a.metrics.rollingPercentile.enabled = true
+hystrix.threadpool.a.maxQueueSize = 0
+"#;
+
+const OWN_LINES: &str = "a service.auditSteps none
+a service.slots 64
+a execution.isolation.strategy THREAD
+a execution.isolation.thread.timeoutInMilliseconds 1000
+a execution.timeout.enabled true
+a execution.isolation.semaphore.maxConcurrentRequests 10
+a fallback.isolation.semaphore.maxConcurrentRequests 10
+a fallback.enabled true
+a circuitBreaker.enabled true
+a circuitBreaker.requestVolumeThreshold 7
+a circuitBreaker.sleepWindowInMilliseconds 5000
+a circuitBreaker.errorThresholdPercentage 50
+a circuitBreaker.forceOpen false
+a circuitBreaker.forceClosed false
+a metrics.rollingStats.timeInMilliseconds 10000
+a metrics.rollingStats.numBuckets 10
+a metrics.healthSnapshot.intervalInMilliseconds 500
+a requestCache.enabled true
+a coreSize 10
+a maxQueueSize -1
+a queueSizeRejectionThreshold 5
+";
+
+#[test]
+fn a_groups_own_value_wins_and_other_names_are_passed_over(rt: HostRuntime) {
+    assert_check(&rt, OWN_SETTINGS.as_bytes(), 0, OWN_LINES, "");
 }
 
 // Asserts that a check ends in a fault with a writer that takes so many bytes.

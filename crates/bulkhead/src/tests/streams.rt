@@ -1,6 +1,6 @@
 //! Readers that give little at a time or fail, and writers that take little, fail or take none.
 
-use super::operations::{CACHE_INPUT, CACHE_OUTPUT, CACHE_SETTINGS};
+use super::operations::{CACHE, Texts, script_of, texts_of};
 use super::{assert_bytes, assert_end};
 use crate::run::run_file;
 use std::io;
@@ -64,10 +64,10 @@ fn feeds(bytes: &[u8]) -> usize {
     bytes.iter().filter(|byte| **byte == b'\n').count()
 }
 
-// A reader of the script of the cache.
-fn pieces(size: usize, fails_at: Option<usize>) -> PieceReader<'static> {
+// A reader of the input.
+fn pieces(input: &str, size: usize, fails_at: Option<usize>) -> PieceReader<'_> {
     PieceReader {
-        rest: CACHE_INPUT.as_bytes(),
+        rest: input.as_bytes(),
         size,
         calls: 0,
         fails_at,
@@ -89,7 +89,7 @@ fn writer<R: AllocGlobal>(
     }
 }
 
-// Runs the script of the cache, and asserts how it ends.
+// Runs the input under the settings of the script of the cache, and asserts how it ends.
 fn assert_piecewise<R: Abort + AllocGlobal>(
     rt: &R,
     reader: &mut PieceReader<'_>,
@@ -100,7 +100,7 @@ fn assert_piecewise<R: Abort + AllocGlobal>(
     let mut reported = Vec::new(rt.alloc());
     let answered = run_file(
         rt.alloc(),
-        CACHE_SETTINGS.as_bytes(),
+        script_of(CACHE).settings.as_bytes(),
         reader,
         writer,
         &mut reported,
@@ -111,69 +111,71 @@ fn assert_piecewise<R: Abort + AllocGlobal>(
 
 #[test]
 fn the_answers_to_one_piece_are_one_write(rt: HostRuntime) {
-    let mut reader = pieces(CACHE_INPUT.len(), None);
-    let mut writer = writer(&rt, CACHE_OUTPUT.len(), None, false);
+    let cache = texts_of(&rt, script_of(CACHE).lines);
+    let mut reader = pieces(cache.input.as_str(), cache.input.len(), None);
+    let mut writer = writer(&rt, cache.output.len(), None, false);
     assert_piecewise(&rt, &mut reader, &mut writer, 0, "");
     assert_eq!(rt; writer.calls, 1);
-    assert_bytes(&rt, &writer.written, CACHE_OUTPUT, "the output");
+    assert_bytes(&rt, &writer.written, cache.output.as_str(), "the output");
 }
 
 // Runs the script by pieces of such a size, and asserts that it is answered as ever.
-fn assert_pieces<R: Abort + AllocGlobal>(rt: &R, size: usize) {
-    let mut reader = pieces(size, None);
+fn assert_pieces<R: Abort + AllocGlobal>(rt: &R, cache: &Texts, size: usize) {
+    let mut reader = pieces(cache.input.as_str(), size, None);
     let mut writer = writer(rt, size, None, false);
     assert_piecewise(rt, &mut reader, &mut writer, 0, "");
-    assert_bytes(rt, &writer.written, CACHE_OUTPUT, "the output");
+    assert_bytes(rt, &writer.written, cache.output.as_str(), "the output");
 }
 
 #[test]
 fn pieces_of_any_length_give_the_same_bytes(rt: HostRuntime) {
+    let cache = texts_of(&rt, script_of(CACHE).lines);
     for size in 1..41 {
-        assert_pieces(&rt, size);
+        assert_pieces(&rt, &cache, size);
     }
 }
 
 // How many lines had come whole before the call of a reader of 40 bytes at a time.
-fn lines_before(call: usize) -> usize {
-    let given = CACHE_INPUT
-        .len()
-        .min(call.saturating_sub(1).saturating_mul(40));
-    feeds(&CACHE_INPUT.as_bytes()[..given])
+fn lines_before(input: &str, call: usize) -> usize {
+    let given = input.len().min(call.saturating_sub(1).saturating_mul(40));
+    feeds(&input.as_bytes()[..given])
 }
 
 // Asserts that the lines that had come whole were answered before the read that failed.
-fn assert_failed_read<R: Abort + AllocGlobal>(rt: &R, call: usize) {
-    let mut reader = pieces(40, Some(call));
-    let mut writer = writer(rt, CACHE_OUTPUT.len(), None, false);
+fn assert_failed_read<R: Abort + AllocGlobal>(rt: &R, cache: &Texts, call: usize) {
+    let mut reader = pieces(cache.input.as_str(), 40, Some(call));
+    let mut writer = writer(rt, cache.output.len(), None, false);
     assert_piecewise(rt, &mut reader, &mut writer, 3, "fault: read\n");
     let written = writer.written.as_slice();
-    assert_eq!(rt; feeds(written), lines_before(call));
-    assert!(rt; CACHE_OUTPUT.as_bytes().starts_with(written));
+    assert_eq!(rt; feeds(written), lines_before(cache.input.as_str(), call));
+    assert!(rt; cache.output.as_str().as_bytes().starts_with(written));
 }
 
 #[test]
 fn a_reader_that_fails_at_any_call(rt: HostRuntime) {
+    let cache = texts_of(&rt, script_of(CACHE).lines);
     // One for each piece of 40 bytes, and one that finds the end.
-    let calls = CACHE_INPUT.len() / 40 + 2;
+    let calls = cache.input.len() / 40 + 2;
     for call in 1..calls + 1 {
-        assert_failed_read(&rt, call);
+        assert_failed_read(&rt, &cache, call);
     }
 }
 
 // Asserts that what was written before the call that failed or took nothing stays written.
-fn assert_stuck<R: Abort + AllocGlobal>(rt: &R, call: usize, fails: bool) {
-    let mut reader = pieces(CACHE_INPUT.len(), None);
+fn assert_stuck<R: Abort + AllocGlobal>(rt: &R, cache: &Texts, call: usize, fails: bool) {
+    let mut reader = pieces(cache.input.as_str(), cache.input.len(), None);
     let mut writer = writer(rt, 40, Some(call), fails);
     assert_piecewise(rt, &mut reader, &mut writer, 3, "fault: write\n");
     let written = writer.written.as_slice();
     assert_eq!(rt; written.len(), call.saturating_sub(1).saturating_mul(40));
-    assert!(rt; CACHE_OUTPUT.as_bytes().starts_with(written));
+    assert!(rt; cache.output.as_str().as_bytes().starts_with(written));
 }
 
 #[test]
 fn a_writer_that_fails_or_takes_no_byte_at_any_call(rt: HostRuntime) {
-    for call in 1..CACHE_OUTPUT.len() / 40 + 1 {
-        assert_stuck(&rt, call, true);
-        assert_stuck(&rt, call, false);
+    let cache = texts_of(&rt, script_of(CACHE).lines);
+    for call in 1..cache.output.len() / 40 + 1 {
+        assert_stuck(&rt, &cache, call, true);
+        assert_stuck(&rt, &cache, call, false);
     }
 }
