@@ -1,13 +1,16 @@
 -- A conversation, from the reader's first byte to its last.
-use Rattle.std.proofs.Common.{◌≡◌, ℕ, List, [], ◌∷◌, ◌++◌, Option, Some, None, Result, Ok, Err, IfSome, refl, sym, ◌∙◌, subst, ap, append-nil, append_assoc}
+use Rattle.std.proofs.Common.{◌≡◌, ℕ, List, [], ◌∷◌, ◌++◌, Option, Some, None, Result, Ok, Err, IfSome, Vec, refl, sym, ◌∙◌, subst, ap, append-nil, append_assoc}
 use Rattle.std.proofs.KnownBytes.{Appends-trans, Appends-nil}
 use Rattle.std.specs.Io.KnownBytes.{Appends, Consumes, IsAtEnd}
+use Rattle.std.specs.declared.alloc.Global.{Global}
 use Rattle.bh_lines.specs.declared.port_error.PortError.{PortError}
 use Rattle.bh_lines.specs.declared.port_error.PortError.TheVariants.{Read, Write, Line, Memory}
-use Rattle.bh_lines.specs.Lines.{Cut, line, cut}
+use Rattle.bh_lines.specs.Lines.{Cut, line, stopped, cut}
 use Rattle.bh_control.specs.Answering.{Responder}
-use Rattle.bh_control.specs.Talk.{Talk, lines_then, AnswersEach}
-use Rattle.bh_control.specs.Conversed.{Wrote, Conversed, GoesOn, PieceOutcome, LastOutcome}
+use Rattle.bh_streams.specs.Watched.{WritesFront}
+use Rattle.bh_streams.proofs.Fronts.{front-after}
+use Rattle.bh_control.specs.Talk.{Talk, lines_then, AnswersEach, Fed}
+use Rattle.bh_control.specs.Conversed.{Wrote, WroteFront, Conversed, GoesOn, BreaksOff, PieceOutcome, LastOutcome}
 
 -- what was written for `all` while `left` and what is kept are left of it
 abbrev pub Progress : Option (List ℕ) → Option (List ℕ) → Responder → Option (List ℕ) → Option (List ℕ) → List ℕ → Type 0
@@ -32,6 +35,18 @@ wrote-more who w0 w1 w2 all mid rest ls out w each wrote is = record {
   out = w.out ++ out;
   each = each-append who w.lines ls w.out out w.each each;
   wrote = Appends-trans w0 w1 w2 w.out out w.wrote wrote;
+  cut_is = w.cut_is ∙ (ap (λ c. lines_then w.lines c) is ∙ sym (then-append w.lines ls rest));
+}
+
+-- what was written first, and then a front
+wrote-front : (who : Responder) (w0 w1 w2 : Option (List ℕ)) (all mid rest : Cut) (ls : List (List ℕ)) (out : List ℕ)
+    → Wrote who w0 w1 all mid → AnswersEach who ls out → WritesFront w1 w2 out → mid ≡ lines_then ls rest → WroteFront who w0 w2 all
+wrote-front who w0 w1 w2 all mid rest ls out w each front is = record {
+  lines = w.lines ++ ls;
+  out = w.out ++ out;
+  rest = rest;
+  each = each-append who w.lines ls w.out out w.each each;
+  front = front-after w0 w1 w2 w.out out w.wrote front;
   cut_is = w.cut_is ∙ (ap (λ c. lines_then w.lines c) is ∙ sym (then-append w.lines ls rest));
 }
 
@@ -67,7 +82,9 @@ progress-stops (Some all) (Some left) (Some after) w0 w1 w2 who rest piece talk 
     (ap cut (joined rest piece after left r) ∙ g.refused.cut_is after)
 progress-stops (Some all) (Some left) (Some after) w0 w1 w2 who rest piece talk Memory p r g = record { rest = cut (rest ++ left); some = wrote-same who w0 w1 w2 _ _ p g }
 progress-stops (Some all) (Some left) (Some after) w0 w1 w2 who rest piece talk Read p r g = absurd g
-progress-stops (Some all) (Some left) (Some after) w0 w1 w2 who rest piece talk Write p r g = tt
+progress-stops (Some all) (Some left) (Some after) w0 w1 w2 who rest piece talk Write p r g =
+    wrote-front who w0 w1 w2 _ _ _ g.lines g.out p g.each g.front
+    (ap cut (joined rest piece after left r) ∙ (g.cut_is after).1)
 
 at-end : (all now w0 w1 w2 : Option (List ℕ)) (who : Responder) (rest : List ℕ) (result : Result (Unit {0}) PortError)
     → Progress all now who w0 w1 rest → IsAtEnd now → LastOutcome who w1 w2 rest result → IfSome all (λ input. Conversed who w0 w2 (cut input) result)
@@ -82,7 +99,7 @@ at-end (Some all) (Some left) w0 w1 w2 who rest result p e g =
     last (Err Line) g none = wrote-more who w0 w1 w2 _ _ _ [] [] p refl g.1 (none ∙ g.0)
     last (Err Memory) g none = record { rest = cut (rest ++ left); some = wrote-same who w0 w1 w2 _ _ p g }
     last (Err Read) g none = absurd g
-    last (Err Write) g none = tt
+    last (Err Write) g none = wrote-front who w0 w1 w2 _ _ _ g.1.lines g.0 p g.1.each g.2 (none ∙ g.1.cut_is)
 
 -- the end of the input
 pub progress-ends : (all now next w0 w1 w2 : Option (List ℕ)) (who : Responder) (rest piece : List ℕ) (result : Result (Unit {0}) PortError)
@@ -100,3 +117,30 @@ pub progress-fails : (all now w0 w1 : Option (List ℕ)) (who : Responder) (rest
 progress-fails None now w0 w1 who rest p = tt
 progress-fails (Some all) None w0 w1 who rest p = absurd p
 progress-fails (Some all) (Some left) w0 w1 who rest p = record { rest = cut (rest ++ left); some = p }
+
+-- the answers to a piece, of which a front was written
+breaks-off : (who : Responder) (w0 w1 : Option (List ℕ)) (all rest : List ℕ) (out : Vec ℕ Global) (fault : Option PortError)
+    → Fed who all (Ok out) rest fault → WritesFront w0 w1 out.items → BreaksOff who w0 w1 all
+breaks-off who w0 w1 all rest out None fed front = record {
+  lines = fed.0.lines;
+  out = out.items;
+  each = fed.0.each;
+  front = front;
+  cut_is = λ more. (cut (rest ++ more), fed.0.cut_is more);
+}
+breaks-off who w0 w1 all rest out (Some Line) fed front = record {
+  lines = fed.lines;
+  out = out.items;
+  each = fed.each;
+  front = front;
+  cut_is = λ more. (stopped, fed.cut_is more);
+}
+breaks-off who w0 w1 all rest out (Some Memory) fed front = absurd fed
+breaks-off who w0 w1 all rest out (Some Read) fed front = absurd fed
+breaks-off who w0 w1 all rest out (Some Write) fed front = absurd fed
+
+pub piece-unwritten : (who : Responder) (w0 w1 : Option (List ℕ)) (all rest bytes : List ℕ) (out : Vec ℕ Global) (fault : Option PortError) (talk : Talk) (e : PortError)
+    → Fed who all (Ok out) rest fault → bytes ≡ out.items → WritesFront w0 w1 bytes → e ≡ Write → PieceOutcome who w0 w1 all (Err e) talk
+piece-unwritten who w0 w1 all rest bytes out fault talk e fed same front is =
+    subst (λ (k : PortError). PieceOutcome who w0 w1 all (Err k) talk) (sym is)
+    (breaks-off who w0 w1 all rest out fault fed (subst (λ (ys : List ℕ). WritesFront w0 w1 ys) same front))

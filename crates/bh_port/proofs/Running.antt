@@ -7,9 +7,11 @@ use Rattle.bh_core.specs.Groups.{Groups}
 use Rattle.bh_lines.specs.declared.port_error.PortError.{PortError}
 use Rattle.bh_lines.specs.declared.port_error.PortError.TheVariants.{Read, Write, Line, Memory}
 use Rattle.bh_lines.specs.Lines.{Cut, cut, stops}
+use Rattle.bh_streams.specs.Watched.{WritesFront}
 use Rattle.bh_port.specs.Text.{text}
-use Rattle.bh_port.specs.Port.{Agrees, WritesFront, Answered, Outcome, IsMemoryOrRead}
-use Rattle.bh_port.proofs.Answering.{front-after, whole-front}
+use Rattle.bh_port.specs.Port.{Agrees, Answered, Outcome, IsMemoryOrRead}
+use Rattle.bh_streams.proofs.Fronts.{front-after}
+use Rattle.bh_port.proofs.Answering.{whole-front}
 use Rattle.bh_props.specs.Settings.{GroupSettings}
 
 -- what was written for `all` while `left` and the buffer are left of it

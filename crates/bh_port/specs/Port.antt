@@ -1,5 +1,5 @@
 -- What the parts of a script do to the bytes that have come, to the groups, and to what is written.
-use Rattle.std.specs.Prelude.{◌≡◌, ℕ, ◌==◌, Bool, true, false, List, ◌++◌, slice_get, take, Option, Some, Result, Ok, Err}
+use Rattle.std.specs.Prelude.{◌≡◌, ℕ, true, false, List, ◌++◌, slice_get, Option, Some, Result, Ok, Err}
 use Rattle.std.specs.Io.KnownBytes.{Appends}
 use Rattle.bh_base.specs.declared.props.GroupProps.{GroupProps}
 use Rattle.bh_base.specs.declared.step.Step.{Step}
@@ -9,11 +9,8 @@ use Rattle.bh_lines.specs.declared.port_error.PortError.{PortError}
 use Rattle.bh_lines.specs.declared.port_error.PortError.TheVariants.{Read, Write, Line, Memory}
 use Rattle.bh_lines.specs.Lines.{Cut, cut, stops}
 use Rattle.bh_lines.specs.StepLine.{step_of}
+use Rattle.bh_streams.specs.Watched.{WritesFront}
 use Rattle.bh_port.specs.Text.{names_in, group_after, answer_to, steps_with, text}
-
--- The front of `bytes` was written, or all of it, and nothing else.
-abbrev pub WritesFront : Option (List ℕ) → Option (List ℕ) → List ℕ → Type 0
-WritesFront old new bytes = (n : ℕ) × Appends old new (take n bytes)
 
 -- each group of the service looks as after its own steps of these
 pub record Agrees (service : GroupSettings) (core : Groups) (steps : List Step) : Type 0 where
@@ -54,8 +51,3 @@ IsNotRead Line = Unit {0}
 IsNotRead Memory = Unit {0}
 IsNotRead Write = Unit {0}
 IsNotRead Read = ⊥
-
--- a write that failed, or took no byte
-abbrev pub took_none : {E : Type 0} → Result ℕ E → Bool
-took_none (Ok n) = n == 0
-took_none (Err e) = true
