@@ -1,9 +1,9 @@
 -- What a whole conversation writes.
-use Rattle.std.specs.Prelude.{◌≡◌, ℕ, List, [], ◌++◌, Option, None, Result, Ok, Err}
+use Rattle.std.specs.Prelude.{◌≡◌, ℕ, false, List, [], ◌++◌, Option, Some, None, Result, Ok, Err}
 use Rattle.std.specs.Io.KnownBytes.{Appends}
 use Rattle.bh_lines.specs.declared.port_error.PortError.{PortError}
 use Rattle.bh_lines.specs.declared.port_error.PortError.TheVariants.{Read, Write, Line, Memory}
-use Rattle.bh_lines.specs.Lines.{Cut, ended, stopped, cut}
+use Rattle.bh_lines.specs.Lines.{Cut, ended, stopped, cut, has_line}
 use Rattle.bh_streams.specs.Watched.{WritesFront}
 use Rattle.bh_control.specs.Answering.{Responder}
 use Rattle.bh_control.specs.Talk.{Talk, lines_then, AnswersEach, Answered, AnsweredLast, Refused}
@@ -39,12 +39,32 @@ Conversed who w0 w1 all (Err Memory) = WroteSome who w0 w1 all
 Conversed who w0 w1 all (Err Read) = WroteSome who w0 w1 all
 Conversed who w0 w1 all (Err Write) = WroteFront who w0 w1 all
 
+-- Every line that had ended in what was read of `input` was answered: `left` was not read, and `kept` is of a line that had
+-- not ended.
+pub record AnsweredRead (who : Responder) (w0 w1 : Option (List ℕ)) (input left : List ℕ) : Type 0 where
+  pub read : List ℕ
+  pub kept : List ℕ
+  pub lines : List (List ℕ)
+  pub out : List ℕ
+  pub input_is : input ≡ read ++ left
+  pub each : AnswersEach who lines out
+  pub wrote : Appends w0 w1 out
+  pub cut_is : (more : List ℕ) → cut (read ++ more) ≡ lines_then lines (cut (kept ++ more))
+  pub no_line : has_line kept ≡ false
+
+-- the same of a reader that had these bytes left, if they are known, and has those left now
+abbrev pub HasAnswered : Responder → Option (List ℕ) → Option (List ℕ) → Option (List ℕ) → Option (List ℕ) → Type 0
+HasAnswered who w0 w1 None left = Unit {0}
+HasAnswered who w0 w1 (Some input) None = ⊥
+HasAnswered who w0 w1 (Some input) (Some left) = AnsweredRead who w0 w1 input left
+
 -- The lines that have ended were answered, and the conversation goes on.
 pub record GoesOn (who : Responder) (w0 w1 : Option (List ℕ)) (all : List ℕ) (talk : Talk) : Type 0 where
   pub out : List ℕ
   pub answered : Answered who all talk.rest out
   pub wrote : Appends w0 w1 out
   pub going : talk.fault ≡ None
+  pub no_line : has_line talk.rest ≡ false
 
 -- The lines before one that is refused were answered.
 pub record Stops (who : Responder) (w0 w1 : Option (List ℕ)) (all : List ℕ) : Type 0 where

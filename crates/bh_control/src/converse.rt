@@ -5,7 +5,7 @@ ghost use Rattle.bh_lines.specs.Lines.{cut};
 ghost use Rattle.bh_streams.specs.Watched.{reader_of, bytes_left, HasRead, OneFailed, NoneFailed, writer_of, bytes_held, OneRefused, NoneRefused};
 ghost use Rattle.bh_control.specs.Answering.{responder};
 ghost use Rattle.bh_control.specs.Talk.{Answered};
-ghost use Rattle.bh_control.specs.Conversed.{PieceOutcome, LastOutcome, Conversed};
+ghost use Rattle.bh_control.specs.Conversed.{PieceOutcome, LastOutcome, Conversed, HasAnswered};
 
 use crate::control::Control;
 use crate::conversation::Conversation;
@@ -21,8 +21,8 @@ const READ_SIZE: usize = 4096;
 ///
 /// The replies to all lines that one read brought to an end are written together. `Line` and `Memory` come as in a
 /// `Conversation`, `Line` once the lines before it are answered; `Read` where the reader fails in this call or 2^64 - 1
-/// reads were made, and `Write` where the writer fails in this call or takes no byte. The conversation ends at the first
-/// read or write that fails.
+/// reads were made, with each line answered whose end was read; `Write` where the writer fails in this call or takes no
+/// byte. The conversation ends at the first read or write that fails.
 pub fn converse<R: Read, W: Write, C: Control>(
     alloc: Global,
     reader: &mut WatchedReader<'_, R>,
@@ -34,6 +34,8 @@ pub fn converse<R: Read, W: Write, C: Control>(
     ensures groups { C.names control.new ≡ C.names control.old }
     ensures read { result ≡ Err PortError.Read → OneFailed reader.old reader.new ⊎ HasRead (2 ^ 64 - 1) reader.old reader.new }
     ensures not_failed { (result ≡ Err PortError.Read) ⊎ NoneFailed reader.old reader.new }
+    ensures answered { result ≡ Err PortError.Read → HasAnswered (responder (C.names control.old) C.may_show C.may_answer C.may_close)
+        (bytes_held W.contents writer.old) (bytes_held W.contents writer.new) (bytes_left R.remaining reader.old) (bytes_left R.remaining reader.new) }
     ensures write { result ≡ Err PortError.Write → OneRefused writer.old writer.new }
     ensures not_refused { (result ≡ Err PortError.Write) ⊎ NoneRefused writer.old writer.new }
     ensures answers { IfSome (bytes_left R.remaining reader.old) (λ input.

@@ -1,7 +1,7 @@
 //! Reading a piece at a time.
 
 ghost use Rattle.std.specs.Prelude.{◌≡◌, ◌⊎◌, ◌<◌, ◌++◌, ℕ, List, length, true, false, Err, OnOk, IfOk, IfErr};
-ghost use Rattle.std.specs.Io.KnownBytes.{Consumes, IsAtEnd};
+ghost use Rattle.std.specs.Io.KnownBytes.{Keeps, Consumes, IsAtEnd};
 ghost use Rattle.bh_streams.specs.Watched.{counted, reader_of, reads_of, bytes_left, OneFailed, NoneFailed};
 ghost use Rattle.bh_port.specs.Port.{IsMemoryOrRead};
 
@@ -26,6 +26,7 @@ pub fn fill<R: Read>(
     ensures end { IfOk result (λ goes_on. goes_on ≡ false → IsAtEnd (bytes_left R.remaining reader.new) × (buffer.new ≡ buffer.old)) }
     ensures err { IfErr result IsMemoryOrRead }
     ensures failed { result ≡ Err PortError.Read → OneFailed reader.old reader.new }
+    ensures kept { result ≡ Err PortError.Read → Keeps (bytes_left R.remaining reader.old) (bytes_left R.remaining reader.new) × (buffer.new ≡ buffer.old) }
     ensures not_failed { (result ≡ Err PortError.Read) ⊎ NoneFailed reader.old reader.new }
     ensures one { reads_of reader.new ≡ counted (reads_of reader.old) 1 }
 {

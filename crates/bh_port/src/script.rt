@@ -8,7 +8,7 @@ ghost use Rattle.bh_props.specs.Settings.{IsAuditLimit};
 ghost use Rattle.bh_port.specs.Text.{step_limit};
 ghost use Rattle.bh_lines.specs.Lines.{cut, has_line};
 ghost use Rattle.bh_streams.specs.Watched.{reader_of, reads_of, bytes_left, HasRead, OneFailed, NoneFailed, writer_of, bytes_held, OneRefused, NoneRefused};
-ghost use Rattle.bh_port.specs.Port.{Agrees, Answered, Outcome, IsNotRead, IsMemoryOrRead};
+ghost use Rattle.bh_port.specs.Port.{Agrees, Answered, HasAnswered, Outcome, IsNotRead, IsMemoryOrRead};
 
 use crate::answers::{answer_last, answer_lines};
 use crate::reader::fill;
@@ -38,8 +38,9 @@ const MOST_READS: u64 = 1 << 40;
 /// The lines that one read brought to an end are answered, and the answers written together, before the next read.
 ///
 /// `Line` comes at the first line that is of over 1,024 bytes or not UTF-8, with the lines before it answered; `Read`
-/// where the reader fails in this call or 2^40 reads were made in it; `Write` where the writer fails in this call or takes
-/// no byte; `Memory` where memory is refused. The run ends at the first read or write that fails.
+/// where the reader fails in this call, with each line answered whose end was read, or 2^40 reads were made in it;
+/// `Write` where the writer fails in this call or takes no byte; `Memory` where memory is refused. The run ends at the
+/// first read or write that fails.
 pub fn script<R: Read, W: Write>(
     alloc: Global,
     reader: &mut WatchedReader<'_, R>,
@@ -52,6 +53,8 @@ pub fn script<R: Read, W: Write>(
     ensures same_writer { (writer_of writer.new).ghost_name ≡ (writer_of writer.old).ghost_name }
     ensures read { result ≡ Err PortError.Read → OneFailed reader.old reader.new ⊎ HasRead (2 ^ 40) reader.old reader.new }
     ensures not_failed { (result ≡ Err PortError.Read) ⊎ NoneFailed reader.old reader.new }
+    ensures answered { result ≡ Err PortError.Read → HasRead (2 ^ 40) reader.old reader.new ⊎ HasAnswered (bytes_left R.remaining reader.old) (bytes_left R.remaining reader.new)
+        (bytes_held W.contents writer.old) (bytes_held W.contents writer.new) (settings_seen settings.now) }
     ensures reads { reads_of reader.new ≤ reads_of reader.old + 2 ^ 40 }
     ensures write { result ≡ Err PortError.Write → OneRefused writer.old writer.new }
     ensures not_refused { (result ≡ Err PortError.Write) ⊎ NoneRefused writer.old writer.new }
@@ -109,6 +112,8 @@ fn answer_all<R: Read, W: Write>(
     ensures same_writer { (writer_of writer.new).ghost_name ≡ (writer_of writer.old).ghost_name }
     ensures read { result ≡ Err PortError.Read → OneFailed reader.old reader.new ⊎ HasRead (2 ^ 40) reader.old reader.new }
     ensures not_failed { (result ≡ Err PortError.Read) ⊎ NoneFailed reader.old reader.new }
+    ensures answered { result ≡ Err PortError.Read → HasRead (2 ^ 40) reader.old reader.new ⊎ HasAnswered (bytes_left R.remaining reader.old) (bytes_left R.remaining reader.new)
+        (bytes_held W.contents writer.old) (bytes_held W.contents writer.new) (settings_seen settings.now) }
     ensures reads { reads_of reader.new ≤ reads_of reader.old + 2 ^ 40 }
     ensures write { result ≡ Err PortError.Write → OneRefused writer.old writer.new }
     ensures not_refused { (result ≡ Err PortError.Write) ⊎ NoneRefused writer.old writer.new }

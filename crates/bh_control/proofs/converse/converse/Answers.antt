@@ -1,9 +1,9 @@
-use Rattle.std.proofs.Common.{rules, arith, ◌≡◌, ◌⊎◌, ℕ, List, ◌++◌, take, Ok, Err, ◌∙◌, inl, inr, subst}
+use Rattle.std.proofs.Common.{rules, arith, ◌≡◌, ◌⊎◌, ℕ, List, ◌++◌, take, Ok, Err, ◌∙◌, inl, inr, refl, subst}
 use Rattle.bh_lines.specs.declared.port_error.PortError.{PortError}
 use Rattle.bh_streams.specs.Watched.{bytes_left, bytes_held}
 use Rattle.bh_control.specs.Answering.{responder}
 use Rattle.bh_control.specs.Conversed.{PieceOutcome, LastOutcome}
-use Rattle.bh_control.proofs.Conversing.{progress-piece, progress-stops, progress-ends}
+use Rattle.bh_control.proofs.Conversing.{progress-start, progress-piece, progress-stops, progress-ends, progress-answered}
 use Rattle.bh_control.proofs.converse.converse.Goals as goal
 
 pub returns-then-count-eq0-clause-answers : goal.returns-then-count-eq0-clause-answers
@@ -40,8 +40,26 @@ loop-preserved g c =
       same_writer = c.in-Ok-answer_piece.ensures.same_writer ∙ inv.same_writer;
       names = c.in-Ok-answer_piece.ensures.groups ∙ inv.names;
       going = outcome.going;
+      no_line = outcome.no_line;
       read_enough = omega (arith, c.in-Ok.ensures.one);
       none_failed = c.in-Ok.ensures.ok ∙ inv.none_failed;
       none_refused = if-ok _ _ c.in-Ok-answer_piece.ensures.not_refused ∙ inv.none_refused;
       progress = progress-piece _ (bytes_left g.R.Read.remaining c.loop.reader) _ _ (bytes_held g.W.Write.contents c.loop.writer) _ _ c.loop.conversation.rest piece c.answer_piece.new.conversation inv.progress read.0 outcome;
     }
+
+pub loop-init : goal.loop-init
+loop-init g c = record {
+  same_reader = refl;
+  same_writer = refl;
+  names = refl;
+  going = search rules;
+  no_line = rw c.new-conversation.ensures refl;
+  read_enough = omega arith;
+  none_failed = refl;
+  none_refused = refl;
+  progress = progress-start _ _ _ _ (search rules);
+}
+
+pub returns-in-Err-clause-answered : goal.returns-in-Err-clause-answered
+returns-in-Err-clause-answered g c = λ same.
+    progress-answered _ _ _ _ _ _ _ c.loop.invariant.progress c.in-Err.ensures.bytes c.loop.invariant.no_line

@@ -1,4 +1,5 @@
-use Rattle.std.proofs.Common.{◌≡◌, ◌≤◌, None}
+use Rattle.std.proofs.Common.{◌≡◌, ◌≤◌, false, None}
+use Rattle.bh_lines.specs.Lines.{has_line}
 use Rattle.bh_streams.specs.Watched.{counted, reader_of, reads_of, bytes_left, NoneFailed, writer_of, bytes_held, NoneRefused}
 use Rattle.bh_control.specs.Answering.{responder}
 use Rattle.bh_control.proofs.Conversing.{Progress}
@@ -10,6 +11,7 @@ invariant-loop g l = record {
   same_writer : (writer_of l.writer).ghost_name ≡ (writer_of l.fn.writer).ghost_name;
   names : g.C.Control.names l.control ≡ g.C.Control.names l.fn.control;
   going : l.conversation.fault ≡ None;
+  no_line : has_line l.conversation.rest ≡ false;
   read_enough : counted (reads_of l.fn.reader) l.counter ≤ reads_of l.reader;
   none_failed : NoneFailed l.fn.reader l.reader;
   none_refused : NoneRefused l.fn.writer l.writer;

@@ -1,10 +1,10 @@
-use Rattle.std.proofs.Common.{rules, arith, refl, ◌∙◌, Result, Ok, IfErr, ◌≡◌, ◌⊎◌, inl, inr, Err}
+use Rattle.std.proofs.Common.{rules, arith, refl, ap, ◌∙◌, Result, Ok, IfErr, ◌≡◌, ◌⊎◌, inl, inr, Err}
 use Rattle.std.proofs.lemmas.Result.{err_from_is_err_and}
 use Rattle.bh_lines.specs.declared.port_error.PortError.TheVariants.{Read, Write, Line, Memory}
 use Rattle.bh_lines.specs.declared.port_error.PortError.{PortError}
 use Rattle.bh_streams.specs.Watched.{bytes_left, bytes_held}
 use Rattle.bh_port.specs.Port.{IsNotRead}
-use Rattle.bh_port.proofs.Running.{progress-start, progress-lines, progress-read, progress-stops, progress-ends, progress-front}
+use Rattle.bh_port.proofs.Running.{progress-start, progress-lines, progress-read, progress-stops, progress-ends, progress-front, progress-failed}
 use Rattle.bh_port.proofs.script.answer_all.Goals as goal
 
 pub returns-in_err-write_answers-clause-text : goal.returns-in_err-write_answers-clause-text
@@ -65,6 +65,25 @@ if-not-read (Err e) h same = not-read (Err e) e refl h same
 
 pub returns-then-not-branch-clause-read : goal.returns-then-not-branch-clause-read
 returns-then-not-branch-clause-read g c = λ same. absurd (if-not-read _ c.write_last.ensures.no_read same)
+
+pub returns-in_err-write_answers-clause-answered : goal.returns-in_err-write_answers-clause-answered
+returns-in_err-write_answers-clause-answered g c =
+    let p = err_from_is_err_and c.from_residual.result c.from_residual.ensures.1 in
+    let is : c.from_residual.result ≡ Err c.in_err-write_answers.field-0.0 = rw (p.1, p.2) refl in
+    λ same. absurd (not-read _ _ is c.in_err-write_answers.ensures.no_read same)
+
+pub returns-then-not-branch-clause-answered : goal.returns-then-not-branch-clause-answered
+returns-then-not-branch-clause-answered g c = λ same. absurd (if-not-read _ c.write_last.ensures.no_read same)
+
+error-is : (r : Result (Unit {0}) PortError) (x e k : PortError) → r ≡ Err x → x ≡ e → r ≡ Err k → e ≡ k
+error-is r x e k made is same = cc
+
+pub returns-in_err-fill-clause-answered : goal.returns-in_err-fill-clause-answered
+returns-in_err-fill-clause-answered g c = λ same.
+    let p = err_from_is_err_and c.from_residual-in_err-fill.result c.from_residual-in_err-fill.ensures.1 in
+    let now = progress-lines _ _ _ _ _ _ _ c.write_answers.new.core _ _ c.loop.invariant.progress c.in_ok-write_answers.ensures.answered in
+    let kept = c.in_err-fill.ensures.kept (ap Err (error-is _ _ _ _ p.1 p.2 same)) in
+    inr (progress-failed _ _ _ _ _ _ _ _ now kept.0 c.in_ok-write_answers.ensures.none_left)
 
 pub loop-init : goal.loop-init
 loop-init g c = record {
