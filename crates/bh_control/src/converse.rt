@@ -1,14 +1,16 @@
 //! A whole conversation, over a reader and a writer.
 
-ghost use Rattle.std.specs.Prelude.{◌≡◌, ◌++◌, None, IfSome};
+ghost use Rattle.std.specs.Prelude.{◌≡◌, ◌⊎◌, ◌-◌, ◌^◌, ◌++◌, None, Err, IfSome};
 ghost use Rattle.bh_lines.specs.Lines.{cut};
+ghost use Rattle.bh_streams.specs.Watched.{reader_of, bytes_left, HasRead, OneFailed, NoneFailed, writer_of, bytes_held, OneRefused, NoneRefused};
 ghost use Rattle.bh_control.specs.Answering.{responder};
 ghost use Rattle.bh_control.specs.Talk.{Answered};
-ghost use Rattle.bh_control.specs.Conversed.{PieceOutcome, LastOutcome, Conversed};
+ghost use Rattle.bh_control.specs.Conversed.{PieceOutcome, LastOutcome, Conversed, HasAnswered};
 
 use crate::control::Control;
 use crate::conversation::Conversation;
 use bh_lines::PortError;
+use bh_streams::{WatchedReader, WatchedWriter, write};
 use std::alloc::Global;
 use std::io::{Read, Write};
 
@@ -18,17 +20,26 @@ const READ_SIZE: usize = 4096;
 /// Answers the control lines of the reader to the writer, as they come, to the end of the input.
 ///
 /// The replies to all lines that one read brought to an end are written together. `Line` and `Memory` come as in a
-/// `Conversation`, `Line` once the lines before it are answered; `Read` where the reader fails, and `Write` where the
-/// writer does.
+/// `Conversation`, `Line` once the lines before it are answered; `Read` where the reader fails in this call or 2^64 - 1
+/// reads were made, with each line answered whose end was read; `Write` where the writer fails in this call or takes no
+/// byte. The conversation ends at the first read or write that fails.
 pub fn converse<R: Read, W: Write, C: Control>(
     alloc: Global,
-    reader: &mut R,
-    writer: &mut W,
+    reader: &mut WatchedReader<'_, R>,
+    writer: &mut WatchedWriter<'_, W>,
     control: &mut C,
 ) -> Result<(), PortError>
+    ensures same_reader { (reader_of reader.new).ghost_name ≡ (reader_of reader.old).ghost_name }
+    ensures same_writer { (writer_of writer.new).ghost_name ≡ (writer_of writer.old).ghost_name }
     ensures groups { C.names control.new ≡ C.names control.old }
-    ensures answers { IfSome (R.remaining reader.old) (λ input.
-        Conversed (responder (C.names control.old) C.may_show C.may_answer C.may_close) (W.contents writer.old) (W.contents writer.new) (cut input) result) }
+    ensures read { result ≡ Err PortError.Read → OneFailed reader.old reader.new ⊎ HasRead (2 ^ 64 - 1) reader.old reader.new }
+    ensures not_failed { (result ≡ Err PortError.Read) ⊎ NoneFailed reader.old reader.new }
+    ensures answered { result ≡ Err PortError.Read → HasAnswered (responder (C.names control.old) C.may_show C.may_answer C.may_close)
+        (bytes_held W.contents writer.old) (bytes_held W.contents writer.new) (bytes_left R.remaining reader.old) (bytes_left R.remaining reader.new) }
+    ensures write { result ≡ Err PortError.Write → OneRefused writer.old writer.new }
+    ensures not_refused { (result ≡ Err PortError.Write) ⊎ NoneRefused writer.old writer.new }
+    ensures answers { IfSome (bytes_left R.remaining reader.old) (λ input.
+        Conversed (responder (C.names control.old) C.may_show C.may_answer C.may_close) (bytes_held W.contents writer.old) (bytes_held W.contents writer.new) (cut input) result) }
 {
     let mut piece = [0u8; READ_SIZE];
     let mut conversation = Conversation::new(alloc);
@@ -53,20 +64,23 @@ fn answer_piece<W: Write, C: Control>(
     conversation: &mut Conversation,
     piece: &[u8],
     control: &mut C,
-    writer: &mut W,
+    writer: &mut WatchedWriter<'_, W>,
 ) -> Result<(), PortError>
     requires { conversation.old.fault ≡ None }
+    ensures same_writer { (writer_of writer.new).ghost_name ≡ (writer_of writer.old).ghost_name }
     ensures groups { C.names control.new ≡ C.names control.old }
-    ensures outcome { PieceOutcome (responder (C.names control.old) C.may_show C.may_answer C.may_close) (W.contents writer.old) (W.contents writer.new)
+    ensures refused { result ≡ Err PortError.Write → OneRefused writer.old writer.new }
+    ensures not_refused { (result ≡ Err PortError.Write) ⊎ NoneRefused writer.old writer.new }
+    ensures outcome { PieceOutcome (responder (C.names control.old) C.may_show C.may_answer C.may_close) (bytes_held W.contents writer.old) (bytes_held W.contents writer.new)
         (conversation.old.rest ++ piece.now) result conversation.new }
 {
     let replies = match conversation.feed(piece, control) {
         Ok(replies) => replies,
         Err(error) => return Err(error),
     };
-    match writer.write_all(replies.as_slice()) {
+    match write(writer, replies.as_slice()) {
         Ok(()) => {}
-        Err(_) => return Err(PortError::Write),
+        Err(error) => return Err(error),
     }
     match conversation.fault() {
         Some(fault) => Err(fault),
@@ -78,18 +92,18 @@ fn answer_piece<W: Write, C: Control>(
 fn answer_last<W: Write, C: Control>(
     conversation: &mut Conversation,
     control: &mut C,
-    writer: &mut W,
+    writer: &mut WatchedWriter<'_, W>,
 ) -> Result<(), PortError>
     requires { conversation.old.fault ≡ None }
+    ensures same_writer { (writer_of writer.new).ghost_name ≡ (writer_of writer.old).ghost_name }
     ensures groups { C.names control.new ≡ C.names control.old }
-    ensures outcome { LastOutcome (responder (C.names control.old) C.may_show C.may_answer C.may_close) (W.contents writer.old) (W.contents writer.new) conversation.old.rest result }
+    ensures refused { result ≡ Err PortError.Write → OneRefused writer.old writer.new }
+    ensures not_refused { (result ≡ Err PortError.Write) ⊎ NoneRefused writer.old writer.new }
+    ensures outcome { LastOutcome (responder (C.names control.old) C.may_show C.may_answer C.may_close) (bytes_held W.contents writer.old) (bytes_held W.contents writer.new) conversation.old.rest result }
 {
     let replies = match conversation.end(control) {
         Ok(replies) => replies,
         Err(error) => return Err(error),
     };
-    match writer.write_all(replies.as_slice()) {
-        Ok(()) => Ok(()),
-        Err(_) => Err(PortError::Write),
-    }
+    write(writer, replies.as_slice())
 }

@@ -1,8 +1,8 @@
 -- A run of answers, from the bytes that had come to those that are left.
-use Rattle.std.proofs.Common.{◌≡◌, ℕ, ◌+◌, ◌≤◌, min, List, [], length, take, ◌++◌, Option, Some, None, Result, Ok, Err, IfErr, String, string_bytes, arith, refl, sym, ◌∙◌, subst, ap, append-nil, append_assoc}
+use Rattle.std.proofs.Common.{◌≡◌, ℕ, ◌≤◌, min, List, [], length, take, ◌++◌, Option, Some, None, Result, Ok, Err, IfErr, String, string_bytes, arith, refl, sym, ◌∙◌, subst, ap, append-nil, append_assoc}
 use Rattle.std.proofs.lemmas.Grind.{common_steps}
 use Rattle.std.proofs.lemmas.List.{take-append-le}
-use Rattle.std.proofs.Math.Seq.{take-append-add, take-length}
+use Rattle.std.proofs.Math.Seq.{take-length}
 use Rattle.std.proofs.KnownBytes.{Appends-trans, Appends-nil}
 use Rattle.std.specs.Io.KnownBytes.{Appends}
 use Rattle.std.specs.declared.alloc.Global.{Global}
@@ -13,14 +13,11 @@ use Rattle.bh_lines.specs.declared.port_error.PortError.TheVariants.{Read, Write
 use Rattle.bh_lines.specs.Lines.{Cut, line, ended, cut, stops}
 use Rattle.bh_lines.specs.StepLine.{step_of}
 use Rattle.bh_lines.specs.Taken.{TakesLine, IsLast, IsMemoryOrLine}
+use Rattle.bh_streams.specs.Watched.{WritesFront}
 use Rattle.bh_port.specs.Text.{names_in, answer_to, steps_with, text}
-use Rattle.bh_port.specs.Port.{Agrees, AnswersLine, WritesFront, Answered, Outcome}
+use Rattle.bh_port.specs.Port.{Agrees, AnswersLine, Answered, Outcome}
 use Rattle.bh_port.proofs.TextLaws.{text-line, text-ended, text-stopped}
 use Rattle.bh_props.specs.Settings.{GroupSettings}
-
-pub front-after : (a b c : Option (List ℕ)) (out bytes : List ℕ) → Appends a b out → WritesFront b c bytes → WritesFront a c (out ++ bytes)
-front-after a b c out bytes h w =
-    (length out + w.0, subst (λ (ys : List ℕ). Appends a c ys) (sym (take-append-add out bytes w.0)) (Appends-trans a b c out _ h w.1))
 
 fits-in-front : (n : ℕ) (bytes more : List ℕ) → take n bytes ≡ take (min n (length bytes)) (bytes ++ more)
 fits-in-front n bytes more =

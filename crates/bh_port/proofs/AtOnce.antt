@@ -7,7 +7,8 @@ use Rattle.bh_lines.specs.declared.port_error.PortError.{PortError}
 use Rattle.bh_lines.specs.declared.port_error.PortError.TheVariants.{Write}
 use Rattle.bh_lines.specs.Lines.{Cut, cut}
 use Rattle.bh_lines.specs.Taken.{IsMemoryOrLine}
-use Rattle.bh_port.specs.Port.{Agrees, WritesFront, Answered, Outcome}
+use Rattle.bh_streams.specs.Watched.{WritesFront}
+use Rattle.bh_port.specs.Port.{Agrees, Answered, Outcome}
 use Rattle.bh_port.proofs.Answering.{written-answered, unwritten-answered, written, unwritten}
 use Rattle.bh_props.specs.Settings.{GroupSettings}
 

@@ -1,5 +1,4 @@
 pub mod Named
-pub mod Writing
 pub mod TextLaws
 pub mod OwnSteps
 pub mod Answering

@@ -1,25 +1,24 @@
 -- A run of a script, from the reader's first byte to its last.
-use Rattle.std.proofs.Common.{◌≡◌, ℕ, List, [], ◌++◌, Option, Some, None, Result, Ok, Err, IfSome, refl, sym, ◌∙◌, subst, ap, append-nil, append_assoc}
-use Rattle.std.proofs.KnownBytes.{Appends-trans, Appends-nil}
-use Rattle.std.specs.Io.KnownBytes.{Appends, Consumes, IsAtEnd}
+use Rattle.std.proofs.Common.{◌≡◌, ℕ, false, List, [], ◌++◌, Option, Some, None, Result, Ok, Err, IfSome, refl, sym, ◌∙◌, subst, ap, append-nil, append_assoc}
+use Rattle.std.proofs.KnownBytes.{Appends-trans}
+use Rattle.std.specs.Io.KnownBytes.{Keeps, Appends, Consumes, IsAtEnd}
 use Rattle.bh_base.specs.declared.step.Step.{Step}
 use Rattle.bh_core.specs.Groups.{Groups}
 use Rattle.bh_lines.specs.declared.port_error.PortError.{PortError}
 use Rattle.bh_lines.specs.declared.port_error.PortError.TheVariants.{Read, Write, Line, Memory}
-use Rattle.bh_lines.specs.Lines.{Cut, cut, stops}
+use Rattle.bh_lines.specs.Lines.{Cut, cut, stops, has_line}
+use Rattle.bh_streams.specs.Watched.{WritesFront}
 use Rattle.bh_port.specs.Text.{text}
-use Rattle.bh_port.specs.Port.{Agrees, WritesFront, Answered, Outcome, IsMemoryOrRead}
-use Rattle.bh_port.proofs.Answering.{front-after, whole-front}
+use Rattle.bh_port.specs.Port.{Agrees, Answered, HasAnswered, Outcome, IsMemoryOrRead}
+use Rattle.bh_streams.proofs.Fronts.{front-after}
+use Rattle.bh_port.proofs.Answering.{answered-none, whole-front}
 use Rattle.bh_props.specs.Settings.{GroupSettings}
 
 -- what was written for `all` while `left` and the buffer are left of it
 pub record Underway (all left : List ℕ) (w0 w1 : Option (List ℕ)) (service : GroupSettings) (core : Groups) (buffer : List ℕ) : Type 0 where
-  pub out : List ℕ
-  pub before : List Step
-  pub agrees : Agrees service core before
-  pub wrote : Appends w0 w1 out
-  pub text_is : text service [] (cut all) ≡ out ++ text service before (cut (buffer ++ left))
-  pub stops_is : stops (cut all) ≡ stops (cut (buffer ++ left))
+  pub read : List ℕ
+  pub all_is : all ≡ read ++ left
+  pub answered : Answered w0 w1 service [] core read buffer
 
 abbrev pub Progress : Option (List ℕ) → Option (List ℕ) → Option (List ℕ) → Option (List ℕ) → GroupSettings → Groups → List ℕ → Type 0
 Progress None now w0 w1 service core buffer = (before : List Step) × Agrees service core before
@@ -28,20 +27,25 @@ Progress (Some all) (Some left) w0 w1 service core buffer = Underway all left w0
 
 pub progress-start : (all w : Option (List ℕ)) (service : GroupSettings) (core : Groups) → Agrees service core [] → Progress all all w w service core []
 progress-start None w service core agrees = ([], agrees)
-progress-start (Some all) w service core agrees = record { out = []; before = []; agrees = agrees; wrote = Appends-nil w; text_is = refl; stops_is = refl }
+progress-start (Some all) w service core agrees = record { read = []; all_is = refl; answered = answered-none w service [] core [] agrees }
 
 pub progress-lines : (all now w0 w1 w2 : Option (List ℕ)) (service : GroupSettings) (was core : Groups) (old new : List ℕ) → Progress all now w0 w1 service was old
     → ((before : List Step) → Agrees service was before → Answered w1 w2 service before core old new) → Progress all now w0 w2 service core new
 progress-lines None now w0 w1 w2 service was core old new p answers = let a = answers p.0 p.1 in (a.later, a.agrees)
 progress-lines (Some all) None w0 w1 w2 service was core old new p answers = absurd p
 progress-lines (Some all) (Some left) w0 w1 w2 service was core old new p answers =
-    let a = answers p.before p.agrees in record {
-      out = p.out ++ a.out;
-      before = a.later;
-      agrees = a.agrees;
-      wrote = Appends-trans w0 w1 w2 _ _ p.wrote a.wrote;
-      text_is = p.text_is ∙ ap (λ ys. p.out ++ ys) (a.text_is left) ∙ sym (append_assoc p.out a.out _);
-      stops_is = p.stops_is ∙ a.stops_is left;
+    let done = p.answered in
+    let a = answers done.later done.agrees in record {
+      read = p.read;
+      all_is = p.all_is;
+      answered = record {
+        out = done.out ++ a.out;
+        later = a.later;
+        agrees = a.agrees;
+        wrote = Appends-trans w0 w1 w2 _ _ done.wrote a.wrote;
+        text_is = λ more. done.text_is more ∙ ap (λ ys. done.out ++ ys) (a.text_is more) ∙ sym (append_assoc done.out a.out _);
+        stops_is = λ more. done.stops_is more ∙ a.stops_is more;
+      };
     }
 
 pub progress-read : (all now next w0 w1 : Option (List ℕ)) (service : GroupSettings) (core : Groups) (old new piece : List ℕ) → Progress all now w0 w1 service core old → Consumes now next piece → new ≡ old ++ piece
@@ -50,14 +54,30 @@ progress-read None now next w0 w1 service core old new piece p r e = p
 progress-read (Some all) None next w0 w1 service core old new piece p r e = absurd p
 progress-read (Some all) (Some left) None w0 w1 service core old new piece p r e = absurd r
 progress-read (Some all) (Some left) (Some rest) w0 w1 service core old new piece p r e =
-    let same : old ++ left ≡ new ++ rest = ap (λ ys. old ++ ys) r ∙ sym (append_assoc old piece rest) ∙ ap (λ ys. ys ++ rest) (sym e) in record {
-      out = p.out;
-      before = p.before;
-      agrees = p.agrees;
-      wrote = p.wrote;
-      text_is = p.text_is ∙ ap (λ ys. p.out ++ text service p.before (cut ys)) same;
-      stops_is = p.stops_is ∙ ap (λ ys. stops (cut ys)) same;
+    let done = p.answered in
+    let same : (more : List ℕ) → old ++ (piece ++ more) ≡ new ++ more = λ more. sym (append_assoc old piece more) ∙ ap (λ ys. ys ++ more) (sym e) in record {
+      read = p.read ++ piece;
+      all_is = p.all_is ∙ (ap (λ ys. p.read ++ ys) r ∙ sym (append_assoc p.read piece rest));
+      answered = record {
+        out = done.out;
+        later = done.later;
+        agrees = done.agrees;
+        wrote = done.wrote;
+        text_is = λ more.
+            ap (λ ys. text service [] (cut ys)) (append_assoc p.read piece more) ∙ done.text_is (piece ++ more)
+            ∙ ap (λ ys. done.out ++ text service done.later (cut ys)) (same more);
+        stops_is = λ more. ap (λ ys. stops (cut ys)) (append_assoc p.read piece more) ∙ done.stops_is (piece ++ more) ∙ ap (λ ys. stops (cut ys)) (same more);
+      };
     }
+
+-- what is written for all, and what is left to write
+all-text : (all left : List ℕ) (w0 w1 : Option (List ℕ)) (service : GroupSettings) (core : Groups) (buffer : List ℕ) → (p : Underway all left w0 w1 service core buffer)
+    → text service [] (cut all) ≡ p.answered.out ++ text service p.answered.later (cut (buffer ++ left))
+all-text all left w0 w1 service core buffer p = ap (λ ys. text service [] (cut ys)) p.all_is ∙ p.answered.text_is left
+
+all-stops : (all left : List ℕ) (w0 w1 : Option (List ℕ)) (service : GroupSettings) (core : Groups) (buffer : List ℕ) → Underway all left w0 w1 service core buffer
+    → stops (cut all) ≡ stops (cut (buffer ++ left))
+all-stops all left w0 w1 service core buffer p = ap (λ ys. stops (cut ys)) p.all_is ∙ p.answered.stops_is left
 
 outcome-after : (a b c : Option (List ℕ)) (service : GroupSettings) (out : List ℕ) (first later : List Step) (all rest : Cut) (r : Result (Unit {0}) PortError)
     → Appends a b out → text service first all ≡ out ++ text service later rest → stops all ≡ stops rest → Outcome b c service later rest r → Outcome a c service first all r
@@ -73,7 +93,9 @@ pub progress-stops : (all now w0 w1 w2 : Option (List ℕ)) (service : GroupSett
     → IfSome all (λ input. Outcome w0 w2 service [] (cut input) r)
 progress-stops None now w0 w1 w2 service core buffer r p o = tt
 progress-stops (Some all) None w0 w1 w2 service core buffer r p o = absurd p
-progress-stops (Some all) (Some left) w0 w1 w2 service core buffer r p o = outcome-after w0 w1 w2 service p.out [] p.before _ _ r p.wrote p.text_is p.stops_is (o p.before left p.agrees)
+progress-stops (Some all) (Some left) w0 w1 w2 service core buffer r p o =
+    let done = p.answered in
+    outcome-after w0 w1 w2 service done.out [] done.later _ _ r done.wrote (all-text all left w0 w1 service core buffer p) (all-stops all left w0 w1 service core buffer p) (o done.later left done.agrees)
 
 -- the run stops where the input ends
 pub progress-ends : (all now w0 w1 w2 : Option (List ℕ)) (service : GroupSettings) (core : Groups) (buffer : List ℕ) (r : Result (Unit {0}) PortError)
@@ -83,7 +105,9 @@ progress-ends None now w0 w1 w2 service core buffer r p e o = tt
 progress-ends (Some all) None w0 w1 w2 service core buffer r p e o = absurd p
 progress-ends (Some all) (Some left) w0 w1 w2 service core buffer r p e o =
     let same : buffer ≡ buffer ++ left = sym (append-nil buffer) ∙ ap (λ ys. buffer ++ ys) (sym e) in
-    outcome-after w0 w1 w2 service p.out [] p.before _ _ r p.wrote p.text_is p.stops_is (subst (λ (ys : List ℕ). Outcome w1 w2 service p.before (cut ys) r) same (o p.before p.agrees))
+    let done = p.answered in
+    outcome-after w0 w1 w2 service done.out [] done.later _ _ r done.wrote (all-text all left w0 w1 service core buffer p) (all-stops all left w0 w1 service core buffer p)
+    (subst (λ (ys : List ℕ). Outcome w1 w2 service done.later (cut ys) r) same (o done.later done.agrees))
 
 -- the run is given up
 pub progress-front : (all now w0 w1 : Option (List ℕ)) (service : GroupSettings) (core : Groups) (buffer : List ℕ) (e : PortError)
@@ -91,10 +115,25 @@ pub progress-front : (all now w0 w1 : Option (List ℕ)) (service : GroupSetting
 progress-front None now w0 w1 service core buffer e p kind = tt
 progress-front (Some all) None w0 w1 service core buffer e p kind = absurd p
 progress-front (Some all) (Some left) w0 w1 service core buffer e p kind =
-    let front : WritesFront w0 w1 (text service [] (cut all)) = subst (λ (ys : List ℕ). WritesFront w0 w1 ys) (sym p.text_is) (whole-front w0 w1 p.out _ p.wrote) in
+    let front : WritesFront w0 w1 (text service [] (cut all)) = subst (λ (ys : List ℕ). WritesFront w0 w1 ys) (sym (all-text all left w0 w1 service core buffer p)) (whole-front w0 w1 p.answered.out _ p.answered.wrote) in
     elim e as (λ k. IsMemoryOrRead k → Outcome w0 w1 service [] (cut all) (Err k)) [
       | Line ↦ λ none. absurd none
       | Memory ↦ λ _. front
       | Read ↦ λ _. front
       | Write ↦ λ none. absurd none
     ] kind
+
+-- the reader fails, and all lines that had ended are answered
+pub progress-failed : (all now next w0 w1 : Option (List ℕ)) (service : GroupSettings) (core : Groups) (buffer : List ℕ)
+    → Progress all now w0 w1 service core buffer → Keeps now next → has_line buffer ≡ false → HasAnswered all next w0 w1 service
+progress-failed None now next w0 w1 service core buffer p same none = tt
+progress-failed (Some all) None next w0 w1 service core buffer p same none = absurd p
+progress-failed (Some all) (Some left) None w0 w1 service core buffer p same none = absurd same
+progress-failed (Some all) (Some left) (Some rest) w0 w1 service core buffer p same none = record {
+  read = p.read;
+  kept = buffer;
+  core = core;
+  input_is = p.all_is ∙ ap (λ ys. p.read ++ ys) (sym same);
+  answered = p.answered;
+  no_line = none;
+}

@@ -1,5 +1,5 @@
 -- What the parts of a script do to the bytes that have come, to the groups, and to what is written.
-use Rattle.std.specs.Prelude.{◌≡◌, ℕ, ◌==◌, Bool, true, false, List, ◌++◌, slice_get, take, Option, Some, Result, Ok, Err}
+use Rattle.std.specs.Prelude.{◌≡◌, ℕ, true, false, List, [], ◌++◌, slice_get, Option, Some, None, Result, Ok, Err}
 use Rattle.std.specs.Io.KnownBytes.{Appends}
 use Rattle.bh_base.specs.declared.props.GroupProps.{GroupProps}
 use Rattle.bh_base.specs.declared.step.Step.{Step}
@@ -7,13 +7,10 @@ use Rattle.bh_core.specs.Groups.{Groups, Shows}
 use Rattle.bh_props.specs.Settings.{GroupSettings}
 use Rattle.bh_lines.specs.declared.port_error.PortError.{PortError}
 use Rattle.bh_lines.specs.declared.port_error.PortError.TheVariants.{Read, Write, Line, Memory}
-use Rattle.bh_lines.specs.Lines.{Cut, cut, stops}
+use Rattle.bh_lines.specs.Lines.{Cut, cut, stops, has_line}
 use Rattle.bh_lines.specs.StepLine.{step_of}
+use Rattle.bh_streams.specs.Watched.{WritesFront}
 use Rattle.bh_port.specs.Text.{names_in, group_after, answer_to, steps_with, text}
-
--- The front of `bytes` was written, or all of it, and nothing else.
-abbrev pub WritesFront : Option (List ℕ) → Option (List ℕ) → List ℕ → Type 0
-WritesFront old new bytes = (n : ℕ) × Appends old new (take n bytes)
 
 -- each group of the service looks as after its own steps of these
 pub record Agrees (service : GroupSettings) (core : Groups) (steps : List Step) : Type 0 where
@@ -32,6 +29,22 @@ pub record Answered (w0 w1 : Option (List ℕ)) (service : GroupSettings) (befor
   pub wrote : Appends w0 w1 out
   pub text_is : (more : List ℕ) → text service before (cut (old ++ more)) ≡ out ++ text service later (cut (new ++ more))
   pub stops_is : (more : List ℕ) → stops (cut (old ++ more)) ≡ stops (cut (new ++ more))
+
+-- Every line that had ended in what was read of `input` was answered: `left` was not read, and `kept` is of a line that had
+-- not ended.
+pub record AnsweredRead (input left : List ℕ) (w0 w1 : Option (List ℕ)) (service : GroupSettings) : Type 0 where
+  pub read : List ℕ
+  pub kept : List ℕ
+  pub core : Groups
+  pub input_is : input ≡ read ++ left
+  pub answered : Answered w0 w1 service [] core read kept
+  pub no_line : has_line kept ≡ false
+
+-- the same of a reader that had these bytes left, if they are known, and has those left now
+abbrev pub HasAnswered : Option (List ℕ) → Option (List ℕ) → Option (List ℕ) → Option (List ℕ) → GroupSettings → Type 0
+HasAnswered None left w0 w1 service = Unit {0}
+HasAnswered (Some input) None w0 w1 service = ⊥
+HasAnswered (Some input) (Some left) w0 w1 service = AnsweredRead input left w0 w1 service
 
 -- a run over bytes that are cut so, after these steps
 abbrev pub Outcome : Option (List ℕ) → Option (List ℕ) → GroupSettings → List Step → Cut → Result (Unit {0}) PortError → Type 0
@@ -54,8 +67,3 @@ IsNotRead Line = Unit {0}
 IsNotRead Memory = Unit {0}
 IsNotRead Write = Unit {0}
 IsNotRead Read = ⊥
-
--- a write that failed, or took no byte
-abbrev pub took_none : {E : Type 0} → Result ℕ E → Bool
-took_none (Ok n) = n == 0
-took_none (Err e) = true

@@ -5,4 +5,3 @@ mod answers;
 pub mod reader;
 pub mod script;
 mod steps;
-pub mod writer;

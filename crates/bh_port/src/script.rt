@@ -1,20 +1,21 @@
 //! A script: each line of a reader is answered by a line to a writer, as the lines come.
 
-ghost use Rattle.std.specs.Prelude.{◌≡◌, ◌<◌, ◌≤◌, ◌+◌, ◌-◌, ◌^◌, ◌⊎◌, ◌++◌, ℕ, List, [], All, min, true, false, Err, OnOk, IfErr, IfOk, IfSome};
+ghost use Rattle.std.specs.Prelude.{◌≡◌, ◌<◌, ◌≤◌, ◌+◌, ◌^◌, ◌⊎◌, ◌++◌, ℕ, List, [], All, false, Err, OnOk, IfErr, IfOk, IfSome};
 ghost use Rattle.bh_base.specs.declared.step.Step.{Step};
 ghost use Rattle.bh_base.specs.Ranges.{IsInRange};
 ghost use Rattle.bh_props.specs.Seen.{settings_seen};
 ghost use Rattle.bh_props.specs.Settings.{IsAuditLimit};
 ghost use Rattle.bh_port.specs.Text.{step_limit};
 ghost use Rattle.bh_lines.specs.Lines.{cut, has_line};
-ghost use Rattle.bh_port.specs.Port.{Agrees, Answered, Outcome, IsNotRead, IsMemoryOrRead};
+ghost use Rattle.bh_streams.specs.Watched.{reader_of, reads_of, bytes_left, HasRead, OneFailed, NoneFailed, writer_of, bytes_held, OneRefused, NoneRefused};
+ghost use Rattle.bh_port.specs.Port.{Agrees, Answered, HasAnswered, Outcome, IsNotRead, IsMemoryOrRead};
 
 use crate::answers::{answer_last, answer_lines};
-use crate::reader::{ReadWatch, fill};
-use crate::writer::{WriteWatch, write};
+use crate::reader::fill;
 use bh_core::Core;
 use bh_lines::PortError;
 use bh_props::Settings;
+use bh_streams::{WatchedReader, WatchedWriter, write};
 use bytes::BytesMut;
 use std::alloc::Global;
 use std::io::{Read, Write};
@@ -37,37 +38,34 @@ const MOST_READS: u64 = 1 << 40;
 /// The lines that one read brought to an end are answered, and the answers written together, before the next read.
 ///
 /// `Line` comes at the first line that is of over 1,024 bytes or not UTF-8, with the lines before it answered; `Read`
-/// where the reader fails or 2^40 reads were made; `Write` where the writer fails or takes no byte; `Memory` where memory
-/// is refused. The watches note what the reader and the writer did.
+/// where the reader fails in this call, with each line answered whose end was read, or 2^40 reads were made in it;
+/// `Write` where the writer fails in this call or takes no byte; `Memory` where memory is refused. The run ends at the
+/// first read or write that fails.
 pub fn script<R: Read, W: Write>(
     alloc: Global,
-    reader: &mut R,
-    writer: &mut W,
+    reader: &mut WatchedReader<'_, R>,
+    writer: &mut WatchedWriter<'_, W>,
     settings: &Settings,
-    read_watch: &mut ReadWatch,
-    write_watch: &mut WriteWatch,
 ) -> Result<(), PortError>
     requires in_range { All (λ group. IsInRange group.1) settings.now.groups.entries }
     requires audit { IfSome settings.now.audit_steps IsAuditLimit }
-    ensures read { result ≡ Err PortError.Read → (read_watch.new.failed ≡ true) ⊎ (min (read_watch.old.reads + 2 ^ 40) (2 ^ 64 - 1) ≤ read_watch.new.reads) }
-    ensures reads { read_watch.new.reads ≤ read_watch.old.reads + 2 ^ 40 }
-    ensures write { result ≡ Err PortError.Write → write_watch.new.stuck ≡ true }
-    ensures text { IfSome (R.remaining reader.old) (λ input.
-        Outcome (W.contents writer.old) (W.contents writer.new) (settings_seen settings.now) [] (cut input) result) }
+    ensures same_reader { (reader_of reader.new).ghost_name ≡ (reader_of reader.old).ghost_name }
+    ensures same_writer { (writer_of writer.new).ghost_name ≡ (writer_of writer.old).ghost_name }
+    ensures read { result ≡ Err PortError.Read → OneFailed reader.old reader.new ⊎ HasRead (2 ^ 40) reader.old reader.new }
+    ensures not_failed { (result ≡ Err PortError.Read) ⊎ NoneFailed reader.old reader.new }
+    ensures answered { result ≡ Err PortError.Read → HasRead (2 ^ 40) reader.old reader.new ⊎ HasAnswered (bytes_left R.remaining reader.old) (bytes_left R.remaining reader.new)
+        (bytes_held W.contents writer.old) (bytes_held W.contents writer.new) (settings_seen settings.now) }
+    ensures reads { reads_of reader.new ≤ reads_of reader.old + 2 ^ 40 }
+    ensures write { result ≡ Err PortError.Write → OneRefused writer.old writer.new }
+    ensures not_refused { (result ≡ Err PortError.Write) ⊎ NoneRefused writer.old writer.new }
+    ensures text { IfSome (bytes_left R.remaining reader.old) (λ input.
+        Outcome (bytes_held W.contents writer.old) (bytes_held W.contents writer.new) (settings_seen settings.now) [] (cut input) result) }
 {
     let mut core = match open(alloc, settings) {
         Ok(core) => core,
         Err(error) => return Err(error),
     };
-    answer_all(
-        alloc,
-        settings,
-        &mut core,
-        reader,
-        writer,
-        read_watch,
-        write_watch,
-    )
+    answer_all(alloc, settings, &mut core, reader, writer)
 }
 
 /// The groups of the settings, all new, each with its own properties and the steps that it may do.
@@ -106,41 +104,29 @@ fn answer_all<R: Read, W: Write>(
     alloc: Global,
     settings: &Settings,
     core: &mut Core,
-    reader: &mut R,
-    writer: &mut W,
-    read_watch: &mut ReadWatch,
-    write_watch: &mut WriteWatch,
+    reader: &mut WatchedReader<'_, R>,
+    writer: &mut WatchedWriter<'_, W>,
 ) -> Result<(), PortError>
     requires { Agrees (settings_seen settings.now) core.old [] }
-    ensures read { result ≡ Err PortError.Read → (read_watch.new.failed ≡ true) ⊎ (min (read_watch.old.reads + 2 ^ 40) (2 ^ 64 - 1) ≤ read_watch.new.reads) }
-    ensures reads { read_watch.new.reads ≤ read_watch.old.reads + 2 ^ 40 }
-    ensures write { result ≡ Err PortError.Write → write_watch.new.stuck ≡ true }
-    ensures text { IfSome (R.remaining reader.old) (λ input.
-        Outcome (W.contents writer.old) (W.contents writer.new) (settings_seen settings.now) [] (cut input) result) }
+    ensures same_reader { (reader_of reader.new).ghost_name ≡ (reader_of reader.old).ghost_name }
+    ensures same_writer { (writer_of writer.new).ghost_name ≡ (writer_of writer.old).ghost_name }
+    ensures read { result ≡ Err PortError.Read → OneFailed reader.old reader.new ⊎ HasRead (2 ^ 40) reader.old reader.new }
+    ensures not_failed { (result ≡ Err PortError.Read) ⊎ NoneFailed reader.old reader.new }
+    ensures answered { result ≡ Err PortError.Read → HasRead (2 ^ 40) reader.old reader.new ⊎ HasAnswered (bytes_left R.remaining reader.old) (bytes_left R.remaining reader.new)
+        (bytes_held W.contents writer.old) (bytes_held W.contents writer.new) (settings_seen settings.now) }
+    ensures reads { reads_of reader.new ≤ reads_of reader.old + 2 ^ 40 }
+    ensures write { result ≡ Err PortError.Write → OneRefused writer.old writer.new }
+    ensures not_refused { (result ≡ Err PortError.Write) ⊎ NoneRefused writer.old writer.new }
+    ensures text { IfSome (bytes_left R.remaining reader.old) (λ input.
+        Outcome (bytes_held W.contents writer.old) (bytes_held W.contents writer.new) (settings_seen settings.now) [] (cut input) result) }
 {
     let mut piece = [0u8; READ_SIZE];
     let mut buffer = BytesMut::new(alloc);
     let mut out = Vec::new(alloc);
     for _ in 0..MOST_READS {
-        write_answers(
-            alloc,
-            settings,
-            core,
-            &mut buffer,
-            &mut out,
-            writer,
-            write_watch,
-        )?;
-        if !fill(reader, read_watch, &mut piece, &mut buffer)? {
-            return write_last(
-                alloc,
-                settings,
-                core,
-                &mut buffer,
-                &mut out,
-                writer,
-                write_watch,
-            );
+        write_answers(alloc, settings, core, &mut buffer, &mut out, writer)?;
+        if !fill(reader, &mut piece, &mut buffer)? {
+            return write_last(alloc, settings, core, &mut buffer, &mut out, writer);
         }
     }
     Err(PortError::Read)
@@ -153,21 +139,22 @@ fn write_answers<W: Write>(
     core: &mut Core,
     buffer: &mut BytesMut,
     out: &mut Vec<u8>,
-    writer: &mut W,
-    watch: &mut WriteWatch,
+    writer: &mut WatchedWriter<'_, W>,
 ) -> Result<(), PortError>
     ensures answered { OnOk result ((before : List Step) → Agrees (settings_seen settings.now) core.old before →
-        Answered (W.contents writer.old) (W.contents writer.new) (settings_seen settings.now) before core.new buffer.old.items buffer.new.items) }
+        Answered (bytes_held W.contents writer.old) (bytes_held W.contents writer.new) (settings_seen settings.now) before core.new buffer.old.items buffer.new.items) }
     ensures none_left { OnOk result (has_line buffer.new.items ≡ false) }
     ensures no_read { IfErr result IsNotRead }
-    ensures stuck { result ≡ Err PortError.Write → watch.new.stuck ≡ true }
+    ensures same_writer { (writer_of writer.new).ghost_name ≡ (writer_of writer.old).ghost_name }
+    ensures refused { result ≡ Err PortError.Write → OneRefused writer.old writer.new }
+    ensures not_refused { (result ≡ Err PortError.Write) ⊎ NoneRefused writer.old writer.new }
     ensures stopped { IfErr result (λ e. (before : List Step) (more : List ℕ) → Agrees (settings_seen settings.now) core.old before →
-        Outcome (W.contents writer.old) (W.contents writer.new) (settings_seen settings.now) before (cut (buffer.old.items ++ more)) (Err e)) }
+        Outcome (bytes_held W.contents writer.old) (bytes_held W.contents writer.new) (settings_seen settings.now) before (cut (buffer.old.items ++ more)) (Err e)) }
 {
     out.clear();
     match answer_lines(alloc, settings, core, buffer, out) {
-        Ok(()) => write(writer, watch, out.as_slice()),
-        Err(error) => match write(writer, watch, out.as_slice()) {
+        Ok(()) => write(writer, out.as_slice()),
+        Err(error) => match write(writer, out.as_slice()) {
             Ok(()) => Err(error),
             Err(unwritten) => Err(unwritten),
         },
@@ -181,19 +168,20 @@ fn write_last<W: Write>(
     core: &mut Core,
     buffer: &mut BytesMut,
     out: &mut Vec<u8>,
-    writer: &mut W,
-    watch: &mut WriteWatch,
+    writer: &mut WatchedWriter<'_, W>,
 ) -> Result<(), PortError>
     requires { has_line buffer.old.items ≡ false }
     ensures no_read { IfErr result IsNotRead }
-    ensures stuck { result ≡ Err PortError.Write → watch.new.stuck ≡ true }
+    ensures same_writer { (writer_of writer.new).ghost_name ≡ (writer_of writer.old).ghost_name }
+    ensures refused { result ≡ Err PortError.Write → OneRefused writer.old writer.new }
+    ensures not_refused { (result ≡ Err PortError.Write) ⊎ NoneRefused writer.old writer.new }
     ensures outcome { (before : List Step) → Agrees (settings_seen settings.now) core.old before →
-        Outcome (W.contents writer.old) (W.contents writer.new) (settings_seen settings.now) before (cut buffer.old.items) result }
+        Outcome (bytes_held W.contents writer.old) (bytes_held W.contents writer.new) (settings_seen settings.now) before (cut buffer.old.items) result }
 {
     out.clear();
     match answer_last(alloc, settings, core, buffer, out) {
-        Ok(()) => write(writer, watch, out.as_slice()),
-        Err(error) => match write(writer, watch, out.as_slice()) {
+        Ok(()) => write(writer, out.as_slice()),
+        Err(error) => match write(writer, out.as_slice()) {
             Ok(()) => Err(error),
             Err(unwritten) => Err(unwritten),
         },

@@ -7,6 +7,7 @@ use crate::serve::ServeError;
 use bh_audit::{Pass, Shared};
 use bh_base::{GroupId, Text};
 use bh_control::converse::converse;
+use bh_streams::{WatchedReader, WatchedWriter};
 use bh_workers::{timer_loop, worker_loop};
 use std::alloc::Global;
 use std::io::Write;
@@ -154,7 +155,10 @@ fn talk<R: Wait + Clock, E: Write + Send>(site: &Site<'_, R, E>, stream: TcpStre
         site.echo,
         site.clock,
     );
-    if let Err(error) = converse(site.alloc, &mut &stream, &mut &stream, &mut control) {
+    let (mut input, mut output) = (&stream, &stream);
+    let mut reader = WatchedReader::new(&mut input);
+    let mut writer = WatchedWriter::new(&mut output);
+    if let Err(error) = converse(site.alloc, &mut reader, &mut writer, &mut control) {
         let mut errors = site.errors.lock(site.rt);
         let _ = writeln!(&mut *errors, "{error}");
     }

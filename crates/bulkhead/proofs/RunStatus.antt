@@ -6,8 +6,9 @@ use Rattle.std.proofs.Math.Seq.{take-length}
 use Rattle.std.proofs.Common.{length}
 use Rattle.std.specs.Io.KnownBytes.{Appends}
 use Rattle.bh_lines.specs.Lines.{Cut, cut}
+use Rattle.bh_streams.specs.Watched.{WritesFront}
 use Rattle.bh_port.specs.Text.{text}
-use Rattle.bh_port.specs.Port.{Outcome, WritesFront}
+use Rattle.bh_port.specs.Port.{Outcome}
 use Rattle.bulkhead.specs.Status.{IsRun}
 use Rattle.bh_props.specs.Settings.{GroupSettings}
 
@@ -34,3 +35,11 @@ run-front (Some bytes) service w0 w1 e status is o = record {
   front = λ _. front-of service (cut bytes) w0 w1 e o;
   not_refused = λ bad. omega (arith, bad, is);
 }
+
+-- the same of a reader and a writer that were watched
+pub run-watched : (i j w0 w1 v0 v1 : Option (List ℕ)) (service : GroupSettings) (status : ℕ) → i ≡ j → w0 ≡ v0 → w1 ≡ v1
+    → IfSome i (λ bytes. IsRun service (cut bytes) w0 w1 status) → IfSome j (λ bytes. IsRun service (cut bytes) v0 v1 status)
+run-watched i j w0 w1 v0 v1 service status input before after run =
+    subst (λ (k : Option (List ℕ)). IfSome k (λ bytes. IsRun service (cut bytes) v0 v1 status)) input
+    (subst (λ (v : Option (List ℕ)). IfSome i (λ bytes. IsRun service (cut bytes) v v1 status)) before
+    (subst (λ (v : Option (List ℕ)). IfSome i (λ bytes. IsRun service (cut bytes) w0 v status)) after run))

@@ -2,8 +2,8 @@
 use Rattle.std.specs.Prelude.{◌≡◌, ◌≢◌, ℕ, false, List, [], Option}
 use Rattle.std.specs.Io.KnownBytes.{Appends}
 use Rattle.bh_lines.specs.Lines.{Cut, stops}
+use Rattle.bh_streams.specs.Watched.{WritesFront}
 use Rattle.bh_port.specs.Text.{text}
-use Rattle.bh_port.specs.Port.{WritesFront}
 use Rattle.bh_props.specs.Settings.{GroupSettings}
 use Rattle.bh_props.specs.Printed.{lines_of}
 use Rattle.bh_props.specs.declared.error.SettingsError.{SettingsError}

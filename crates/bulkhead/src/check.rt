@@ -8,8 +8,8 @@ ghost use Rattle.bulkhead.specs.Status.{IsShown};
 use crate::report;
 use crate::settings_file::settings_in;
 use bh_lines::PortError;
-use bh_port::writer::{WriteWatch, write};
 use bh_props::Settings;
+use bh_streams::{WatchedWriter, write};
 use std::alloc::Global;
 use std::io::Write;
 
@@ -53,8 +53,8 @@ fn show<W: Write, E: Write>(
     let Ok(lines) = settings.to_string(alloc) else {
         return report::port(errors, PortError::Memory);
     };
-    let mut watch = WriteWatch::new();
-    match write(writer, &mut watch, lines.as_str().as_bytes()) {
+    let mut writer = WatchedWriter::new(writer);
+    match write(&mut writer, lines.as_str().as_bytes()) {
         Ok(()) => 0,
         Err(error) => report::port(errors, error),
     }

@@ -10,10 +10,9 @@ ghost use Rattle.bulkhead.specs.Status.{IsRun};
 
 use crate::report;
 use crate::settings_file::settings_in;
-use bh_port::reader::ReadWatch;
 use bh_port::script::script;
-use bh_port::writer::WriteWatch;
 use bh_props::Settings;
+use bh_streams::{WatchedReader, WatchedWriter};
 use std::alloc::Global;
 use std::io::{Read, Write};
 
@@ -59,16 +58,9 @@ fn run_script<R: Read, W: Write, E: Write>(
     ensures run { IfSome (R.remaining reader.old) (λ input.
         IsRun (settings_seen settings.now) (cut input) (W.contents writer.old) (W.contents writer.new) result) }
 {
-    let mut read_watch = ReadWatch::new();
-    let mut write_watch = WriteWatch::new();
-    match script(
-        alloc,
-        reader,
-        writer,
-        settings,
-        &mut read_watch,
-        &mut write_watch,
-    ) {
+    let mut reader = WatchedReader::new(reader);
+    let mut writer = WatchedWriter::new(writer);
+    match script(alloc, &mut reader, &mut writer, settings) {
         Ok(()) => 0,
         Err(error) => report::port(errors, error),
     }

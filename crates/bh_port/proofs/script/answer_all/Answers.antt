@@ -1,37 +1,51 @@
-use Rattle.std.proofs.Common.{rules, arith, refl, Result, Ok, IfErr, ◌≡◌, Err}
+use Rattle.std.proofs.Common.{rules, arith, refl, ap, ◌∙◌, Result, Ok, IfErr, ◌≡◌, ◌⊎◌, inl, inr, Err}
 use Rattle.std.proofs.lemmas.Result.{err_from_is_err_and}
 use Rattle.bh_lines.specs.declared.port_error.PortError.TheVariants.{Read, Write, Line, Memory}
 use Rattle.bh_lines.specs.declared.port_error.PortError.{PortError}
+use Rattle.bh_streams.specs.Watched.{bytes_left, bytes_held}
 use Rattle.bh_port.specs.Port.{IsNotRead}
-use Rattle.bh_port.proofs.Running.{progress-start, progress-lines, progress-read, progress-stops, progress-ends, progress-front}
+use Rattle.bh_port.proofs.Running.{progress-start, progress-lines, progress-read, progress-stops, progress-ends, progress-front, progress-failed}
 use Rattle.bh_port.proofs.script.answer_all.Goals as goal
 
 pub returns-in_err-write_answers-clause-text : goal.returns-in_err-write_answers-clause-text
 returns-in_err-write_answers-clause-text g c =
     let p = err_from_is_err_and c.from_residual.result c.from_residual.ensures.1 in
-    rw (p.1, p.2) (progress-stops _ _ _ _ (g.W.Write.contents c.write_answers.new.writer) _ _ _ (Err c.in_err-write_answers.field-0.0) c.loop.invariant.3 c.in_err-write_answers.ensures.stopped)
+    rw (p.1, p.2) (progress-stops _ _ _ _ (bytes_held g.W.Write.contents c.write_answers.new.writer) _ _ _ (Err c.in_err-write_answers.field-0.0) c.loop.invariant.progress c.in_err-write_answers.ensures.stopped)
 
 pub returns-in_err-fill-clause-text : goal.returns-in_err-fill-clause-text
 returns-in_err-fill-clause-text g c =
     let p = err_from_is_err_and c.from_residual-in_err-fill.result c.from_residual-in_err-fill.ensures.1 in
-    let now = progress-lines _ _ _ _ _ _ _ c.write_answers.new.core _ _ c.loop.invariant.3 c.in_ok-write_answers.ensures.answered in
+    let now = progress-lines _ _ _ _ _ _ _ c.write_answers.new.core _ _ c.loop.invariant.progress c.in_ok-write_answers.ensures.answered in
     rw (p.1, p.2) (progress-front _ _ _ _ _ _ _ _ now c.in_err-fill.ensures.err)
 
 pub returns-then-not-branch-clause-text : goal.returns-then-not-branch-clause-text
 returns-then-not-branch-clause-text g c =
-    let now = progress-lines _ _ _ _ _ _ _ c.write_answers.new.core _ _ c.loop.invariant.3 c.in_ok-write_answers.ensures.answered in
+    let now = progress-lines _ _ _ _ _ _ _ c.write_answers.new.core _ _ c.loop.invariant.progress c.in_ok-write_answers.ensures.answered in
     let piece = c.in_ok-fill.ensures.more in
     let ended = c.in_ok-fill.ensures.end (search rules) in
     progress-ends _ _ _ _ _ _ _ _ _ (progress-read _ _ _ _ _ _ _ _ _ _ now piece.1 piece.2) ended.0 c.write_last.ensures.outcome
 
+if-ok : {T : Type 0} (x : T) (e : PortError) {P : Type 0} → (Ok x ≡ Err e) ⊎ P → P
+if-ok x e (inl bad) = cc
+if-ok x e (inr p) = p
+
 pub loop-preserved : goal.loop-preserved
 loop-preserved g c =
-    let now = progress-lines _ _ _ _ _ _ _ c.write_answers.new.core _ _ c.loop.invariant.3 c.in_ok-write_answers.ensures.answered in
+    let now = progress-lines _ _ _ _ _ _ _ c.write_answers.new.core _ _ c.loop.invariant.progress c.in_ok-write_answers.ensures.answered in
     let piece = c.in_ok-fill.ensures.more in
-    (omega (arith, c.in_ok-fill.ensures.counted), omega (arith, c.in_ok-fill.ensures.counted), omega (arith, c.fill.auto.piece), progress-read _ _ _ _ _ _ _ _ _ _ now piece.1 piece.2)
+    record {
+      same_reader = c.in_ok-fill.ensures.same_reader ∙ c.loop.invariant.same_reader;
+      same_writer = c.in_ok-write_answers.ensures.same_writer ∙ c.loop.invariant.same_writer;
+      read_enough = omega (arith, c.in_ok-fill.ensures.one);
+      read_no_more = omega (arith, c.in_ok-fill.ensures.one);
+      none_failed = if-ok _ _ c.in_ok-fill.ensures.not_failed ∙ c.loop.invariant.none_failed;
+      none_refused = if-ok _ _ c.in_ok-write_answers.ensures.not_refused ∙ c.loop.invariant.none_refused;
+      piece = omega (arith, c.fill.auto.piece);
+      progress = progress-read _ _ _ _ _ _ _ _ _ _ now piece.1 piece.2;
+    }
 
 pub returns-clause-text : goal.returns-clause-text
-returns-clause-text g c = progress-front _ _ _ _ _ _ _ Read c.loop.invariant.3 tt
+returns-clause-text g c = progress-front _ _ _ _ _ _ _ Read c.loop.invariant.progress tt
 
 not-read : (r : Result (Unit {0}) PortError) (e : PortError) → r ≡ Err e → IsNotRead e → ¬ (r ≡ Err Read)
 not-read r Read is h same = h
@@ -52,5 +66,33 @@ if-not-read (Err e) h same = not-read (Err e) e refl h same
 pub returns-then-not-branch-clause-read : goal.returns-then-not-branch-clause-read
 returns-then-not-branch-clause-read g c = λ same. absurd (if-not-read _ c.write_last.ensures.no_read same)
 
+pub returns-in_err-write_answers-clause-answered : goal.returns-in_err-write_answers-clause-answered
+returns-in_err-write_answers-clause-answered g c =
+    let p = err_from_is_err_and c.from_residual.result c.from_residual.ensures.1 in
+    let is : c.from_residual.result ≡ Err c.in_err-write_answers.field-0.0 = rw (p.1, p.2) refl in
+    λ same. absurd (not-read _ _ is c.in_err-write_answers.ensures.no_read same)
+
+pub returns-then-not-branch-clause-answered : goal.returns-then-not-branch-clause-answered
+returns-then-not-branch-clause-answered g c = λ same. absurd (if-not-read _ c.write_last.ensures.no_read same)
+
+error-is : (r : Result (Unit {0}) PortError) (x e k : PortError) → r ≡ Err x → x ≡ e → r ≡ Err k → e ≡ k
+error-is r x e k made is same = cc
+
+pub returns-in_err-fill-clause-answered : goal.returns-in_err-fill-clause-answered
+returns-in_err-fill-clause-answered g c = λ same.
+    let p = err_from_is_err_and c.from_residual-in_err-fill.result c.from_residual-in_err-fill.ensures.1 in
+    let now = progress-lines _ _ _ _ _ _ _ c.write_answers.new.core _ _ c.loop.invariant.progress c.in_ok-write_answers.ensures.answered in
+    let kept = c.in_err-fill.ensures.kept (ap Err (error-is _ _ _ _ p.1 p.2 same)) in
+    inr (progress-failed _ _ _ _ _ _ _ _ now kept.0 c.in_ok-write_answers.ensures.none_left)
+
 pub loop-init : goal.loop-init
-loop-init g c = (omega arith, omega arith, search rules, rw c.new-buffer.ensures.items (progress-start (g.R.Read.remaining c.args.reader.now) (g.W.Write.contents c.args.writer.now) _ _ c.requires))
+loop-init g c = record {
+  same_reader = refl;
+  same_writer = refl;
+  read_enough = omega arith;
+  read_no_more = omega arith;
+  none_failed = refl;
+  none_refused = refl;
+  piece = search rules;
+  progress = rw c.new-buffer.ensures.items (progress-start (bytes_left g.R.Read.remaining c.args.reader.now) (bytes_held g.W.Write.contents c.args.writer.now) _ _ c.requires);
+}

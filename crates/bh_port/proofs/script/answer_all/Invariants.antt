@@ -1,11 +1,18 @@
-use Rattle.std.proofs.Common.{◌+◌, ◌-◌, ◌^◌, ◌≤◌, min, length, ◌≡◌}
+use Rattle.std.proofs.Common.{◌+◌, ◌≤◌, length, ◌≡◌}
 use Rattle.bh_props.specs.Seen.{settings_seen}
+use Rattle.bh_streams.specs.Watched.{counted, reader_of, reads_of, bytes_left, NoneFailed, writer_of, bytes_held, NoneRefused}
 use Rattle.bh_port.proofs.Running.{Progress}
 use Rattle.bh_port.proofs.script.answer_all.Given as goal
 
 abbrev pub invariant-loop : goal.invariant-loop
-invariant-loop g l =
-    (min (l.fn.read_watch.reads + l.counter) (2 ^ 64 - 1) ≤ l.read_watch.reads)
-    × (l.read_watch.reads ≤ l.fn.read_watch.reads + l.counter)
-    × (length l.piece ≡ 16384)
-    × Progress (g.R.Read.remaining l.fn.reader) (g.R.Read.remaining l.reader) (g.W.Write.contents l.fn.writer) (g.W.Write.contents l.writer) (settings_seen l.settings) l.core l.buffer.items
+invariant-loop g l = record {
+  same_reader : (reader_of l.reader).ghost_name ≡ (reader_of l.fn.reader).ghost_name;
+  same_writer : (writer_of l.writer).ghost_name ≡ (writer_of l.fn.writer).ghost_name;
+  read_enough : counted (reads_of l.fn.reader) l.counter ≤ reads_of l.reader;
+  read_no_more : reads_of l.reader ≤ reads_of l.fn.reader + l.counter;
+  none_failed : NoneFailed l.fn.reader l.reader;
+  none_refused : NoneRefused l.fn.writer l.writer;
+  piece : length l.piece ≡ 16384;
+  progress : Progress (bytes_left g.R.Read.remaining l.fn.reader) (bytes_left g.R.Read.remaining l.reader)
+      (bytes_held g.W.Write.contents l.fn.writer) (bytes_held g.W.Write.contents l.writer) (settings_seen l.settings) l.core l.buffer.items;
+}
