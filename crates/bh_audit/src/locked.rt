@@ -14,8 +14,9 @@ ghost use Rattle.bh_audit.specs.Calls.{AddsCollect, AddsExpire, AddsNext, IsRead
 use crate::book::Book;
 use crate::clock::Clock;
 use crate::next::Next;
+use crate::pass::Pass;
 use bh_base::{GroupId, GroupProps, Op, Reply, Serial, Step, Strategy};
-use bh_journal::{Pass, Receipt};
+use bh_journal::Receipt;
 use std::sync::{Condvar, Mutex, MutexGuard, Wait};
 
 /// What the lock guards. The book is audited where `A` is 1.

@@ -18,8 +18,9 @@ use crate::locked::{
     Locked, await_in, expire_in, groups_in, next_in, step_in, stop_in, stopped_in, workers_in,
 };
 use crate::next::{Next, PassError, StepError};
+use crate::pass::Pass;
 use bh_base::{GroupId, Reply, Serial, Step};
-use bh_journal::{AuditReport, Pass};
+use bh_journal::AuditReport;
 use std::alloc::{AllocError, Global};
 use std::marker::Model;
 use std::sync::{Condvar, Mutex, Wait};

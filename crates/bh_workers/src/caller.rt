@@ -8,9 +8,8 @@ ghost use Rattle.bh_workers.specs.Collecting.{CollectAdds};
 use crate::dependency::Dependency;
 use crate::stepping::make_step;
 use crate::worker::end_op;
-use bh_audit::{Clock, Shared};
+use bh_audit::{Clock, Pass, Shared};
 use bh_base::{Answer, CallError, Cause, Op, Reply, Request, Serial, Text};
-use bh_journal::Pass;
 use std::sync::Wait;
 
 /// The most receipts that a call adds.

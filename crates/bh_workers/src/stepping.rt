@@ -4,9 +4,8 @@ ghost use Rattle.std.specs.Prelude.{◌≡◌, ◌+◌, ◌≤◌, true};
 ghost use Rattle.bh_base.specs.Replies.{can_reply};
 ghost use Rattle.bh_workers.specs.Receipts.{StepAdds};
 
-use bh_audit::{Clock, Shared};
+use bh_audit::{Clock, Pass, Shared};
 use bh_base::{Op, Reply, Step};
-use bh_journal::Pass;
 use std::sync::Wait;
 
 /// Makes the step. The clock is read before the lock is taken.

@@ -3,8 +3,7 @@
 ghost use Rattle.bh_workers.specs.Timing.{AreTimed, IsTimed};
 
 use crate::dependency::Pace;
-use bh_audit::{Clock, Shared};
-use bh_journal::Pass;
+use bh_audit::{Clock, Pass, Shared};
 use std::sync::Wait;
 
 /// Times out, for each pass in turn, the tickets of its group that are due, again and again while the pace goes on

@@ -9,9 +9,8 @@ ghost use Rattle.bh_workers.specs.Work.{HasReasonToEnd, IsEnding, IsTurn, IsWork
 
 use crate::dependency::Dependency;
 use crate::stepping::make_step;
-use bh_audit::{Clock, Next, Shared};
+use bh_audit::{Clock, Next, Pass, Shared};
 use bh_base::{Op, Reply, RunEnd, Serial, Text};
-use bh_journal::Pass;
 use std::sync::Wait;
 
 /// The operation that tells how the run of the ticket ended.
