@@ -1,6 +1,6 @@
 //! What a caller keeps of its steps, to which only the service adds.
 
-ghost use Rattle.std.specs.Prelude.{◌≡◌, ◌<◌, IfOk};
+ghost use Rattle.std.specs.Prelude.{◌≡◌, ◌<◌, IfOk, IsOk};
 ghost use Rattle.bh_journal.specs.Passes.{added, blank, marked_no_group, marked_stopped, marked_worn};
 
 use crate::room::push_within;
@@ -66,7 +66,8 @@ impl Pass {
     /// A pass of the group without receipts and marks, with room for so many receipts. The error comes where
     /// memory for them was refused.
     pub(crate) fn new(alloc: Global, group: GroupId, room: u64) -> Result<Pass, AllocError>
-        ensures { IfOk result (λ p. p ≡ blank group room) }
+        ensures blank { IfOk result (λ p. p ≡ blank group room) }
+        ensures succeeds { room ≡ 0 → IsOk result }
     {
         let receipts = Vec::with_capacity(alloc, room as usize)?;
         let marks = Marks {

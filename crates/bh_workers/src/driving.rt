@@ -35,7 +35,7 @@ pub fn drive<
     lists: &[RequestList],
     room: u64,
 ) -> Result<Driven, DriveError>
-    ensures { IfOk result (λ d. IsDriven D.ends D.fallback_ends C.moments shared.now lists.now d) }
+    ensures { IfOk result (λ d. IsDriven D.ends D.fallback_ends C.moments shared.now.audited lists.now d) }
 {
     let groups = shared.groups(rt);
     if lists.iter().any(|list| list.group.0 >= groups) {
@@ -45,7 +45,7 @@ pub fn drive<
         thread::scope_env(),
         rt,
         |scope| -> Result<Driven, DriveError>
-            ensures { IfOk result (λ d. IsDriven D.ends D.fallback_ends C.moments shared.entry.now lists.entry.now d) }
+            ensures { IfOk result (λ d. IsDriven D.ends D.fallback_ends C.moments shared.entry.now.audited lists.entry.now d) }
         {
             let driven = run_all(
                 rt, scope, alloc, shared, dependency, clock, pace, lists, room,
@@ -77,7 +77,7 @@ fn run_all<
     lists: &'e [RequestList],
     room: u64,
 ) -> Result<Driven, DriveError>
-    ensures { IfOk result (λ d. IsDriven D.ends D.fallback_ends C.moments shared.now lists.now d) }
+    ensures { IfOk result (λ d. IsDriven D.ends D.fallback_ends C.moments shared.now.audited lists.now d) }
 {
     let timer = start_timer(rt, scope, alloc, shared, clock, pace, room)?;
     let workers = start_workers(rt, scope, alloc, shared, dependency, clock, room)?;

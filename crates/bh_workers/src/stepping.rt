@@ -16,8 +16,8 @@ pub(crate) fn make_step<C: Clock, R: Wait>(
     clock: &C,
     op: Op,
 ) -> Reply
-    requires { shared.now ≡ true → 1 ≤ pass.old.room }
-    ensures adds { StepAdds C.moments shared.now pass.old op result pass.new }
+    requires { shared.now.audited ≡ true → 1 ≤ pass.old.room }
+    ensures adds { StepAdds C.moments shared.now.audited pass.old op result pass.new }
     ensures kinds { can_reply op result ≡ true }
     ensures room { pass.old.room ≤ pass.new.room + 1 }
 {
