@@ -117,14 +117,14 @@ impl PassRead for Pass {
     ghost seen = { λ p. p };
 
     fn group(&self) -> GroupId {
-        self.group
+        Pass::group(self)
     }
 
     fn receipts(&self) -> &[Receipt] {
-        self.receipts.as_slice()
+        Pass::receipts(self)
     }
 
     fn marks(&self) -> Marks {
-        self.marks
+        Pass::marks(self)
     }
 }
