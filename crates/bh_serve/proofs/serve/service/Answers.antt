@@ -1,4 +1,3 @@
-use Rattle.std.proofs.Common.{length}
 use Rattle.bh_serve.proofs.Listed.{all_there}
 use Rattle.bh_serve.proofs.serve.service.Goals as goal
 
