@@ -7,11 +7,14 @@ pub mod clock;
 pub mod error;
 mod locked;
 pub mod next;
+pub mod pass;
+mod room;
 pub mod shared;
 
-pub use bh_journal::{AuditReport, Marks, Pass, Receipt};
+pub use bh_journal::{AuditReport, Marks, Receipt};
 pub use book::Book;
 pub use clock::Clock;
 pub use error::AuditError;
 pub use next::{Next, PassError, StepError};
+pub use pass::Pass;
 pub use shared::Shared;

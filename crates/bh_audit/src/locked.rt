@@ -1,6 +1,6 @@
 //! What the lock guards, and what a thread that has it does there.
 
-ghost use Rattle.std.specs.Prelude.{◌≡◌, ◌≢◌, ◌==◌, ◌<◌, ◌||◌, ℕ, Bool, IfSome, IsNone, None, Some, true, false, slice_get};
+ghost use Rattle.std.specs.Prelude.{◌≡◌, ◌≢◌, ◌==◌, ◌<◌, ◌||◌, ℕ, Bool, IfSome, IsNone, None, Some, true, false, length, slice_get};
 ghost use Rattle.bh_base.specs.declared.reply.Reply.TheVariants as reply;
 ghost use Rattle.bh_base.specs.declared.step.Op.TheVariants as op;
 ghost use Rattle.bh_base.specs.declared.step.Step.{Step};
@@ -14,8 +14,9 @@ ghost use Rattle.bh_audit.specs.Calls.{AddsCollect, AddsExpire, AddsNext, IsRead
 use crate::book::Book;
 use crate::clock::Clock;
 use crate::next::Next;
+use crate::pass::Pass;
 use bh_base::{GroupId, GroupProps, Op, Reply, Serial, Step, Strategy};
-use bh_journal::{Pass, Receipt};
+use bh_journal::Receipt;
 use std::sync::{Condvar, Mutex, MutexGuard, Wait};
 
 /// What the lock guards. The book is audited where `A` is 1.
@@ -66,6 +67,7 @@ impl<const A: u32> Locked<A> {
         requires { (A == 1) ≡ true → 0 < pass.old.room }
         ensures adds { IfSome result (λ n. AddsNext C.moments (A == 1) pass.old n pass.new) }
         ensures told { result ≡ Some Next.Stopped → self.old.stopped ≡ true }
+        ensures registered { result ≡ Some Next.Stopped → pass.old.group.0 < length self.old.book.groups.views }
         ensures pass { IsNone result → pass.new ≡ pass.old }
         ensures book { IsNone result → self.new.book ≡ self.old.book }
         ensures stopped { self.new.stopped ≡ self.old.stopped }

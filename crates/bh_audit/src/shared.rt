@@ -1,10 +1,11 @@
 //! One service, which threads share.
 
-ghost use Rattle.std.specs.Prelude.{◌≡◌, ◌≢◌, ◌↔◌, ◌<◌, ◌≤◌, ◌&&◌, nat_lt, IfOk, IfErr, OnErr, Err, true, false, if◌then◌else◌};
+ghost use Rattle.std.specs.Prelude.{◌≡◌, ◌≢◌, ◌↔◌, ◌<◌, ◌≤◌, ◌&&◌, length, nat_lt, vec_len, IfOk, IfErr, OnErr, Err, true, false, if◌then◌else◌};
 ghost use Rattle.bh_base.specs.declared.step.Op.TheVariants as op;
 ghost use Rattle.bh_base.specs.Replies.{can_reply};
 ghost use Rattle.bh_journal.specs.Passes.{Adds, blank};
 ghost use Rattle.bh_audit.specs.declared.error.AuditError.TheVariants.{NotAudited};
+ghost use Rattle.bh_audit.specs.declared.next.PassError.TheVariants.{Memory, NoGroup};
 ghost use Rattle.bh_audit.specs.declared.next.StepError.TheVariants.{OtherGroup, PassFull};
 ghost use Rattle.bh_audit.specs.Calls.{AddsCollect, AddsExpire, AddsNext};
 ghost use Rattle.bh_audit.specs.Finish.{FinishSays};
@@ -18,8 +19,9 @@ use crate::locked::{
     Locked, await_in, expire_in, groups_in, next_in, step_in, stop_in, stopped_in, workers_in,
 };
 use crate::next::{Next, PassError, StepError};
+use crate::pass::Pass;
 use bh_base::{GroupId, Reply, Serial, Step};
-use bh_journal::{AuditReport, Pass};
+use bh_journal::AuditReport;
 use std::alloc::{AllocError, Global};
 use std::marker::Model;
 use std::sync::{Condvar, Mutex, Wait};
@@ -31,7 +33,8 @@ enum Lock {
     Plain(Mutex<Locked<0>>),
 }
 
-/// One service, which threads share: a book under one lock. Contracts see whether it is audited.
+/// One service, which threads share: a book under one lock. Contracts see whether it is audited, and how many groups
+/// it has.
 ///
 /// In an audited service every step is in its group's journal, and a receipt of it in the pass of the call that made
 /// it. A call that may wait takes the runtime, and its contract holds if it returns. No call that takes the lock
@@ -46,18 +49,19 @@ pub struct Shared {
 }
 
 impl Model for Shared {
-    ghost use Rattle.std.specs.Prelude.{Bool};
-    ghost use Rattle.bh_audit.specs.Service.{is_audited};
+    ghost use Rattle.std.specs.Prelude.{vec_len};
+    ghost use Rattle.bh_audit.specs.Service.{ServiceView, is_audited};
 
-    ghost Value = { Bool };
+    ghost Value = { ServiceView };
 
-    ghost view = { λ s. is_audited s.lock };
+    ghost view = { λ s. record { audited = is_audited s.lock; groups = vec_len s.changed } };
 }
 
 impl Shared {
     /// A service over a book, which is handed back where memory was refused.
     pub fn new(alloc: Global, book: Book) -> Result<Shared, (Book, AllocError)>
-        ensures ok { IfOk result (λ s. s ≡ book.audited) }
+        ensures audited { IfOk result (λ s. s.audited ≡ book.audited) }
+        ensures groups { IfOk result (λ s. s.groups ≡ length book.groups.views) }
         ensures err { IfErr result (λ e. e.0 ≡ book) }
     {
         match condvars(alloc, book.core().groups()) {
@@ -71,7 +75,7 @@ impl Shared {
 
     /// Whether the service was made of an audited book. It takes no lock.
     pub fn audited(&self) -> bool
-        ensures { result ≡ self.now }
+        ensures { result ≡ self.now.audited }
     {
         match &self.lock {
             Lock::Audited(_) => true,
@@ -82,9 +86,11 @@ impl Shared {
     /// A pass of a group, with room for so many receipts in an audited service, and with none in another.
     ///
     /// The errors are, in this order, `NoGroup` where the group is not registered and `Memory` where memory for the
-    /// receipts was refused; nothing has changed then. It takes no lock.
+    /// receipts of an audited service was refused; nothing has changed then. It takes no lock.
     pub fn pass(&self, alloc: Global, group: GroupId, room: u64) -> Result<Pass, PassError>
-        ensures { IfOk result (λ p. p ≡ blank group (if self.now then room else 0)) }
+        ensures blank { IfOk result (λ p. p ≡ blank group (if self.now.audited then room else 0)) }
+        ensures unknown { (result ≡ Err NoGroup) ↔ (self.now.groups ≤ group.0) }
+        ensures memory { result ≡ Err Memory → self.now.audited ≡ true }
     {
         if group.0 >= self.changed.len() as u64 {
             return Err(PassError::NoGroup);
@@ -102,12 +108,12 @@ impl Shared {
     /// The errors are, in this order, `OtherGroup` where the step is of another group than the pass, and `PassFull`
     /// where the service is audited and no receipt is free. Both come before any step, with nothing changed.
     pub fn step<R: Wait>(&self, rt: &R, pass: &mut Pass, step: Step) -> Result<Reply, StepError>
-        ensures adds { IfOk result (λ r. Adds self.now pass.old step r pass.new) }
+        ensures adds { IfOk result (λ r. Adds self.now.audited pass.old step r pass.new) }
         ensures kinds { IfOk result (λ r. can_reply step.op r ≡ true) }
         ensures group { IfOk result (λ r. step.group ≡ pass.old.group) }
-        ensures room { IfOk result (λ r. self.now ≡ true → 1 ≤ pass.old.room) }
+        ensures room { IfOk result (λ r. self.now.audited ≡ true → 1 ≤ pass.old.room) }
         ensures other { (result ≡ Err OtherGroup) ↔ (step.group ≢ pass.old.group) }
-        ensures full { (result ≡ Err PassFull) ↔ ((step.group ≡ pass.old.group) × (self.now ≡ true) × (pass.old.room ≡ 0)) }
+        ensures full { (result ≡ Err PassFull) ↔ ((step.group ≡ pass.old.group) × (self.now.audited ≡ true) × (pass.old.room ≡ 0)) }
         ensures err { OnErr result (pass.new ≡ pass.old) }
     {
         if step.group != pass.group() {
@@ -138,10 +144,10 @@ impl Shared {
         pass: &mut Pass,
         clock: &C,
     ) -> Result<Next, StepError>
-        ensures adds { IfOk result (λ n. AddsNext C.moments self.now pass.old n pass.new) }
-        ensures room { IfOk result (λ n. self.now ≡ true → 2 ≤ pass.old.room) }
+        ensures adds { IfOk result (λ n. AddsNext C.moments self.now.audited pass.old n pass.new) }
+        ensures room { IfOk result (λ n. self.now.audited ≡ true → 2 ≤ pass.old.room) }
         ensures other { result ≢ Err OtherGroup }
-        ensures full { (result ≡ Err PassFull) ↔ ((self.now ≡ true) × (pass.old.room < 2)) }
+        ensures full { (result ≡ Err PassFull) ↔ ((self.now.audited ≡ true) × (pass.old.room < 2)) }
         ensures err { OnErr result (pass.new ≡ pass.old) }
     {
         if self.lacks_room(pass, 2) {
@@ -170,11 +176,11 @@ impl Shared {
         serial: Serial,
         clock: &C,
     ) -> Result<Reply, StepError>
-        ensures adds { IfOk result (λ r. AddsCollect C.moments self.now pass.old serial r pass.new) }
+        ensures adds { IfOk result (λ r. AddsCollect C.moments self.now.audited pass.old serial r pass.new) }
         ensures kinds { IfOk result (λ r. can_reply (op.Collect serial) r ≡ true) }
-        ensures room { IfOk result (λ r. self.now ≡ true → 1 ≤ pass.old.room) }
+        ensures room { IfOk result (λ r. self.now.audited ≡ true → 1 ≤ pass.old.room) }
         ensures other { result ≢ Err OtherGroup }
-        ensures full { (result ≡ Err PassFull) ↔ ((self.now ≡ true) × (pass.old.room ≡ 0)) }
+        ensures full { (result ≡ Err PassFull) ↔ ((self.now.audited ≡ true) × (pass.old.room ≡ 0)) }
         ensures err { OnErr result (pass.new ≡ pass.old) }
     {
         if self.lacks_room(pass, 1) {
@@ -201,10 +207,10 @@ impl Shared {
         pass: &mut Pass,
         clock: &C,
     ) -> Result<Option<u64>, StepError>
-        ensures adds { IfOk result (λ number. AddsExpire C.moments self.now pass.old number pass.new) }
-        ensures room { IfOk result (λ number. self.now ≡ true → 1 ≤ pass.old.room) }
+        ensures adds { IfOk result (λ number. AddsExpire C.moments self.now.audited pass.old number pass.new) }
+        ensures room { IfOk result (λ number. self.now.audited ≡ true → 1 ≤ pass.old.room) }
         ensures other { result ≢ Err OtherGroup }
-        ensures full { (result ≡ Err PassFull) ↔ ((self.now ≡ true) × (pass.old.room ≡ 0)) }
+        ensures full { (result ≡ Err PassFull) ↔ ((self.now.audited ≡ true) × (pass.old.room ≡ 0)) }
         ensures err { OnErr result (pass.new ≡ pass.old) }
     {
         if self.lacks_room(pass, 1) {
@@ -263,7 +269,7 @@ impl Shared {
     /// The errors are, in this order, `NotAudited`, `Memory` where a growth was refused, and then, by group and
     /// rising place, the first `PassMissing` or `Mismatch`.
     pub fn finish(self, alloc: Global, passes: Vec<Pass>) -> Result<AuditReport, AuditError>
-        ensures not_audited { (result ≡ Err NotAudited) ↔ (self ≡ false) }
+        ensures not_audited { (result ≡ Err NotAudited) ↔ (self.audited ≡ false) }
         ensures says { FinishSays passes.items result }
     {
         let Shared { lock, changed: _ } = self;
@@ -277,7 +283,7 @@ impl Shared {
 impl Shared {
     // Whether the service is audited and the pass has room for fewer receipts than that.
     fn lacks_room(&self, pass: &Pass, receipts: u64) -> bool
-        ensures { result ≡ (self.now && nat_lt pass.now.room receipts) }
+        ensures { result ≡ (self.now.audited && nat_lt pass.now.room receipts) }
     {
         self.audited() && pass.room_left() < receipts
     }
@@ -310,9 +316,11 @@ fn lock_of(book: Book) -> Lock
     }
 }
 
-fn condvars(alloc: Global, count: u64) -> Result<Vec<Condvar>, AllocError> {
+fn condvars(alloc: Global, count: u64) -> Result<Vec<Condvar>, AllocError>
+    ensures { IfOk result (λ all. vec_len all ≡ count) }
+{
     let mut all = Vec::new(alloc);
-    for _ in 0..count {
+    for made in 0..count {
         all.push(Condvar::new())?;
     }
     Ok(all)

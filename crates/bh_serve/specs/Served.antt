@@ -1,17 +1,25 @@
--- What a service behind a port may answer.
-use Rattle.std.specs.Prelude.{◌≡◌, ℕ, true, List, Result}
+-- What a service behind a port may answer, and what it was asked.
+use Rattle.std.specs.Prelude.{◌≡◌, ℕ, ◌≤◌, ◌⊎◌, true, List, Option, Some, None, Result, Err, if◌then◌else◌}
 use Rattle.bh_base.specs.declared.step.GroupId.{GroupId}
+use Rattle.bh_base.specs.declared.step.Op.{Op}
 use Rattle.bh_base.specs.declared.step.Request.{Request}
 use Rattle.bh_base.specs.declared.step.RunEnd.{RunEnd}
 use Rattle.bh_base.specs.declared.step.FallbackEnd.{FallbackEnd}
 use Rattle.bh_base.specs.declared.step.Op.TheVariants as op
 use Rattle.bh_base.specs.declared.reply.Answer.{Answer}
 use Rattle.bh_base.specs.declared.reply.CallError.{CallError}
+use Rattle.bh_base.specs.declared.reply.CallError.TheVariants as error
 use Rattle.bh_base.specs.declared.reply.Cause.{Cause}
 use Rattle.bh_base.specs.declared.reply.Reply.{Reply}
+use Rattle.bh_base.specs.declared.reply.Reply.TheVariants as reply
 use Rattle.bh_base.specs.Replies.{can_reply}
 use Rattle.bh_journal.specs.declared.pass.Receipt.{Receipt}
-use Rattle.bh_workers.specs.Calls.{IsCall}
+use Rattle.bh_journal.specs.Passes.{PassView, blank}
+use Rattle.bh_audit.specs.declared.next.PassError.{PassError}
+use Rattle.bh_audit.specs.declared.next.PassError.TheVariants as refused
+use Rattle.bh_audit.specs.Service.{ServiceView}
+use Rattle.bh_workers.specs.Calls.{CallAdds, IsCall}
+use Rattle.bh_workers.specs.Receipts.{StepAdds}
 
 -- a reply that a Read can get
 abbrev pub MayShow : GroupId → Reply → Type 0
@@ -24,3 +32,32 @@ MayClose group context reply = can_reply (op.Close context) reply ≡ true
 -- an answer that steps of a call of the request could give, the runs and the fallbacks in it ending as the dependency may
 abbrev pub MayAnswer : (GroupId → List ℕ → RunEnd → Type 0) → (GroupId → Cause → List ℕ → FallbackEnd → Type 0) → (ℕ → Type 0) → GroupId → Request → Result Answer CallError → Type 0
 MayAnswer ends fallback_ends moments group request answer = (made : List Receipt) × IsCall ends fallback_ends moments group request answer made
+
+-- the control of a service: the service, the names of its groups, and the pass of what was asked last, if one was taken
+pub record ControlView : Type 0 where
+  pub service : ServiceView
+  pub names : List (List ℕ)
+  pub last : Option PassView
+
+-- a new pass of the group: it has room in an audited service alone
+abbrev pub new_pass : ServiceView → GroupId → ℕ → PassView
+new_pass service group room = blank group (if service.audited then room else 0)
+
+-- a step of the group was made with a new pass, at a moment that the clock names, and was answered so; where no pass
+-- was taken, there is no such group, or memory for the receipt of an audited service was refused
+abbrev pub IsStepped : (ℕ → Type 0) → ServiceView → GroupId → Op → Reply → Option PassView → Type 0
+IsStepped moments service group o answer (Some p) = StepAdds moments service.audited (new_pass service group 1) o answer p
+IsStepped moments service group o answer None = (answer ≡ reply.NoGroup) × ((service.groups ≤ group.0) ⊎ (service.audited ≡ true))
+
+-- what a call answers where there is no pass for it
+abbrev pub refused_as : PassError → CallError
+refused_as refused.NoGroup = error.NoGroup
+refused_as refused.Memory = error.PassFull
+
+-- a call of the request was made with a new pass, and was answered so; where no pass was taken, there is no such group,
+-- or memory for the receipts of an audited service was refused
+abbrev pub IsCalled : (GroupId → List ℕ → RunEnd → Type 0) → (GroupId → Cause → List ℕ → FallbackEnd → Type 0) → (ℕ → Type 0) → ServiceView → GroupId → Request → Result Answer CallError → Option PassView → Type 0
+IsCalled ends fallback_ends moments service group request result (Some p) =
+    CallAdds service.audited (new_pass service group 5) result p (IsCall ends fallback_ends moments group request result)
+IsCalled ends fallback_ends moments service group request result None =
+    ((result ≡ Err error.NoGroup) × (service.groups ≤ group.0)) ⊎ ((result ≡ Err error.PassFull) × (service.audited ≡ true))

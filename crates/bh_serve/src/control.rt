@@ -1,19 +1,23 @@
 //! Control lines, asked of a service that threads share.
 
-ghost use Rattle.std.specs.Prelude.{◌≡◌, false, true};
+ghost use Rattle.std.specs.Prelude.{◌≡◌, Err, None, true};
+ghost use Rattle.bh_base.specs.declared.reply.CallError.TheVariants.{PassFull};
+ghost use Rattle.bh_base.specs.declared.step.Op.TheVariants as op;
 ghost use Rattle.bh_base.specs.Replies.{can_reply};
-ghost use Rattle.bh_serve.specs.Served.{MayShow, MayAnswer, MayClose};
+ghost use Rattle.bh_serve.specs.Served.{IsCalled, IsStepped, MayAnswer, MayClose, MayShow, refused_as};
 
-use bh_audit::{Clock, Shared};
+use bh_audit::{Clock, Pass, PassError, Shared};
 use bh_base::{Answer, CallError, GroupId, Op, Reply, Request, Step, Text};
 use bh_control::Control;
-use bh_workers::{Dependency, call};
+use bh_workers::{Dependency, MOST_RECEIPTS, call};
 use std::alloc::Global;
+use std::marker::Model;
 use std::sync::Wait;
 
-/// The control of a service that is not audited, for one connection.
+/// The control of a service, for one connection.
 ///
-/// Its calls wait, by the runtime that it keeps.
+/// Its calls wait, by the runtime that it keeps. Each takes a new pass, and the control keeps the last one: in an
+/// audited service it has the receipts of what was done. In another service a pass takes no memory.
 #[derive(Drop)]
 pub struct ServiceControl<'e, R, D, C> {
     rt: &'e R,
@@ -22,6 +26,15 @@ pub struct ServiceControl<'e, R, D, C> {
     names: &'e [Text<32>],
     dependency: &'e D,
     clock: &'e C,
+    last: Option<Pass>,
+}
+
+impl<'e, R, D, C> Model for ServiceControl<'e, R, D, C> {
+    ghost use Rattle.bh_serve.specs.Served.{ControlView};
+
+    ghost Value = { ControlView };
+
+    ghost view = { λ c. record { service = c.shared.now; names = c.names.now; last = c.last } };
 }
 
 impl<'e, R, D, C> ServiceControl<'e, R, D, C> {
@@ -33,7 +46,9 @@ impl<'e, R, D, C> ServiceControl<'e, R, D, C> {
         names: &'e [Text<32>],
         dependency: &'e D,
         clock: &'e C,
-    ) -> ServiceControl<'e, R, D, C> {
+    ) -> ServiceControl<'e, R, D, C>
+        ensures { result ≡ record { service = shared.now; names = names.now; last = None } }
+    {
         ServiceControl {
             rt,
             alloc,
@@ -41,14 +56,39 @@ impl<'e, R, D, C> ServiceControl<'e, R, D, C> {
             names,
             dependency,
             clock,
+            last: None,
         }
+    }
+}
+
+impl<'e, R: Wait, D: Dependency, C: Clock> ServiceControl<'e, R, D, C> {
+    /// Makes one step of the group, now, with a new pass. Where there is none, the reply is `NoGroup`.
+    fn step(&mut self, group: GroupId, op: Op) -> Reply
+        requires { can_reply op Reply.NoGroup ≡ true }
+        ensures kinds { can_reply op result ≡ true }
+        ensures names { self.new.names ≡ self.old.names }
+        ensures made { IsStepped C.moments self.old.service group op result self.new.last }
+    {
+        let now = self.clock.now();
+        let Ok(mut pass) = self.shared.pass(self.alloc, group, 1) else {
+            self.last = None;
+            return Reply::NoGroup;
+        };
+        let Ok(reply) = self
+            .shared
+            .step(self.rt, &mut pass, Step { group, now, op })
+        else {
+            unreachable!()
+        };
+        self.last = Some(pass);
+        reply
     }
 }
 
 impl<'e, R: Wait, D: Dependency, C: Clock> Control for ServiceControl<'e, R, D, C> {
     ghost use Rattle.bh_serve.specs.Served.{MayShow, MayAnswer, MayClose};
 
-    ghost names = { λ control. control.names.now };
+    ghost names = { λ control. control.names };
 
     ghost may_show = { MayShow };
 
@@ -60,61 +100,54 @@ impl<'e, R: Wait, D: Dependency, C: Clock> Control for ServiceControl<'e, R, D, 
         self.names
     }
 
-    fn metrics(&mut self, group: GroupId) -> Reply {
-        make_step(
-            self.rt,
-            self.alloc,
-            self.shared,
-            self.clock,
-            group,
-            Op::Read,
-        )
+    fn metrics(&mut self, group: GroupId) -> Reply
+        ensures reply { MayShow group result }
+        ensures groups { self.new.names ≡ self.old.names }
+        ensures made { IsStepped C.moments self.old.service group op.Read result self.new.last }
+    {
+        self.step(group, Op::Read)
     }
 
-    fn call(&mut self, group: GroupId, request: Request) -> Result<Answer, CallError> {
-        match self.shared.pass(self.alloc, group, 0) {
-            Ok(mut pass) => call(
-                self.rt,
-                self.shared,
-                &mut pass,
-                self.dependency,
-                self.clock,
-                request,
-            ),
-            Err(_) => Err(CallError::NoGroup),
-        }
+    fn call(&mut self, group: GroupId, request: Request) -> Result<Answer, CallError>
+        ensures answer { MayAnswer D.ends D.fallback_ends C.moments group request result }
+        ensures groups { self.new.names ≡ self.old.names }
+        ensures made { IsCalled D.ends D.fallback_ends C.moments self.old.service group request result self.new.last }
+        ensures full { result ≡ Err PassFull → self.old.service.audited ≡ true }
+    {
+        let mut pass = match self.shared.pass(self.alloc, group, MOST_RECEIPTS) {
+            Ok(pass) => pass,
+            Err(error) => {
+                self.last = None;
+                return Err(refused_as(error));
+            }
+        };
+        let answer = call(
+            self.rt,
+            self.shared,
+            &mut pass,
+            self.dependency,
+            self.clock,
+            request,
+        );
+        self.last = Some(pass);
+        answer
     }
 
-    fn close(&mut self, group: GroupId, context: u64) -> Reply {
-        make_step(
-            self.rt,
-            self.alloc,
-            self.shared,
-            self.clock,
-            group,
-            Op::Close { context },
-        )
+    fn close(&mut self, group: GroupId, context: u64) -> Reply
+        ensures reply { MayClose group context result }
+        ensures groups { self.new.names ≡ self.old.names }
+        ensures made { IsStepped C.moments self.old.service group (op.Close context) result self.new.last }
+    {
+        self.step(group, Op::Close { context })
     }
 }
 
-// Makes one step of the group, now. A pass with no room takes no memory; it is refused where there is no such group.
-fn make_step<R: Wait, C: Clock>(
-    rt: &R,
-    alloc: Global,
-    shared: &Shared,
-    clock: &C,
-    group: GroupId,
-    op: Op,
-) -> Reply
-    requires { can_reply op Reply.NoGroup ≡ true }
-    ensures { can_reply op result ≡ true }
+// What a call answers where there is no pass for it.
+fn refused_as(error: PassError) -> CallError
+    ensures { result ≡ refused_as error }
 {
-    let now = clock.now();
-    match shared.pass(alloc, group, 0) {
-        Ok(mut pass) => match shared.step(rt, &mut pass, Step { group, now, op }) {
-            Ok(reply) => reply,
-            Err(_) => Reply::NoGroup,
-        },
-        Err(_) => Reply::NoGroup,
+    match error {
+        PassError::NoGroup => CallError::NoGroup,
+        PassError::Memory => CallError::PassFull,
     }
 }

@@ -1,7 +1,9 @@
 //! Connections to a service, each with a thread and a conversation of its own.
 
-ghost use Rattle.std.specs.Prelude.{◌≡◌, ◌⊎◌, All, IfSome, IfOk, false};
+ghost use Rattle.std.specs.Prelude.{◌≡◌, ◌≤◌, ◌⊎◌, [], ◌∷◌, ◌++◌, length, All, IfSome, IfOk, OnOk, false};
 ghost use Rattle.bh_base.specs.Ranges.{IsInRange};
+ghost use Rattle.bh_port.specs.Text.{names_in};
+ghost use Rattle.bh_props.specs.Seen.{settings_seen};
 ghost use Rattle.bh_props.specs.Settings.{IsAuditLimit};
 
 use crate::clock::MachineClock;
@@ -104,7 +106,8 @@ fn serve<R: Threads + Wait + Clock + Sync, E: Write + Send>(
 fn service(alloc: Global, settings: &Settings) -> Result<Shared, AllocError>
     requires in_range { All (λ group. IsInRange group.1) settings.now.groups.entries }
     requires audit { IfSome settings.now.audit_steps IsAuditLimit }
-    ensures { IfOk result (λ shared. shared ≡ false) }
+    ensures audited { IfOk result (λ shared. shared.audited ≡ false) }
+    ensures groups { IfOk result (λ shared. length settings.now.groups.entries ≤ shared.groups) }
 {
     let Ok(core) = open(alloc, settings) else {
         return Err(AllocError);
@@ -118,8 +121,10 @@ fn service(alloc: Global, settings: &Settings) -> Result<Shared, AllocError>
     }
 }
 
-// The names of the groups, in listed order.
-fn names(alloc: Global, settings: &Settings) -> Result<Vec<Text<32>>, AllocError> {
+// The names of the groups, each at the place that is its group's number.
+fn names(alloc: Global, settings: &Settings) -> Result<Vec<Text<32>>, AllocError>
+    ensures { IfOk result (λ names. names.items ≡ names_in (settings_seen settings.now)) }
+{
     let mut names = Vec::new(alloc);
     for name in settings.groups.keys() {
         put(&mut names, *name)?;
@@ -128,7 +133,9 @@ fn names(alloc: Global, settings: &Settings) -> Result<Vec<Text<32>>, AllocError
 }
 
 // Puts an item behind the others.
-fn put<T: Drop>(list: &mut Vec<T>, item: T) -> Result<(), AllocError> {
+fn put<T: Drop>(list: &mut Vec<T>, item: T) -> Result<(), AllocError>
+    ensures { OnOk result (list.new.items ≡ list.old.items ++ item ∷ []) }
+{
     list.push(item)?;
     Ok(())
 }

@@ -3,9 +3,33 @@
 use crate::samples;
 use crate::script::{assert_number, assert_text, number, split_line, split_word};
 use bh_base::{GroupId, Op, Reply, Step};
-use bh_journal::{AuditReport, Difference, Journal, Pass, Receipt, first_difference};
+use bh_journal::{AuditReport, Difference, Journal, Marks, PassRead, Receipt, first_difference};
 use std::alloc::{AllocError, Global};
 use std::process::Abort;
+
+/// A pass that no service made.
+#[derive(Drop)]
+struct Written {
+    group: GroupId,
+    receipts: Vec<Receipt>,
+    marks: Marks,
+}
+
+impl PassRead for Written {
+    ghost seen = { λ p. record { group = p.group; receipts = p.receipts.items; room = 0; marks = p.marks } };
+
+    fn group(&self) -> GroupId {
+        self.group
+    }
+
+    fn receipts(&self) -> &[Receipt] {
+        self.receipts.as_slice()
+    }
+
+    fn marks(&self) -> Marks {
+        self.marks
+    }
+}
 
 /// A step of the group and its reply.
 fn entry(group: u64, now: u64) -> (Step, Reply) {
@@ -34,15 +58,21 @@ fn receipt(group: u64, word: &str) -> Receipt {
 }
 
 /// A pass of the group, whose receipts have these places and moments.
-fn pass(alloc: Global, group: u64, receipts: &str) -> Result<Pass, AllocError> {
-    let room = receipts.split_whitespace().count() as u64;
-    let mut pass = Pass::new(alloc, GroupId(group), room)?;
-    for word in receipts.split_whitespace() {
-        if pass.room_left() > 0 {
-            pass.add(receipt(group, word));
-        }
+fn pass(alloc: Global, group: u64, words: &str) -> Result<Written, AllocError> {
+    let mut receipts = Vec::new(alloc);
+    for word in words.split_whitespace() {
+        put(&mut receipts, &receipt(group, word))?;
     }
-    Ok(pass)
+    Ok(Written {
+        group: GroupId(group),
+        receipts,
+        marks: marks("none"),
+    })
+}
+
+fn put<T: Copy>(list: &mut Vec<T>, item: &T) -> Result<(), AllocError> {
+    list.push(*item)?;
+    Ok(())
 }
 
 fn found_text(alloc: Global, found: &Option<Difference>) -> Result<String, AllocError> {
@@ -58,14 +88,14 @@ fn found_text(alloc: Global, found: &Option<Difference>) -> Result<String, Alloc
 }
 
 /// Says how the passes differ from the report.
-fn difference(alloc: Global, passes: &[Pass], stopped: bool) -> Result<String, AllocError> {
+fn difference(alloc: Global, passes: &[Written], stopped: bool) -> Result<String, AllocError> {
     let report = report(alloc, stopped)?;
     let found = first_difference(alloc, &report, passes)?;
     found_text(alloc, &found)
 }
 
 /// Passes of these groups and receipts, one for each text between commas.
-fn passes(alloc: Global, words: &str) -> Result<Vec<Pass>, AllocError> {
+fn passes(alloc: Global, words: &str) -> Result<Vec<Written>, AllocError> {
     let mut passes = Vec::new(alloc);
     for one in words.split(", ") {
         let (group, receipts) = split_word(one);
@@ -112,11 +142,12 @@ fn receipts_of_one_group_may_be_in_several_passes(rt: HostRuntime) {
     assert_differences(&rt, SEVERAL);
 }
 
-fn mark(pass: &mut Pass, name: &str) {
-    match name {
-        "worn" => pass.mark_worn(),
-        "no-group" => pass.mark_no_group(),
-        _ => pass.mark_stopped(),
+/// The mark of this name alone.
+fn marks(name: &str) -> Marks {
+    Marks {
+        worn: name == "worn",
+        no_group: name == "no-group",
+        stopped: name == "stopped",
     }
 }
 
@@ -124,7 +155,7 @@ fn mark(pass: &mut Pass, name: &str) {
 fn marked(alloc: Global, group: u64, name: &str, stopped: bool) -> Result<String, AllocError> {
     let mut passes = passes(alloc, "0 1:10 2:20, 1 1:30 2:40")?;
     let mut last = pass(alloc, group, "")?;
-    mark(&mut last, name);
+    last.marks = marks(name);
     passes.push(last)?;
     difference(alloc, passes.as_slice(), stopped)
 }

@@ -6,13 +6,12 @@ ghost use Rattle.bh_audit.specs.Books.{AreNew};
 
 use crate::samples::{props, text};
 use crate::script::{assert_text, number, split_word};
-use bh_audit::{AuditError, AuditReport, Book, Clock, Shared};
+use bh_audit::{AuditError, AuditReport, Book, Clock, Pass, Shared};
 use bh_base::{
     Answer, CallError, Cause, FallbackEnd, GroupId, GroupProps, Moment, Reply, Request, RunEnd,
     Step, Text,
 };
 use bh_core::{Core, RegisterError};
-use bh_journal::Pass;
 use bh_workers::{Dependency, Driven, Pace, RequestList, call, drive};
 use std::alloc::{AllocError, Global};
 use std::process::Abort;

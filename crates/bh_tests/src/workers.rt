@@ -6,9 +6,8 @@ use crate::services::{
     A, B, Echo, Steady, Still, assert_call, assert_drive, assert_end, lists, service, success,
     three_groups,
 };
-use bh_audit::Shared;
+use bh_audit::{Pass, Shared};
 use bh_base::{Cause, FallbackEnd, GroupId, GroupProps, Op, RunEnd, Strategy, Text};
-use bh_journal::Pass;
 use bh_workers::{Dependency, DriveError, drive};
 use std::process::Abort;
 use std::sync::{Mutex, Wait};

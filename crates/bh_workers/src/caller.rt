@@ -8,13 +8,12 @@ ghost use Rattle.bh_workers.specs.Collecting.{CollectAdds};
 use crate::dependency::Dependency;
 use crate::stepping::make_step;
 use crate::worker::end_op;
-use bh_audit::{Clock, Shared};
+use bh_audit::{Clock, Pass, Shared};
 use bh_base::{Answer, CallError, Cause, Op, Reply, Request, Serial, Text};
-use bh_journal::Pass;
 use std::sync::Wait;
 
 /// The most receipts that a call adds.
-const MOST_RECEIPTS: u64 = 5;
+pub const MOST_RECEIPTS: u64 = 5;
 
 /// Submits the request to the pass's group and waits for its answer, in at most five steps.
 ///
@@ -38,8 +37,8 @@ pub fn call<D: Dependency, C: Clock, R: Wait>(
     clock: &C,
     request: Request,
 ) -> Result<Answer, CallError>
-    ensures call { CallAdds shared.now pass.old result pass.new (IsCall D.ends D.fallback_ends C.moments pass.old.group request result) }
-    ensures full { (result ≡ Err PassFull) ↔ ((shared.now ≡ true) × (pass.old.room < 5)) }
+    ensures call { CallAdds shared.now.audited pass.old result pass.new (IsCall D.ends D.fallback_ends C.moments pass.old.group request result) }
+    ensures full { (result ≡ Err PassFull) ↔ ((shared.now.audited ≡ true) × (pass.old.room < 5)) }
     ensures unchanged { result ≡ Err PassFull → pass.new ≡ pass.old }
 {
     if shared.audited() && pass.room_left() < MOST_RECEIPTS {
@@ -71,8 +70,8 @@ fn run_inline<D: Dependency, C: Clock, R: Wait>(
     serial: Serial,
     arg: &Text<64>,
 ) -> Result<Answer, CallError>
-    requires { shared.now ≡ true → 4 ≤ pass.old.room }
-    ensures { CallAdds shared.now pass.old result pass.new (IsRunInline D.ends D.fallback_ends C.moments pass.old.group serial arg.now result) }
+    requires { shared.now.audited ≡ true → 4 ≤ pass.old.room }
+    ensures { CallAdds shared.now.audited pass.old result pass.new (IsRunInline D.ends D.fallback_ends C.moments pass.old.group serial arg.now result) }
 {
     let end = dependency.run(pass.group(), arg);
     let reply = make_step(rt, shared, pass, clock, end_op(serial, end));
@@ -93,8 +92,8 @@ fn settle<D: Dependency, C: Clock, R: Wait>(
     serial: Serial,
     arg: &Text<64>,
 ) -> Result<Answer, CallError>
-    requires { shared.now ≡ true → 3 ≤ pass.old.room }
-    ensures { CallAdds shared.now pass.old result pass.new (IsSettled D.fallback_ends C.moments pass.old.group serial arg.now result) }
+    requires { shared.now.audited ≡ true → 3 ≤ pass.old.room }
+    ensures { CallAdds shared.now.audited pass.old result pass.new (IsSettled D.fallback_ends C.moments pass.old.group serial arg.now result) }
 {
     match collect(rt, shared, pass, clock, serial) {
         Collected::Ended(result) => result,
@@ -115,8 +114,8 @@ fn fall_back<D: Dependency, C: Clock, R: Wait>(
     cause: Cause,
     arg: &Text<64>,
 ) -> Result<Answer, CallError>
-    requires { shared.now ≡ true → 2 ≤ pass.old.room }
-    ensures { CallAdds shared.now pass.old result pass.new (IsFallenBack D.fallback_ends C.moments pass.old.group serial cause arg.now result) }
+    requires { shared.now.audited ≡ true → 2 ≤ pass.old.room }
+    ensures { CallAdds shared.now.audited pass.old result pass.new (IsFallenBack D.fallback_ends C.moments pass.old.group serial cause arg.now result) }
 {
     let end = dependency.fallback(pass.group(), cause, arg);
     let reply = make_step(rt, shared, pass, clock, Op::FallbackDone { serial, end });
@@ -135,8 +134,8 @@ fn collect_last<C: Clock, R: Wait>(
     clock: &C,
     serial: Serial,
 ) -> Result<Answer, CallError>
-    requires { shared.now ≡ true → 1 ≤ pass.old.room }
-    ensures { CallAdds shared.now pass.old result pass.new (IsCollectedLast C.moments pass.old.group serial result) }
+    requires { shared.now.audited ≡ true → 1 ≤ pass.old.room }
+    ensures { CallAdds shared.now.audited pass.old result pass.new (IsCollectedLast C.moments pass.old.group serial result) }
 {
     match collect(rt, shared, pass, clock, serial) {
         Collected::Ended(result) => result,
@@ -160,8 +159,8 @@ fn collect<C: Clock, R: Wait>(
     clock: &C,
     serial: Serial,
 ) -> Collected
-    requires { shared.now ≡ true → 1 ≤ pass.old.room }
-    ensures adds { CollectAdds C.moments shared.now pass.old serial result pass.new }
+    requires { shared.now.audited ≡ true → 1 ≤ pass.old.room }
+    ensures adds { CollectAdds C.moments shared.now.audited pass.old serial result pass.new }
     ensures room { pass.old.room ≤ pass.new.room + 1 }
 {
     let Ok(reply) = shared.await_answer(rt, pass, serial, clock) else {

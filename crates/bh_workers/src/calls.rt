@@ -8,9 +8,8 @@ use crate::crew::pass_of;
 use crate::dependency::Dependency;
 use crate::driven::{DriveError, RequestList};
 use crate::room::push_within;
-use bh_audit::{Clock, Shared};
+use bh_audit::{Clock, Pass, Shared};
 use bh_base::{Answer, CallError, GroupId, Request};
-use bh_journal::Pass;
 use std::alloc::Global;
 use std::marker::PhantomData;
 use std::sync::Wait;
@@ -54,7 +53,7 @@ pub(crate) fn start_callers<
     room: u64,
 ) -> Result<Vec<PromisedHandle<Called, CallerOf<'e, D, C>>>, DriveError>
     ensures len { IfOk result (λ v. vec_len v ≡ length lists.now) }
-    ensures each { IfOk result (λ v. AllCallers shared.now lists.now v.items) }
+    ensures each { IfOk result (λ v. AllCallers shared.now.audited lists.now v.items) }
 {
     let Ok(mut handles) = Vec::with_capacity(alloc, lists.len()) else {
         return Err(DriveError::Memory);
@@ -77,7 +76,7 @@ pub(crate) fn start_callers<
             promise,
             move || -> Called
                 requires { (pass.receipts ≡ []) × (answers.items ≡ []) × (length requests.now ≤ vec_capacity answers) }
-                ensures { CalledAs D.ends D.fallback_ends C.moments shared.entry.now pass.group requests.entry.now result }
+                ensures { CalledAs D.ends D.fallback_ends C.moments shared.entry.now.audited pass.group requests.entry.now result }
             { make_calls(rt, shared, pass, answers, dependency, clock, requests) },
         );
         let Ok(handle) = spawned else {
@@ -100,7 +99,7 @@ fn make_calls<D: Dependency, C: Clock, R: Wait>(
 ) -> Called
     requires empty { (pass.receipts ≡ []) × (answers.items ≡ []) }
     requires room { length requests.now ≤ vec_capacity answers }
-    ensures { CalledAs D.ends D.fallback_ends C.moments shared.now pass.group requests.now result }
+    ensures { CalledAs D.ends D.fallback_ends C.moments shared.now.audited pass.group requests.now result }
 {
     for request in requests {
         make_call(
@@ -127,7 +126,7 @@ fn make_call<D: Dependency, C: Clock, R: Wait>(
     request: &Request,
 )
     requires { vec_len answers.old < vec_capacity answers.old }
-    ensures made { MakesCall D.ends D.fallback_ends C.moments shared.now pass.old answers.old.items request.now pass.new answers.new.items }
+    ensures made { MakesCall D.ends D.fallback_ends C.moments shared.now.audited pass.old answers.old.items request.now pass.new answers.new.items }
     ensures len { vec_len answers.new ≡ vec_len answers.old + 1 }
     ensures capacity { vec_capacity answers.old ≤ vec_capacity answers.new }
 {

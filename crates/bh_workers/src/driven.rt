@@ -1,7 +1,7 @@
 //! What goes into a drive and what comes back.
 
+use bh_audit::Pass;
 use bh_base::{Answer, CallError, GroupId, Request};
-use bh_journal::Pass;
 use thiserror::Error;
 
 /// The requests that one caller makes, one after another, to one group.

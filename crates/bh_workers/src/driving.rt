@@ -8,8 +8,7 @@ use crate::calls::{Called, start_callers};
 use crate::crew::{start_timer, start_workers};
 use crate::dependency::{Dependency, Pace};
 use crate::driven::{DriveError, Driven, RequestList};
-use bh_audit::{Clock, Shared};
-use bh_journal::Pass;
+use bh_audit::{Clock, Pass, Shared};
 use std::alloc::Global;
 use std::sync::Wait;
 use std::thread;
@@ -36,7 +35,7 @@ pub fn drive<
     lists: &[RequestList],
     room: u64,
 ) -> Result<Driven, DriveError>
-    ensures { IfOk result (λ d. IsDriven D.ends D.fallback_ends C.moments shared.now lists.now d) }
+    ensures { IfOk result (λ d. IsDriven D.ends D.fallback_ends C.moments shared.now.audited lists.now d) }
 {
     let groups = shared.groups(rt);
     if lists.iter().any(|list| list.group.0 >= groups) {
@@ -46,7 +45,7 @@ pub fn drive<
         thread::scope_env(),
         rt,
         |scope| -> Result<Driven, DriveError>
-            ensures { IfOk result (λ d. IsDriven D.ends D.fallback_ends C.moments shared.entry.now lists.entry.now d) }
+            ensures { IfOk result (λ d. IsDriven D.ends D.fallback_ends C.moments shared.entry.now.audited lists.entry.now d) }
         {
             let driven = run_all(
                 rt, scope, alloc, shared, dependency, clock, pace, lists, room,
@@ -78,7 +77,7 @@ fn run_all<
     lists: &'e [RequestList],
     room: u64,
 ) -> Result<Driven, DriveError>
-    ensures { IfOk result (λ d. IsDriven D.ends D.fallback_ends C.moments shared.now lists.now d) }
+    ensures { IfOk result (λ d. IsDriven D.ends D.fallback_ends C.moments shared.now.audited lists.now d) }
 {
     let timer = start_timer(rt, scope, alloc, shared, clock, pace, room)?;
     let workers = start_workers(rt, scope, alloc, shared, dependency, clock, room)?;

@@ -13,7 +13,7 @@ mod stepping;
 pub mod timer;
 pub mod worker;
 
-pub use caller::call;
+pub use caller::{MOST_RECEIPTS, call};
 pub use dependency::{Dependency, Pace};
 pub use driven::{DriveError, Driven, RequestList};
 pub use driving::drive;

@@ -4,9 +4,8 @@ ghost use Rattle.std.specs.Prelude.{◌≡◌, ◌+◌, ◌≤◌, true};
 ghost use Rattle.bh_base.specs.Replies.{can_reply};
 ghost use Rattle.bh_workers.specs.Receipts.{StepAdds};
 
-use bh_audit::{Clock, Shared};
+use bh_audit::{Clock, Pass, Shared};
 use bh_base::{Op, Reply, Step};
-use bh_journal::Pass;
 use std::sync::Wait;
 
 /// Makes the step. The clock is read before the lock is taken.
@@ -17,8 +16,8 @@ pub(crate) fn make_step<C: Clock, R: Wait>(
     clock: &C,
     op: Op,
 ) -> Reply
-    requires { shared.now ≡ true → 1 ≤ pass.old.room }
-    ensures adds { StepAdds C.moments shared.now pass.old op result pass.new }
+    requires { shared.now.audited ≡ true → 1 ≤ pass.old.room }
+    ensures adds { StepAdds C.moments shared.now.audited pass.old op result pass.new }
     ensures kinds { can_reply op result ≡ true }
     ensures room { pass.old.room ≤ pass.new.room + 1 }
 {

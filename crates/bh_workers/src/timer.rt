@@ -3,8 +3,7 @@
 ghost use Rattle.bh_workers.specs.Timing.{AreTimed, IsTimed};
 
 use crate::dependency::Pace;
-use bh_audit::{Clock, Shared};
-use bh_journal::Pass;
+use bh_audit::{Clock, Pass, Shared};
 use std::sync::Wait;
 
 /// Times out, for each pass in turn, the tickets of its group that are due, again and again while the pace goes on
@@ -16,7 +15,7 @@ pub fn timer_loop<C: Clock, P: Pace, R: Wait>(
     clock: &C,
     pace: &mut P,
 )
-    ensures { AreTimed C.moments shared.now passes.old passes.new }
+    ensures { AreTimed C.moments shared.now.audited passes.old passes.new }
 {
     for _ in rt.forever() {
         if !pace.go_on() || shared.stopped(rt) {
@@ -29,7 +28,7 @@ pub fn timer_loop<C: Clock, P: Pace, R: Wait>(
 
 /// Goes over the passes once.
 fn expire_all<C: Clock, R: Wait>(rt: &R, shared: &Shared, passes: &mut [Pass], clock: &C)
-    ensures { AreTimed C.moments shared.now passes.old passes.new }
+    ensures { AreTimed C.moments shared.now.audited passes.old passes.new }
 {
     for i in 0..passes.len() {
         let pass = &mut passes[i];
@@ -39,7 +38,7 @@ fn expire_all<C: Clock, R: Wait>(rt: &R, shared: &Shared, passes: &mut [Pass], c
 
 /// Times out what is due in the group of the pass, unless the pass is full.
 fn expire<C: Clock, R: Wait>(rt: &R, shared: &Shared, pass: &mut Pass, clock: &C)
-    ensures { IsTimed C.moments shared.now pass.old pass.new }
+    ensures { IsTimed C.moments shared.now.audited pass.old pass.new }
 {
     let _ = shared.expire_due(rt, pass, clock);
 }

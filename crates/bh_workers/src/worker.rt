@@ -9,9 +9,8 @@ ghost use Rattle.bh_workers.specs.Work.{HasReasonToEnd, IsEnding, IsTurn, IsWork
 
 use crate::dependency::Dependency;
 use crate::stepping::make_step;
-use bh_audit::{Clock, Next, Shared};
+use bh_audit::{Clock, Next, Pass, Shared};
 use bh_base::{Op, Reply, RunEnd, Serial, Text};
-use bh_journal::Pass;
 use std::sync::Wait;
 
 /// The operation that tells how the run of the ticket ended.
@@ -33,8 +32,8 @@ fn turn<D: Dependency, C: Clock, R: Wait>(
     dependency: &D,
     clock: &C,
 ) -> bool
-    ensures adds { (made : List Receipt) × Gains shared.now pass.old pass.new made × IsTurn D.ends C.moments pass.old.group result made }
-    ensures ended { result ≡ false → HasReasonToEnd shared.now pass.new }
+    ensures adds { (made : List Receipt) × Gains shared.now.audited pass.old pass.new made × IsTurn D.ends C.moments pass.old.group result made }
+    ensures ended { result ≡ false → HasReasonToEnd shared.now.audited pass.new }
 {
     let Ok(next) = shared.next(rt, pass, clock) else {
         return false;
@@ -57,9 +56,9 @@ fn run_to_end<D: Dependency, C: Clock, R: Wait>(
     serial: Serial,
     arg: &Text<64>,
 ) -> bool
-    requires { shared.now ≡ true → 0 < pass.old.room }
-    ensures adds { (made : List Receipt) × Gains shared.now pass.old pass.new made × IsEnding D.ends C.moments pass.old.group serial arg.now result made }
-    ensures ended { result ≡ false → HasReasonToEnd shared.now pass.new }
+    requires { shared.now.audited ≡ true → 0 < pass.old.room }
+    ensures adds { (made : List Receipt) × Gains shared.now.audited pass.old pass.new made × IsEnding D.ends C.moments pass.old.group serial arg.now result made }
+    ensures ended { result ≡ false → HasReasonToEnd shared.now.audited pass.new }
 {
     let end = dependency.run(pass.group(), arg);
     let reply = make_step(rt, shared, pass, clock, end_op(serial, end));
@@ -84,8 +83,8 @@ pub fn worker_loop<D: Dependency, C: Clock, R: Wait>(
     dependency: &D,
     clock: &C,
 )
-    ensures work { (made : List Receipt) × Gains shared.now pass.old pass.new made × IsWork D.ends C.moments pass.old.group made }
-    ensures ended { HasReasonToEnd shared.now pass.new }
+    ensures work { (made : List Receipt) × Gains shared.now.audited pass.old pass.new made × IsWork D.ends C.moments pass.old.group made }
+    ensures ended { HasReasonToEnd shared.now.audited pass.new }
 {
     for _ in rt.forever() {
         if !turn(rt, shared, pass, dependency, clock) {

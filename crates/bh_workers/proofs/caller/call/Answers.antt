@@ -5,7 +5,7 @@ use Rattle.bh_workers.proofs.caller.call.Goals as goal
 
 pub returns-in-Queued-clause-call : goal.returns-in-Queued-clause-call
 returns-in-Queued-clause-call g c =
-    let a = c.args.shared.now in
+    let a = c.args.shared.now.audited in
     let p = c.args.pass.now in
     let q = c.settle.new.pass in
     let serial = c.in-Queued.serial in
@@ -15,7 +15,7 @@ returns-in-Queued-clause-call g c =
 
 pub returns-in-Joined-clause-call : goal.returns-in-Joined-clause-call
 returns-in-Joined-clause-call g c =
-    let a = c.args.shared.now in
+    let a = c.args.shared.now.audited in
     let p = c.args.pass.now in
     let q = c.settle-in-Joined.new.pass in
     let serial = c.in-Joined.serial in
@@ -25,7 +25,7 @@ returns-in-Joined-clause-call g c =
 
 pub returns-in-FallbackDue-clause-call : goal.returns-in-FallbackDue-clause-call
 returns-in-FallbackDue-clause-call g c =
-    let a = c.args.shared.now in
+    let a = c.args.shared.now.audited in
     let p = c.args.pass.now in
     let q = c.settle-in-FallbackDue.new.pass in
     let serial = c.in-FallbackDue.serial in
@@ -36,7 +36,7 @@ returns-in-FallbackDue-clause-call g c =
 
 pub returns-in-Inline-clause-call : goal.returns-in-Inline-clause-call
 returns-in-Inline-clause-call g c =
-    let a = c.args.shared.now in
+    let a = c.args.shared.now.audited in
     let p = c.args.pass.now in
     let q = c.run_inline.new.pass in
     call_is g.D.Dependency.ends g.D.Dependency.fallback_ends g.C.Clock.moments a p q c.args.request c.run_inline.result
@@ -45,5 +45,5 @@ returns-in-Inline-clause-call g c =
 
 pub returns-in-GroupFull-clause-call : goal.returns-in-GroupFull-clause-call
 returns-in-GroupFull-clause-call g c =
-    finds_full g.D.Dependency.ends g.D.Dependency.fallback_ends g.C.Clock.moments c.args.shared.now c.args.pass.now c.make_step-reply.new.pass c.args.request
+    finds_full g.D.Dependency.ends g.D.Dependency.fallback_ends g.C.Clock.moments c.args.shared.now.audited c.args.pass.now c.make_step-reply.new.pass c.args.request
     (rw c.in-GroupFull.is at c.make_step-reply.ensures.adds)

@@ -10,7 +10,7 @@ use Rattle.bh_workers.proofs.caller.collect_last.Goals as goal
 
 pub returns-in-Fallback : goal.returns-in-Fallback
 returns-in-Fallback g c =
-    let a = c.args.shared.now in
+    let a = c.args.shared.now.audited in
     let p = c.args.pass.now in
     let q = c.collect.new.pass in
     let cause = c.in-Fallback.field-0 in

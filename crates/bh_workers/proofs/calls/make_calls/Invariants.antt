@@ -7,5 +7,5 @@ abbrev pub invariant-loop-request : goal.invariant-loop-request
 invariant-loop-request g l = record {
   len : vec_len l.answers ≡ l.request-index;
   room : length l.requests ≤ vec_capacity l.answers;
-  calls : SoFar g.D.Dependency.ends g.D.Dependency.fallback_ends g.C.Clock.moments l.shared l.fn.pass.group (take l.request-index l.requests) l.answers.items l.pass;
+  calls : SoFar g.D.Dependency.ends g.D.Dependency.fallback_ends g.C.Clock.moments l.shared.audited l.fn.pass.group (take l.request-index l.requests) l.answers.items l.pass;
 }

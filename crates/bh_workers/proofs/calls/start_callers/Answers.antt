@@ -9,7 +9,7 @@ pub loop-list-preserved : goal.loop-list-preserved
 loop-list-preserved g c =
     let lt : c.loop-list.list-index < length c.args.lists.now = c.loop-list-test.true in
     let p = c.in-Ok-spawned.ensures.ok in
-    let is : IsCallerOf {D = g.row.D.Denot} {C = g.row.C.Denot} c.args.shared.now c.list-item.result c.in-Ok-spawned.handle.promise = record {
+    let is : IsCallerOf {D = g.row.D.Denot} {C = g.row.C.Denot} c.args.shared.now.audited c.list-item.result c.in-Ok-spawned.handle.promise = record {
       kind = ap (λ (x : CallerOf g.row.D.Denot g.row.C.Denot). x.audited) p ∙ c.loop-list.invariant.kind;
       group = ap (λ (x : CallerOf g.row.D.Denot g.row.C.Denot). x.group) p;
       requests = ap (λ (x : CallerOf g.row.D.Denot g.row.C.Denot). x.requests.now) p ∙ c.as_slice-requests.ensures.value;
@@ -19,7 +19,7 @@ loop-list-preserved g c =
       room = (let e = c.push_reserved.ensures.capacity in let i = c.loop-list.invariant.room in omega arith);
       kind = c.loop-list.invariant.kind;
       all = rw c.push_reserved.ensures.items
-          (callers_push {D = g.row.D.Denot} {C = g.row.C.Denot} c.args.shared.now c.args.lists.now c.loop-list.handles.items c.in-Ok-spawned.handle c.loop-list.list-index c.list-item.result
+          (callers_push {D = g.row.D.Denot} {C = g.row.C.Denot} c.args.shared.now.audited c.args.lists.now c.loop-list.handles.items c.in-Ok-spawned.handle c.loop-list.list-index c.list-item.result
           c.loop-list.invariant.all (sym c.loop-list.handles.ok.0 ∙ c.loop-list.invariant.len)
           (slice_get_read c.args.lists.now (length c.args.lists.now) c.loop-list.list-index c.list-item.result refl lt c.list-item.is) is);
     }

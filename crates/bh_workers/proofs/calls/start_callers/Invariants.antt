@@ -7,6 +7,6 @@ abbrev pub invariant-loop-list : goal.invariant-loop-list
 invariant-loop-list g l = record {
   len : vec_len l.handles ≡ l.list-index;
   room : length l.lists ≤ vec_capacity l.handles;
-  kind : l.audited ≡ l.shared;
-  all : AllCallers l.shared l.lists l.handles.items;
+  kind : l.audited ≡ l.shared.audited;
+  all : AllCallers l.shared.audited l.lists l.handles.items;
 }

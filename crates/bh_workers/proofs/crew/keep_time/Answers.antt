@@ -8,8 +8,8 @@ use Rattle.bh_workers.proofs.crew.keep_time.Goals as goal
 
 pub returns : goal.returns
 returns g c =
-    let P : List PassView → Type 0 = λ x. AreTimed g.C.Clock.moments c.args.shared.now x c.timer_loop.new.passes in
-    let timed : AreTimed g.C.Clock.moments c.args.shared.now c.args.passes.items c.timer_loop.new.passes = subst P c.as_mut_slice.ensures.value c.timer_loop.ensures in
+    let P : List PassView → Type 0 = λ x. AreTimed g.C.Clock.moments c.args.shared.now.audited x c.timer_loop.new.passes in
+    let timed : AreTimed g.C.Clock.moments c.args.shared.now.audited c.args.passes.items c.timer_loop.new.passes = subst P c.as_mut_slice.ensures.value c.timer_loop.ensures in
     let All : List PassView → Type 0 = AllByRecursion (IsTimerPass g.C.Clock.moments) in
     subst All (sym (whole_back c.args.passes.len c.timer_loop.new.passes c.args.passes.items timed.count c.args.passes.ok.0))
-    (timer_passes g.C.Clock.moments c.args.shared.now c.args.passes.items c.timer_loop.new.passes c.requires timed)
+    (timer_passes g.C.Clock.moments c.args.shared.now.audited c.args.passes.items c.timer_loop.new.passes c.requires timed)

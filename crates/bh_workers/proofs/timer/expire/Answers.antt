@@ -5,4 +5,4 @@ pub returns : goal.returns
 returns g c =
     let adds = c.expire_due.ensures.adds in
     let err = c.expire_due.ensures.err in
-    looked g.C.Clock.moments c.args.shared.now c.args.pass.now c.expire_due.new.pass c.expire_due.result (λ number is. rw is at adds) (λ e is. rw is at err)
+    looked g.C.Clock.moments c.args.shared.now.audited c.args.pass.now c.expire_due.new.pass c.expire_due.result (λ number is. rw is at adds) (λ e is. rw is at err)

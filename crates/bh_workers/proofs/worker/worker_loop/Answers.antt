@@ -5,7 +5,7 @@ pub loop-init : goal.loop-init
 loop-init g c = record {
   next = tt;
   finite = tt;
-  runs = work_begins g.D.Dependency.ends g.C.Clock.moments c.args.shared.now c.args.pass.now;
+  runs = work_begins g.D.Dependency.ends g.C.Clock.moments c.args.shared.now.audited c.args.pass.now;
 }
 
 pub loop-preserved : goal.loop-preserved
@@ -14,10 +14,10 @@ loop-preserved g c = record {
   finite = tt;
   runs =
       (let turned = rw c.if-not-turn.false at c.turn.ensures.adds in
-      work_goes_on g.D.Dependency.ends g.C.Clock.moments c.args.shared.now c.args.pass.now c.loop.pass c.turn.new.pass c.loop.invariant.runs turned);
+      work_goes_on g.D.Dependency.ends g.C.Clock.moments c.args.shared.now.audited c.args.pass.now c.loop.pass c.turn.new.pass c.loop.invariant.runs turned);
 }
 
 pub returns-then-not-turn-clause-work : goal.returns-then-not-turn-clause-work
 returns-then-not-turn-clause-work g c =
     let turned = rw c.if-not-turn.true at c.turn.ensures.adds in
-    work_ends g.D.Dependency.ends g.C.Clock.moments c.args.shared.now c.args.pass.now c.loop.pass c.turn.new.pass c.loop.invariant.runs turned
+    work_ends g.D.Dependency.ends g.C.Clock.moments c.args.shared.now.audited c.args.pass.now c.loop.pass c.turn.new.pass c.loop.invariant.runs turned
