@@ -11,54 +11,13 @@ use Rattle.bh_base.specs.declared.ticket.Ticket.{Ticket}
 use Rattle.bh_base.specs.declared.ticket.TicketState.{TicketState}
 use Rattle.bh_base.specs.declared.ticket.TicketState.TheVariants as ticket
 use Rattle.bh_base.specs.Machine.{Present, Outcome, busy_count, collected, collected_in, in_fallback_count, is_due, started}
-use Rattle.bh_base.specs.Replies.{is_answer_to}
 use Rattle.bh_base.specs.Runs.{View, begun, is_worn}
 use Rattle.bh_base.specs.Seen.{view_outcome, view_reply}
 use Rattle.bh_base.specs.Tickets.{in_state, is_held_at, is_queued}
-use Rattle.bh_base.proofs.Answering.{outcome_answers}
 use Rattle.bh_core.specs.Changes.{is_due_by, is_unanswered}
 use Rattle.bh_core.specs.Stepping.{due_rule_of}
 use Rattle.bh_core.specs.declared.tickets.DueRule.{DueRule}
-use Rattle.bh_core.specs.Looks.{expires_some, is_assigned, is_pending, is_worn_out}
-
--- an operation's own reply is not Worn
-own_answer : (o : Op) (r : Reply) → is_answer_to o r ≡ true → is_worn_out r ≡ false
-own_answer (op.Submit request) reply.Worn is = absurd cc
-own_answer op.Start reply.Worn is = absurd cc
-own_answer (op.Finish serial body) reply.Worn is = absurd cc
-own_answer (op.Fail serial bad) reply.Worn is = absurd cc
-own_answer op.Expire reply.Worn is = absurd cc
-own_answer (op.Collect serial) reply.Worn is = absurd cc
-own_answer (op.FallbackDone serial e) reply.Worn is = absurd cc
-own_answer (op.Close context) reply.Worn is = absurd cc
-own_answer op.Read reply.Worn is = absurd cc
-own_answer o (reply.Queued serial) is = refl
-own_answer o (reply.Inline serial) is = refl
-own_answer o (reply.FallbackDue serial cause) is = refl
-own_answer o (reply.Joined serial) is = refl
-own_answer o reply.GroupFull is = refl
-own_answer o (reply.Assigned serial arg) is = refl
-own_answer o reply.Idle is = refl
-own_answer o reply.Done is = refl
-own_answer o reply.Late is = refl
-own_answer o reply.NotRunning is = refl
-own_answer o (reply.Expired number) is = refl
-own_answer o reply.Pending is = refl
-own_answer o (reply.RunFallback cause) is = refl
-own_answer o (reply.Answered answer) is = refl
-own_answer o reply.NoTicket is = refl
-own_answer o reply.NotInFallback is = refl
-own_answer o (reply.Closed number) is = refl
-own_answer o (reply.Metrics metrics) is = refl
-own_answer o reply.NoGroup is = refl
-
--- the group is worn exactly where a step is answered so
-pub worn_seen : (v : View) (o : Op) (now : ℕ) → is_worn v.present ≡ is_worn_out (view_reply v o now)
-worn_seen v o now = at (is_worn v.present)
-  where
-    at : (worn : Bool) → worn ≡ is_worn_out (if worn then reply.Worn else (view_outcome v o now).reply)
-    at true = refl
-    at false = sym (own_answer o _ (outcome_answers o _ (begun now v.present)))
+use Rattle.bh_core.specs.Looks.{expires_some, is_assigned, is_pending}
 
 -- what is told of the reply of a group that is not worn
 reply_fresh : (p : Reply → Bool) (v : View) (o : Op) (now : ℕ) → is_worn v.present ≡ false → p (view_reply v o now) ≡ p (view_outcome v o now).reply

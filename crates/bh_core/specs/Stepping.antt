@@ -1,5 +1,5 @@
 -- A step of one group, taken apart into its begin, the case of its operation, and its end.
-use Rattle.std.specs.Prelude.{◌≡◌, ℕ, ◌+◌, ◌-◌, ◌*◌, ◌/◌, ◌<◌, ◌≤◌, ◌^◌, Bool, List, [], ◌∷◌, filter, find, length, position, Option, Some, None, true, if◌then◌else◌}
+use Rattle.std.specs.Prelude.{◌≡◌, ℕ, ◌+◌, ◌-◌, ◌*◌, ◌/◌, ◌<◌, ◌≤◌, ◌^◌, Bool, List, [], ◌∷◌, filter, find, Option, Some, None, true, if◌then◌else◌}
 use Rattle.bh_base.specs.declared.event.EventKind.{EventKind}
 use Rattle.bh_base.specs.declared.event.Health.{Health}
 use Rattle.bh_base.specs.declared.props.GroupProps.{GroupProps}
@@ -18,6 +18,7 @@ use Rattle.bh_base.specs.Bounds.{HeldBy}
 use Rattle.bh_base.specs.Tickets.{is_kept}
 use Rattle.bh_base.specs.Runs.{View, begun, released}
 use Rattle.bh_base.specs.Seen.{view_rolling}
+use Rattle.bh_core.specs.Changes.{IsFirst}
 use Rattle.bh_core.specs.Counted.{counted}
 
 -- a step has begun and recorded nothing: its number and moment are there, and every count is what it was
@@ -123,4 +124,4 @@ view_test_timed_out v = record v {
 -- the place is that of the cached ticket that a request of the name joins, and there is none only where it joins none
 abbrev pub IsJoinable : Present → Option (ℕ × List ℕ) → Option ℕ → Type 0
 IsJoinable g name None = cached_as name g ≡ None
-IsJoinable g name (Some place) = (g.props.cache_on ≡ true) × (place < length g.tickets) × (Some place ≡ position (is_joined_by name) g.tickets)
+IsJoinable g name (Some place) = (g.props.cache_on ≡ true) × IsFirst (is_joined_by name) g.tickets place

@@ -1,11 +1,11 @@
 //! The tickets of a group, in a plain list by rising serial.
 
-ghost use Rattle.std.specs.Prelude.{◌≡◌, ℕ, ◌+◌, ◌-◌, ◌<◌, ◌≤◌, ◌^◌, ◌==◌, [], ◌∷◌, ◌++◌, count_by, filter, map, position, length, slice_index_or, slice_set, IfOk, IfSome};
+ghost use Rattle.std.specs.Prelude.{◌≡◌, ℕ, Bool, ◌+◌, ◌-◌, ◌<◌, ◌≤◌, ◌^◌, ◌==◌, [], ◌∷◌, ◌++◌, count_by, filter, find, map, position, length, slice_get, IfOk, IfSome, None, Some};
 ghost use Rattle.bh_base.specs.declared.ticket.Ticket.{Ticket};
 ghost use Rattle.bh_base.specs.declared.ticket.TicketState.TheVariants as ticket;
 ghost use Rattle.bh_base.specs.Machine.{released_by_one};
-ghost use Rattle.bh_base.specs.Tickets.{in_state, is_busy_at, is_cached_as, is_cached_in, is_held_at, is_in_fallback, is_in_fallback_at, is_kept, is_queued, is_running};
-ghost use Rattle.bh_core.specs.Changes.{answered, joined, is_due_by, is_unanswered, timed_out_by, run_ended, run_started, run_stopped, fallback_started};
+ghost use Rattle.bh_base.specs.Tickets.{changed_first, in_state, is_busy_at, is_cached_as, is_cached_in, is_held_at, is_in_fallback, is_in_fallback_at, is_kept, is_queued, is_running};
+ghost use Rattle.bh_core.specs.Changes.{IsFirst, answered, joined, is_due_by, is_unanswered, timed_out_by, run_ended, run_started, run_stopped, fallback_started};
 ghost use Rattle.bh_cache.specs.Cache.{uncached_in};
 ghost use Rattle.std.specs.List.{list_any};
 
@@ -31,9 +31,9 @@ pub struct Tickets {
 
 impl Model for Tickets {
     ghost use Rattle.std.specs.Prelude.{vec_capacity};
-    ghost use Rattle.bh_core.specs.Changes.{TicketStore};
+    ghost use Rattle.bh_core.specs.TicketsView.{TicketsView};
 
-    ghost Value = { TicketStore };
+    ghost Value = { TicketsView };
 
     ghost view = { λ ts. record { items = ts.items.items; room = vec_capacity ts.items } };
 }
@@ -77,34 +77,38 @@ impl Tickets {
         in_fallback_count(&self.items)
     }
 
+    #[tactic(auto, using(crate::proofs::Places::found_first, crate::proofs::Places::none_first))]
     /// The place of the queued ticket of least serial.
     pub fn first_queued(&self) -> Option<usize>
-        ensures place { result ≡ position is_queued self.now.items }
-        ensures inside { IfSome result (λ place. place < length self.now.items) }
+        ensures found { IfSome result (IsFirst is_queued self.now.items) }
+        ensures none { result ≡ None → find is_queued self.now.items ≡ None }
     {
         first_queued(&self.items)
     }
 
+    #[tactic(auto, using(crate::proofs::Places::found_first, crate::proofs::Places::none_first))]
     /// The place of the ticket of the serial, where its run is under way.
     pub fn find_busy(&self, serial: Serial) -> Option<usize>
-        ensures place { result ≡ position (is_busy_at serial) self.now.items }
-        ensures inside { IfSome result (λ place. place < length self.now.items) }
+        ensures found { IfSome result (IsFirst (is_busy_at serial) self.now.items) }
+        ensures none { result ≡ None → find (is_busy_at serial) self.now.items ≡ None }
     {
         find_busy(&self.items, serial)
     }
 
+    #[tactic(auto, using(crate::proofs::Places::found_first, crate::proofs::Places::none_first))]
     /// The place of the ticket of the serial, where someone holds it.
     pub fn find_held(&self, serial: Serial) -> Option<usize>
-        ensures place { result ≡ position (is_held_at serial) self.now.items }
-        ensures inside { IfSome result (λ place. place < length self.now.items) }
+        ensures found { IfSome result (IsFirst (is_held_at serial) self.now.items) }
+        ensures none { result ≡ None → find (is_held_at serial) self.now.items ≡ None }
     {
         find_held(&self.items, serial)
     }
 
+    #[tactic(auto, using(crate::proofs::Places::found_first, crate::proofs::Places::none_first))]
     /// The place of the ticket that is cached under the context and the key.
     pub fn find_cached(&self, context: u64, key: &Text<32>) -> Option<usize>
-        ensures place { result ≡ position (is_cached_as (context, key.now)) self.now.items }
-        ensures inside { IfSome result (λ place. place < length self.now.items) }
+        ensures found { IfSome result (IsFirst (is_cached_as (context, key.now)) self.now.items) }
+        ensures none { result ≡ None → find (is_cached_as (context, key.now)) self.now.items ≡ None }
     {
         bh_cache::find(&self.items, context, key)
     }
@@ -131,10 +135,11 @@ impl Tickets {
         any_due(&self.items, due)
     }
 
+    #[tactic(auto, using(crate::proofs::Places::found_first, crate::proofs::Places::none_first))]
     /// The place of the ticket of the serial, where a holder runs its fallback.
     pub fn find_in_fallback(&self, serial: Serial) -> Option<usize>
-        ensures place { result ≡ position (is_in_fallback_at serial) self.now.items }
-        ensures inside { IfSome result (λ place. place < length self.now.items) }
+        ensures found { IfSome result (IsFirst (is_in_fallback_at serial) self.now.items) }
+        ensures none { result ≡ None → find (is_in_fallback_at serial) self.now.items ≡ None }
     {
         find_in_fallback(&self.items, serial)
     }
@@ -142,7 +147,7 @@ impl Tickets {
     /// The ticket at the place.
     pub fn get(&self, place: usize) -> &Ticket
         requires { place < length self.now.items }
-        ensures { result.now ≡ slice_index_or self.now.items place result.now }
+        ensures { slice_get self.now.items place ≡ Some result.now }
     {
         &self.items[place]
     }
@@ -159,7 +164,7 @@ impl Tickets {
     /// A worker begins with the run of the ticket.
     pub fn start_run(&mut self, place: usize)
         requires { place < length self.old.items }
-        ensures items { (d : Ticket) → self.new.items ≡ slice_set self.old.items place (run_started (slice_index_or self.old.items place d)) }
+        ensures items { (p : Ticket → Bool) → IsFirst p self.old.items place → self.new.items ≡ changed_first p run_started self.old.items }
         ensures len { length self.new.items ≡ length self.old.items }
         ensures room { self.new.room ≡ self.old.room }
     {
@@ -171,7 +176,7 @@ impl Tickets {
     /// The run of the ticket has ended in time.
     pub fn end_run(&mut self, place: usize, state: &TicketState)
         requires { place < length self.old.items }
-        ensures items { (d : Ticket) → self.new.items ≡ slice_set self.old.items place (run_ended state.now (slice_index_or self.old.items place d)) }
+        ensures items { (p : Ticket → Bool) → IsFirst p self.old.items place → self.new.items ≡ changed_first p (run_ended state.now) self.old.items }
         ensures len { length self.new.items ≡ length self.old.items }
         ensures room { self.new.room ≡ self.old.room }
     {
@@ -183,7 +188,7 @@ impl Tickets {
     /// The run of the ticket has ended, too late.
     pub fn stop_run(&mut self, place: usize)
         requires { place < length self.old.items }
-        ensures items { (d : Ticket) → self.new.items ≡ slice_set self.old.items place (run_stopped (slice_index_or self.old.items place d)) }
+        ensures items { (p : Ticket → Bool) → IsFirst p self.old.items place → self.new.items ≡ changed_first p run_stopped self.old.items }
         ensures len { length self.new.items ≡ length self.old.items }
         ensures room { self.new.room ≡ self.old.room }
     {
@@ -194,8 +199,8 @@ impl Tickets {
     /// One holder has collected the answer.
     pub fn release_holder(&mut self, place: usize)
         requires inside { place < length self.old.items }
-        requires held { (d : Ticket) → 0 < (slice_index_or self.old.items place d).holders }
-        ensures items { (d : Ticket) → self.new.items ≡ slice_set self.old.items place (released_by_one (slice_index_or self.old.items place d)) }
+        requires held { (t : Ticket) → slice_get self.old.items place ≡ Some t → 0 < t.holders }
+        ensures items { (p : Ticket → Bool) → IsFirst p self.old.items place → self.new.items ≡ changed_first p released_by_one self.old.items }
         ensures len { length self.new.items ≡ length self.old.items }
         ensures room { self.new.room ≡ self.old.room }
     {
@@ -206,8 +211,8 @@ impl Tickets {
     /// The ticket is answered, and one holder has collected that.
     pub fn answer_holder(&mut self, place: usize, answer: &Answer)
         requires inside { place < length self.old.items }
-        requires held { (d : Ticket) → 0 < (slice_index_or self.old.items place d).holders }
-        ensures items { (d : Ticket) → self.new.items ≡ slice_set self.old.items place (answered answer.now (slice_index_or self.old.items place d)) }
+        requires held { (t : Ticket) → slice_get self.old.items place ≡ Some t → 0 < t.holders }
+        ensures items { (p : Ticket → Bool) → IsFirst p self.old.items place → self.new.items ≡ changed_first p (answered answer.now) self.old.items }
         ensures len { length self.new.items ≡ length self.old.items }
         ensures room { self.new.room ≡ self.old.room }
     {
@@ -219,7 +224,7 @@ impl Tickets {
     /// The ticket is answered.
     pub fn answer(&mut self, place: usize, answer: &Answer)
         requires { place < length self.old.items }
-        ensures items { (d : Ticket) → self.new.items ≡ slice_set self.old.items place (in_state (ticket.Answered answer.now) (slice_index_or self.old.items place d)) }
+        ensures items { (p : Ticket → Bool) → IsFirst p self.old.items place → self.new.items ≡ changed_first p (in_state (ticket.Answered answer.now)) self.old.items }
         ensures len { length self.new.items ≡ length self.old.items }
         ensures room { self.new.room ≡ self.old.room }
     {
@@ -230,7 +235,7 @@ impl Tickets {
     /// A holder begins with the fallback of the ticket.
     pub fn start_fallback(&mut self, place: usize, cause: Cause)
         requires { place < length self.old.items }
-        ensures items { (d : Ticket) → self.new.items ≡ slice_set self.old.items place (fallback_started cause (slice_index_or self.old.items place d)) }
+        ensures items { (p : Ticket → Bool) → IsFirst p self.old.items place → self.new.items ≡ changed_first p (fallback_started cause) self.old.items }
         ensures len { length self.new.items ≡ length self.old.items }
         ensures room { self.new.room ≡ self.old.room }
     {
@@ -241,8 +246,8 @@ impl Tickets {
     /// One more holder waits for the answer of the ticket.
     pub fn add_holder(&mut self, place: usize)
         requires inside { place < length self.old.items }
-        requires few { (d : Ticket) → (slice_index_or self.old.items place d).holders < 2 ^ 64 - 1 }
-        ensures items { (d : Ticket) → self.new.items ≡ slice_set self.old.items place (joined (slice_index_or self.old.items place d)) }
+        requires few { (t : Ticket) → slice_get self.old.items place ≡ Some t → t.holders < 2 ^ 64 - 1 }
+        ensures items { (p : Ticket → Bool) → IsFirst p self.old.items place → self.new.items ≡ changed_first p joined self.old.items }
         ensures len { length self.new.items ≡ length self.old.items }
         ensures room { self.new.room ≡ self.old.room }
     {
@@ -322,8 +327,7 @@ fn in_fallback_count(tickets: &[Ticket]) -> u64
 }
 
 fn first_queued(tickets: &[Ticket]) -> Option<usize>
-    ensures place { result ≡ position is_queued tickets.now }
-    ensures inside { IfSome result (λ place. place < length tickets.now) }
+    ensures { result ≡ position is_queued tickets.now }
 {
     tickets
         .iter()
@@ -331,15 +335,13 @@ fn first_queued(tickets: &[Ticket]) -> Option<usize>
 }
 
 fn find_busy(tickets: &[Ticket], serial: Serial) -> Option<usize>
-    ensures place { result ≡ position (is_busy_at serial) tickets.now }
-    ensures inside { IfSome result (λ place. place < length tickets.now) }
+    ensures { result ≡ position (is_busy_at serial) tickets.now }
 {
     tickets.iter().position(|t| t.serial == serial && t.busy)
 }
 
 fn find_held(tickets: &[Ticket], serial: Serial) -> Option<usize>
-    ensures place { result ≡ position (is_held_at serial) tickets.now }
-    ensures inside { IfSome result (λ place. place < length tickets.now) }
+    ensures { result ≡ position (is_held_at serial) tickets.now }
 {
     tickets
         .iter()
@@ -347,8 +349,7 @@ fn find_held(tickets: &[Ticket], serial: Serial) -> Option<usize>
 }
 
 fn find_in_fallback(tickets: &[Ticket], serial: Serial) -> Option<usize>
-    ensures place { result ≡ position (is_in_fallback_at serial) tickets.now }
-    ensures inside { IfSome result (λ place. place < length tickets.now) }
+    ensures { result ≡ position (is_in_fallback_at serial) tickets.now }
 {
     tickets.iter().position(|t| t.serial == serial && matches!(t.state, TicketState::InFallback(_)))
 }

@@ -1,7 +1,7 @@
 //! A service that threads share, by its public calls: that memory is there, what the calls answer that no clause
 //! speaks of, and that a thread that waits is woken.
 
-ghost use Rattle.std.specs.Prelude.{◌≤◌};
+ghost use Rattle.std.specs.Prelude.{◌≤◌, ◌^◌};
 
 use crate::samples::{props, step};
 use crate::script::{assert_text, number, reply_text, split_line, split_word, step_of};

@@ -1,6 +1,6 @@
 //! Runs that no clause speaks of: that memory is there, and that the clauses say what is meant.
 
-ghost use Rattle.std.specs.Prelude.{◌≤◌, length};
+ghost use Rattle.std.specs.Prelude.{◌≤◌, ◌^◌, length};
 
 use crate::samples::{props, step, submit, text};
 use crate::script::{assert_number, play};

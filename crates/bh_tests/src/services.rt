@@ -1,6 +1,6 @@
 //! Audited services, and what their threads run and read, for the tests with threads.
 
-ghost use Rattle.std.specs.Prelude.{◌≡◌, ◌≤◌, IfOk, IfSome, OnOk, length};
+ghost use Rattle.std.specs.Prelude.{◌≡◌, ◌≤◌, ◌^◌, IfOk, IfSome, OnOk, length};
 ghost use Rattle.bh_base.specs.Ranges.{IsInRange};
 ghost use Rattle.bh_audit.specs.Books.{AreNew};
 

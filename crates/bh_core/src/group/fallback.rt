@@ -1,10 +1,11 @@
 //! Collect and fallback-done: answers, and the fallbacks that may give them.
 
-ghost use Rattle.std.specs.Prelude.{◌≡◌, ◌<◌, Some, length, position};
+ghost use Rattle.std.specs.Prelude.{◌≡◌};
 ghost use Rattle.bh_base.specs.declared.step.Op.TheVariants as op;
 ghost use Rattle.bh_base.specs.declared.ticket.TicketState.TheVariants as ticket;
 ghost use Rattle.bh_base.specs.Machine.{collected_in, fallback_answer, fallback_done_in};
 ghost use Rattle.bh_base.specs.Tickets.{is_held_at, is_in_fallback_at};
+ghost use Rattle.bh_core.specs.Changes.{IsFirst};
 ghost use Rattle.bh_core.specs.Stepping.{IsBounded, IsDone, IsDoneBy};
 
 use super::Group;
@@ -33,7 +34,7 @@ impl Group {
     // A holder asks for the answer of a ticket that needs a fallback.
     fn fall_back(&mut self, serial: Serial, place: usize, cause: Cause) -> Reply
         requires bounded { IsBounded self.old }
-        requires held { position (is_held_at serial) self.old.present.tickets ≡ Some place }
+        requires held { IsFirst (is_held_at serial) self.old.present.tickets place }
         ensures { IsDoneBy self.old (collected_in (ticket.NeedsFallback cause) serial self.old.present) result self.new }
     {
         if !self.props.fallback_on {
@@ -77,7 +78,7 @@ impl Group {
         end: &FallbackEnd,
     ) -> Reply
         requires bounded { IsBounded self.old }
-        requires found { position (is_in_fallback_at serial) self.old.present.tickets ≡ Some place }
+        requires found { IsFirst (is_in_fallback_at serial) self.old.present.tickets place }
         ensures { IsDoneBy self.old (fallback_done_in (ticket.InFallback cause) serial end.now self.old.present) result self.new }
     {
         let answer = fallback_answer(end, cause);

@@ -7,7 +7,7 @@ use Rattle.bh_core.proofs.group.Group.find_cached.Goals as goal
 pub returns-in-Some : goal.returns-in-Some
 returns-in-Some c =
     let v : View = group_view c.self.inside in
-    rw (← c.self.view_is, c.in-Some.is) (joinable_is v.present (Some (c.in-Some.context, c.in-Some.key)) c.find_cached.result c.if-not-self.false c.find_cached.ensures.place c.find_cached.ensures.inside)
+    rw (← c.self.view_is, c.in-Some.is) (joinable_is v.present (Some (c.in-Some.context, c.in-Some.key)) c.find_cached.result c.if-not-self.false c.find_cached.ensures.found c.find_cached.ensures.none)
 
 pub returns-in-None : goal.returns-in-None
 returns-in-None c =
