@@ -77,8 +77,8 @@ impl Tickets {
         in_fallback_count(&self.items)
     }
 
-    #[tactic(auto, using(crate::proofs::Places::found_first, crate::proofs::Places::none_first))]
     /// The place of the queued ticket of least serial.
+    #[tactic(auto, using(crate::proofs::Places::found_first, crate::proofs::Places::none_first))]
     pub fn first_queued(&self) -> Option<usize>
         ensures found { IfSome result (IsFirst is_queued self.now.items) }
         ensures none { result ≡ None → find is_queued self.now.items ≡ None }
@@ -86,8 +86,8 @@ impl Tickets {
         first_queued(&self.items)
     }
 
-    #[tactic(auto, using(crate::proofs::Places::found_first, crate::proofs::Places::none_first))]
     /// The place of the ticket of the serial, where its run is under way.
+    #[tactic(auto, using(crate::proofs::Places::found_first, crate::proofs::Places::none_first))]
     pub fn find_busy(&self, serial: Serial) -> Option<usize>
         ensures found { IfSome result (IsFirst (is_busy_at serial) self.now.items) }
         ensures none { result ≡ None → find (is_busy_at serial) self.now.items ≡ None }
@@ -95,8 +95,8 @@ impl Tickets {
         find_busy(&self.items, serial)
     }
 
-    #[tactic(auto, using(crate::proofs::Places::found_first, crate::proofs::Places::none_first))]
     /// The place of the ticket of the serial, where someone holds it.
+    #[tactic(auto, using(crate::proofs::Places::found_first, crate::proofs::Places::none_first))]
     pub fn find_held(&self, serial: Serial) -> Option<usize>
         ensures found { IfSome result (IsFirst (is_held_at serial) self.now.items) }
         ensures none { result ≡ None → find (is_held_at serial) self.now.items ≡ None }
@@ -104,8 +104,8 @@ impl Tickets {
         find_held(&self.items, serial)
     }
 
-    #[tactic(auto, using(crate::proofs::Places::found_first, crate::proofs::Places::none_first))]
     /// The place of the ticket that is cached under the context and the key.
+    #[tactic(auto, using(crate::proofs::Places::found_first, crate::proofs::Places::none_first))]
     pub fn find_cached(&self, context: u64, key: &Text<32>) -> Option<usize>
         ensures found { IfSome result (IsFirst (is_cached_as (context, key.now)) self.now.items) }
         ensures none { result ≡ None → find (is_cached_as (context, key.now)) self.now.items ≡ None }
@@ -135,8 +135,8 @@ impl Tickets {
         any_due(&self.items, due)
     }
 
-    #[tactic(auto, using(crate::proofs::Places::found_first, crate::proofs::Places::none_first))]
     /// The place of the ticket of the serial, where a holder runs its fallback.
+    #[tactic(auto, using(crate::proofs::Places::found_first, crate::proofs::Places::none_first))]
     pub fn find_in_fallback(&self, serial: Serial) -> Option<usize>
         ensures found { IfSome result (IsFirst (is_in_fallback_at serial) self.now.items) }
         ensures none { result ≡ None → find (is_in_fallback_at serial) self.now.items ≡ None }
