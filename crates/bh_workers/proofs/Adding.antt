@@ -7,12 +7,12 @@ use Rattle.bh_base.specs.declared.reply.Reply.TheVariants as reply
 use Rattle.bh_base.specs.Replies.{is_refusal}
 use Rattle.bh_journal.specs.declared.pass.Receipt.{Receipt}
 use Rattle.bh_journal.specs.Passes.{PassView, Adds, AddsReceipt, receipt_of, marked_worn, marked_no_group, marked_stopped}
-use Rattle.bh_audit.specs.Calls.{step_of}
+use Rattle.bh_audit.specs.Calls.{step_at}
 use Rattle.bh_workers.specs.Receipts.{Gains, StepAdds, StepTaken, kept}
 
-pub added_receipt : (moments : ℕ → Type 0) (a : Bool) (p q : PassView) (o : Op) (m : ℕ) (r : Reply) → moments m → AddsReceipt a p (step_of p.group m o) r q → StepTaken moments a p o r q
+pub added_receipt : (moments : ℕ → Type 0) (a : Bool) (p q : PassView) (o : Op) (m : ℕ) (r : Reply) → moments m → AddsReceipt a p (step_at p.group m o) r q → StepTaken moments a p o r q
 added_receipt moments true p q o m r named h = record {
-  receipt = receipt_of h.0 (step_of p.group m o) r;
+  receipt = receipt_of h.0 (step_at p.group m o) r;
   gains = record {
     group = ap (λ (x : PassView). x.group) h.1;
     receipts = ap (λ (x : PassView). x.receipts) h.1;
@@ -22,7 +22,7 @@ added_receipt moments true p q o m r named h = record {
   marks = ap (λ (x : PassView). x.marks) h.1;
 }
 added_receipt moments false p q o m r named h = record {
-  receipt = receipt_of 0 (step_of p.group m o) r;
+  receipt = receipt_of 0 (step_at p.group m o) r;
   gains = record {
     group = ap (λ (x : PassView). x.group) h;
     receipts = ap (λ (x : PassView). x.receipts) h ∙ sym (append-nil p.receipts);
@@ -57,7 +57,7 @@ adds_taken a p q s reply.NoGroup t h = absurd (let e : true ≡ false = t in cc)
 
 -- a step of the pass's own group that was no refusal
 pub taken : (moments : ℕ → Type 0) (a : Bool) (p q : PassView) (o : Op) (r : Reply) → is_refusal r ≡ false → StepAdds moments a p o r q → StepTaken moments a p o r q
-taken moments a p q o r t h = added_receipt moments a p q o h.0 r h.1 (adds_taken a p q (step_of p.group h.0 o) r t h.2)
+taken moments a p q o r t h = added_receipt moments a p q o h.0 r h.1 (adds_taken a p q (step_at p.group h.0 o) r t h.2)
 
 -- nothing was added
 pub none_gained : (a : Bool) (p q : PassView) → q.group ≡ p.group → q.receipts ≡ p.receipts → q.room ≡ p.room → Gains a p q []

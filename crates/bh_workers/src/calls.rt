@@ -7,9 +7,8 @@ use crate::caller::call;
 use crate::crew::pass_of;
 use crate::dependency::Dependency;
 use crate::driven::{DriveError, RequestList};
-use crate::room::push_within;
 use bh_audit::{Clock, Pass, Shared};
-use bh_base::{Answer, CallError, GroupId, Request};
+use bh_base::{Answer, CallError, GroupId, Request, push_within};
 use std::alloc::Global;
 use std::marker::PhantomData;
 use std::sync::Wait;
@@ -131,5 +130,5 @@ fn make_call<D: Dependency, C: Clock, R: Wait>(
     ensures capacity { vec_capacity answers.old ≤ vec_capacity answers.new }
 {
     let answer = call(rt, shared, pass, dependency, clock, *request);
-    push_within(answers, &answer);
+    push_within(answers, answer);
 }

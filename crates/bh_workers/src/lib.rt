@@ -8,7 +8,6 @@ pub mod dependency;
 pub mod driven;
 pub mod driving;
 pub mod laws;
-mod room;
 mod stepping;
 pub mod timer;
 pub mod worker;

@@ -4,7 +4,7 @@ ghost use Rattle.std.specs.Prelude.{◌≡◌, ℕ, ◌+◌, ◌<◌, ◌≤◌,
 ghost use Rattle.bh_base.specs.declared.reply.Reply.TheVariants.{NoGroup, Worn};
 ghost use Rattle.bh_base.specs.Replies.{is_refusal};
 ghost use Rattle.bh_journal.specs.declared.pass.Receipt.{Receipt};
-ghost use Rattle.bh_workers.specs.Receipts.{Gains, IsRunEnd, end_of};
+ghost use Rattle.bh_workers.specs.Receipts.{Gains, IsRunEnd, end_op};
 ghost use Rattle.bh_workers.specs.Work.{HasReasonToEnd, IsEnding, IsTurn, IsWork};
 
 use crate::dependency::Dependency;
@@ -15,7 +15,7 @@ use std::sync::Wait;
 
 /// The operation that tells how the run of the ticket ended.
 pub(crate) fn end_op(serial: Serial, end: RunEnd) -> Op
-    ensures { result ≡ end_of serial end }
+    ensures { result ≡ end_op serial end }
 {
     match end {
         RunEnd::Success(body) => Op::Finish { serial, body },
