@@ -16,11 +16,11 @@ use Rattle.bh_journal.specs.declared.pass.Marks.{Marks}
 use Rattle.bh_journal.specs.declared.pass.Receipt.{Receipt}
 use Rattle.bh_journal.specs.Passes.{PassView}
 use Rattle.bh_audit.proofs.Lists.{one_item}
-use Rattle.bh_workers.specs.declared.calls.Called.{Called}
-use Rattle.bh_workers.specs.declared.calls.CallerOf.{CallerOf}
-use Rattle.bh_workers.specs.declared.driven.DriveError.{DriveError}
-use Rattle.bh_workers.specs.declared.driven.Driven.{Driven}
-use Rattle.bh_workers.specs.declared.driven.RequestList.{RequestList}
+use Rattle.bh_workers.specs.declared.caller_threads.Called.{Called}
+use Rattle.bh_workers.specs.declared.caller_threads.CallerOf.{CallerOf}
+use Rattle.bh_workers.specs.declared.driving.DriveError.{DriveError}
+use Rattle.bh_workers.specs.declared.driving.Driven.{Driven}
+use Rattle.bh_workers.specs.declared.driving.RequestList.{RequestList}
 use Rattle.bh_workers.specs.Receipts.{Gains, kept}
 use Rattle.bh_workers.specs.Calls.{IsCall, MarksAre}
 use Rattle.bh_workers.specs.Callers.{AllCallers, CalledAs, IsCallerOf, MakesCall}
