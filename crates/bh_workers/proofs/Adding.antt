@@ -10,6 +10,7 @@ use Rattle.bh_journal.specs.Passes.{PassView, Adds, AddsReceipt, receipt_of, mar
 use Rattle.bh_audit.specs.Calls.{step_at}
 use Rattle.bh_workers.specs.Receipts.{Gains, StepAdds, StepTaken, kept}
 
+-- a receipt that was added is that of a step which was not refused
 pub added_receipt : (moments : ℕ → Type 0) (a : Bool) (p q : PassView) (o : Op) (m : ℕ) (r : Reply) → moments m → AddsReceipt a p (step_at p.group m o) r q → StepTaken moments a p o r q
 added_receipt moments true p q o m r named h = record {
   receipt = receipt_of h.0 (step_at p.group m o) r;
@@ -64,18 +65,23 @@ pub none_gained : (a : Bool) (p q : PassView) → q.group ≡ p.group → q.rece
 none_gained true p q g r e = record { group = g; receipts = r ∙ sym (append-nil p.receipts); room = omega arith }
 none_gained false p q g r e = record { group = g; receipts = r ∙ sym (append-nil p.receipts); room = omega arith }
 
+-- the mark of a worn group comes with no receipt
 pub none_by_worn : (a : Bool) (p q : PassView) → q ≡ marked_worn p → Gains a p q []
 none_by_worn a p q h = none_gained a p q (ap (λ (x : PassView). x.group) h) (ap (λ (x : PassView). x.receipts) h) (ap (λ (x : PassView). x.room) h)
 
+-- nor does that of a group which is not registered
 pub none_by_no_group : (a : Bool) (p q : PassView) → q ≡ marked_no_group p → Gains a p q []
 none_by_no_group a p q h = none_gained a p q (ap (λ (x : PassView). x.group) h) (ap (λ (x : PassView). x.receipts) h) (ap (λ (x : PassView). x.room) h)
 
+-- nor does that of a service which was stopped
 pub none_by_stopped : (a : Bool) (p q : PassView) → q ≡ marked_stopped p → Gains a p q []
 none_by_stopped a p q h = none_gained a p q (ap (λ (x : PassView). x.group) h) (ap (λ (x : PassView). x.receipts) h) (ap (λ (x : PassView). x.room) h)
 
+-- nor is there one where the pass is the same
 pub none_by_same : (a : Bool) (p q : PassView) → q ≡ p → Gains a p q []
 none_by_same a p q h = none_gained a p q (ap (λ (x : PassView). x.group) h) (ap (λ (x : PassView). x.receipts) h) (ap (λ (x : PassView). x.room) h)
 
+-- what is kept of two lists is kept of each
 pub kept-append : (a : Bool) (xs ys : List Receipt) → kept a (xs ++ ys) ≡ kept a xs ++ kept a ys
 kept-append true xs ys = refl
 kept-append false xs ys = refl

@@ -66,26 +66,31 @@ step_only moments a p q o answer result t marks = record { made = t.receipt ∷ 
 pub refused_worn : (a : Bool) (p q : PassView) → q ≡ marked_worn p → CallAdds a p (Err error.Worn) q (IsRefused (Err error.Worn))
 refused_worn a p q h = record { made = []; gains = none_by_worn a p q h; marks = ap (λ (x : PassView). x.marks) h; is = refl }
 
+-- and one of a group that is not registered
 pub refused_no_group : (a : Bool) (p q : PassView) → q ≡ marked_no_group p → CallAdds a p (Err error.NoGroup) q (IsRefused (Err error.NoGroup))
 refused_no_group a p q h = record { made = []; gains = none_by_no_group a p q h; marks = ap (λ (x : PassView). x.marks) h; is = refl }
 
 module _ (moments : ℕ → Type 0) where
+  -- a Collect that gave the answer
   pub collect_answered : (a : Bool) (p q : PassView) (serial : ℕ) (answer : Answer) → AddsCollect moments a p serial (reply.Answered answer) q
       → CallAdds a p (Ok answer) q (IsCollected moments p.group serial (Ok answer))
   collect_answered a p q serial answer h =
       let t = added_receipt moments a p q (op.Collect serial) h.0 (reply.Answered answer) h.1 h.2 in
       step_only moments a p q (op.Collect serial) (reply.Answered answer) (Ok answer) t t.marks
 
+  -- a Collect that found no ticket
   pub collect_taken : (a : Bool) (p q : PassView) (serial : ℕ) → AddsCollect moments a p serial reply.NoTicket q
       → CallAdds a p (Err error.Taken) q (IsCollected moments p.group serial (Err error.Taken))
   collect_taken a p q serial h =
       let t = added_receipt moments a p q (op.Collect serial) h.0 reply.NoTicket h.1 h.2 in
       step_only moments a p q (op.Collect serial) reply.NoTicket (Err error.Taken) t t.marks
 
+  -- a Collect by which a fallback is to be run
   pub collect_fallback : (a : Bool) (p q : PassView) (serial : ℕ) (cause : Cause) → AddsCollect moments a p serial (reply.RunFallback cause) q
       → StepTaken moments a p (op.Collect serial) (reply.RunFallback cause) q
   collect_fallback a p q serial cause h = added_receipt moments a p q (op.Collect serial) h.0 (reply.RunFallback cause) h.1 h.2
 
+  -- a Collect of a service that was stopped
   pub collect_pending : (a : Bool) (p q : PassView) (serial : ℕ) → AddsCollect moments a p serial reply.Pending q
       → CallAdds a p (Err error.Stopped) q (IsCollected moments p.group serial (Err error.Stopped))
   collect_pending a p q serial h =

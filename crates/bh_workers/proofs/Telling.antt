@@ -230,6 +230,7 @@ module _ (ends : GroupId → List ℕ → RunEnd → Type 0) (fallback_ends : Gr
   told : (request : Request) (result : Result Answer CallError) (made : List Receipt) → Within 5 (IsStepAt moments g) made → AreToldBy moments g request result made → IsTold moments g request result made
   told request result made w t = record { few = w.few; steps = w.all; told = t }
 
+  -- the law of calls
   pub call_tells : (request : Request) (result : Result Answer CallError) (made : List Receipt) → IsCall ends fallback_ends moments g request result made → IsTold moments g request result made
   call_tells request (Ok answer) made h =
       told request (Ok answer) made (call_within request (Ok answer) made h) (call_collects request (Ok answer) (reply.Answered answer) (answer_comes answer) made h)

@@ -77,14 +77,17 @@ module _ (ends : GroupId → List ℕ → RunEnd → Type 0) (moments : ℕ → 
   work_then g (r ∷ []) ys h t = absurd h
   work_then g (r ∷ e ∷ rs) ys h t = (h.0, work_then g rs ys h.1 t)
 
+  -- a worker that has made no run
   pub work_begins : (a : Bool) (p : PassView) → AddsSo a p p (λ made. AreRuns p.group made)
   work_begins a p = ([], none_by_same a p p refl, tt)
 
+  -- one run more
   pub work_goes_on : (a : Bool) (p m q : PassView) → AddsSo a p m (λ made. AreRuns p.group made) → AddsSo a m q (λ made. IsTurn ends moments m.group true made)
       → AddsSo a p q (λ made. AreRuns p.group made)
   work_goes_on a p m q h t =
       (h.0 ++ t.0, Gains-append a p m q h.0 t.0 h.1 t.1, runs_then p.group h.0 t.0 h.2 (let P : GroupId → Type 0 = λ x. IsTurn ends moments x true t.0 in subst P h.1.group t.2))
 
+  -- and the last turn
   pub work_ends : (a : Bool) (p m q : PassView) → AddsSo a p m (λ made. AreRuns p.group made) → AddsSo a m q (λ made. IsTurn ends moments m.group false made)
       → AddsSo a p q (λ made. IsWork ends moments p.group made)
   work_ends a p m q h t =
