@@ -5,7 +5,7 @@ ghost use Rattle.bh_base.specs.Replies.{is_refusal};
 ghost use Rattle.bh_base.specs.Runs.{View};
 ghost use Rattle.bh_core.specs.Step.{IsStep};
 ghost use Rattle.bh_journal.specs.Replay.{written};
-ghost use Rattle.bh_audit.specs.Calls.{IsReady};
+ghost use Rattle.bh_audit.specs.Calls.{NeedsNoWait};
 ghost use Rattle.bh_audit.specs.Books.{AreEmpty, AreNew, BookView, IsAudited, IsWritten, empty_journal};
 
 use bh_base::{GroupId, Reply, Step};
@@ -25,7 +25,7 @@ pub struct Book {
 impl Model for Book {
     ghost use Rattle.std.specs.Prelude.{◌≡◌, true};
     ghost use Rattle.bh_journal.specs.Replay.{written};
-    ghost use Rattle.bh_audit.specs.Calls.{IsReady};
+    ghost use Rattle.bh_audit.specs.Calls.{NeedsNoWait};
     ghost use Rattle.bh_audit.specs.Books.{BookView, IsAudited};
 
     ghost Value = { BookView };
@@ -119,17 +119,17 @@ impl Book {
         group.0 < self.core.groups()
     }
 
-    /// Whether a Start would be answered with a run, or refused.
-    pub(crate) fn is_ready(&self, group: GroupId) -> bool
-        ensures { result ≡ true → (v : View) → slice_get self.now.groups.views group.0 ≡ Some v → IsReady v }
+    /// Whether a worker of the group has to wait: else a Start would be answered with a run, or refused.
+    pub(crate) fn must_wait(&self, group: GroupId) -> bool
+        ensures { result ≡ false → (v : View) → slice_get self.now.groups.views group.0 ≡ Some v → NeedsNoWait v }
     {
         if !self.is_registered(group) {
-            return true;
+            return false;
         }
         if self.core.worn(group) {
-            return true;
+            return false;
         }
-        self.core.startable(group)
+        !self.core.startable(group)
     }
 
     /// The groups and the journals.
@@ -147,12 +147,14 @@ impl Book {
     }
 }
 
+/// Whether no step was made.
 fn is_refused(reply: &Reply) -> bool
     ensures { result ≡ is_refusal reply.now }
 {
     matches!(reply, Reply::Worn | Reply::NoGroup)
 }
 
+/// Writes the step with its reply at the end of the journal.
 fn write(journal: &mut Journal, step: &Step, reply: &Reply)
     requires { 0 < journal.old.room }
     ensures { journal.new ≡ written journal.old step.entry.now reply.now }
@@ -160,6 +162,7 @@ fn write(journal: &mut Journal, step: &Step, reply: &Reply)
     journal.write(*step, *reply);
 }
 
+/// A book without an audit.
 fn plain(alloc: Global, core: Core) -> Book
     ensures groups { result.groups ≡ core }
     ensures audited { result.audited ≡ false }
@@ -172,6 +175,7 @@ fn plain(alloc: Global, core: Core) -> Book
     }
 }
 
+/// So many journals, each with room for so many entries.
 fn open_journals(alloc: Global, count: u64, steps: u64) -> Result<Vec<Journal>, AllocError>
     ensures { IfOk result (λ journals. journals.items ≡ replicate count (empty_journal steps)) }
 {

@@ -10,8 +10,7 @@ ghost use Rattle.bh_core.specs.Step.{IsStep};
 mod looks;
 
 use crate::group::Group;
-use crate::room::push_within;
-use bh_base::{GroupId, GroupProps, Reply, Step};
+use bh_base::{GroupId, GroupProps, Reply, Step, push_within};
 use std::alloc::{AllocError, Global};
 use std::marker::Model;
 use thiserror::Error;

@@ -9,8 +9,7 @@ ghost use Rattle.bh_core.specs.Changes.{IsFirst, answered, joined, is_due_by, is
 ghost use Rattle.bh_cache.specs.Cache.{uncached_in};
 ghost use Rattle.std.specs.List.{list_any};
 
-use crate::room::push_within;
-use bh_base::{Answer, Cause, Moment, Serial, Text, Ticket, TicketState};
+use bh_base::{Answer, Cause, Moment, Serial, Text, Ticket, TicketState, push_within};
 use std::alloc::{AllocError, Global};
 use std::marker::Model;
 
