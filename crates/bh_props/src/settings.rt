@@ -3,8 +3,7 @@
 ghost use Rattle.std.specs.Prelude.{◌≡◌, [], None, map, All, IfOk, IfSome};
 ghost use Rattle.std.proofs.Props.{props};
 ghost use Rattle.toml.specs.View.{view};
-ghost use Rattle.bh_base.specs.Ranges.{IsInRange};
-ghost use Rattle.bh_props.specs.Bounds.{IsQueueLength-prop};
+ghost use Rattle.bh_base.specs.Ranges.{IsInRange, IsQueueLength-prop};
 ghost use Rattle.bh_props.specs.InForce.{in_force};
 ghost use Rattle.bh_props.specs.Names.{first_twice};
 ghost use Rattle.bh_props.specs.Settings.{IsAuditLimit, truth, strategy, optional_number, props_of, group_in_force};
