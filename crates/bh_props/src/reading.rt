@@ -32,6 +32,7 @@ pub fn read(alloc: Global, text: &str) -> Result<Settings, SettingsError>
     }
 }
 
+/// The settings of a parsed file.
 fn read_tree(alloc: Global, root: &Value) -> Result<Settings, SettingsError>
     ensures ok { IfOk result (λ s. settings_of_named (view root.now) (names_of (view root.now)) ≡ Ok (settings_seen s)) }
     ensures refused { IfErr result (λ e. e ≢ SettingsError.Memory
@@ -41,6 +42,7 @@ fn read_tree(alloc: Global, root: &Value) -> Result<Settings, SettingsError>
     read_groups(alloc, root, &names)
 }
 
+/// The settings of a parsed file whose groups are known.
 fn read_groups(alloc: Global, root: &Value, names: &[Text<32>]) -> Result<Settings, SettingsError>
     requires { first_twice [] 1 names.now ≡ None }
     ensures ok { IfOk result (λ s. settings_of_groups (view root.now) names.now ≡ Ok (settings_seen s)) }
@@ -51,11 +53,8 @@ fn read_groups(alloc: Global, root: &Value, names: &[Text<32>]) -> Result<Settin
     check_values(root, Fault::WrongType, names)?;
     check_values(root, Fault::OutOfRange, names)?;
     check_windows(root, names)?;
-    match groups_in_force(alloc, root, names) {
-        Ok(groups) => Ok(Settings {
-            groups,
-            audit_steps: audit_steps_in_force(root),
-        }),
-        Err(_) => Err(SettingsError::Memory),
-    }
+    Ok(Settings {
+        groups: groups_in_force(alloc, root, names)?,
+        audit_steps: audit_steps_in_force(root),
+    })
 }

@@ -54,6 +54,7 @@ pub(crate) fn audit_steps_in_force(root: &Value) -> Option<u64>
     optional_number_in_force(root, Property::AuditSteps, "")
 }
 
+/// The properties of a group, each by the value in force.
 fn props_in_force(root: &Value, group: &str) -> GroupProps
     ensures { result ≡ props_of (λ p. in_force p group.now (view root.now)) }
 {
@@ -81,6 +82,7 @@ fn props_in_force(root: &Value, group: &str) -> GroupProps
     }
 }
 
+/// The truth value in force of a property that is one and has no fault.
 fn truth_in_force(root: &Value, property: Property, group: &str) -> bool
     ensures { result ≡ truth (in_force property group.now (view root.now)) }
 {
@@ -90,6 +92,7 @@ fn truth_in_force(root: &Value, property: Property, group: &str) -> bool
     }
 }
 
+/// The strategy in force.
 fn strategy_in_force(root: &Value, group: &str) -> Strategy
     ensures { result ≡ strategy (in_force Property.Strategy group.now (view root.now)) }
 {
@@ -99,6 +102,7 @@ fn strategy_in_force(root: &Value, group: &str) -> Strategy
     }
 }
 
+/// The number in force of a property that may be left out.
 fn optional_number_in_force(root: &Value, property: Property, group: &str) -> Option<u64>
     ensures { result ≡ optional_number (in_force property group.now (view root.now)) }
 {
