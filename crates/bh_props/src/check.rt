@@ -46,12 +46,10 @@ fn first_at_fault(
 ) -> Option<Property>
     ensures { result ≡ find (is_at_fault fault group.now (view root.now)) properties.now }
 {
-    for property in properties {
-        if is_at_fault(root, fault, group, *property) {
-            return Some(*property);
-        }
-    }
-    None
+    properties
+        .iter()
+        .copied()
+        .find(|property| is_at_fault(root, fault, group, *property))
 }
 
 /// Whether the property's value in force has the fault.
