@@ -1,10 +1,8 @@
 //! A script: each line of a reader is answered by a line to a writer, as the lines come.
 
-ghost use Rattle.std.specs.Prelude.{◌≡◌, ◌<◌, ◌≤◌, ◌+◌, ◌^◌, ◌⊎◌, ◌++◌, ℕ, List, [], All, false, Err, OnOk, IfErr, IfOk, IfSome};
+ghost use Rattle.std.specs.Prelude.{◌≡◌, ◌<◌, ◌≤◌, ◌+◌, ◌^◌, ◌⊎◌, ◌++◌, ℕ, List, [], false, Err, OnOk, IfErr, IfOk, IfSome};
 ghost use Rattle.bh_base.specs.declared.step.Step.{Step};
-ghost use Rattle.bh_base.specs.Ranges.{IsInRange};
-ghost use Rattle.bh_props.specs.Seen.{settings_seen};
-ghost use Rattle.bh_props.specs.Settings.{IsAuditLimit};
+ghost use Rattle.bh_props.specs.SettingsView.{settings_seen};
 ghost use Rattle.bh_port.specs.Text.{step_limit};
 ghost use Rattle.bh_lines.specs.Lines.{cut, has_line};
 ghost use Rattle.bh_streams.specs.Watched.{reader_of, reads_of, bytes_left, HasRead, OneFailed, NoneFailed, writer_of, bytes_held, OneRefused, NoneRefused};
@@ -47,8 +45,6 @@ pub fn script<R: Read, W: Write>(
     writer: &mut WatchedWriter<'_, W>,
     settings: &Settings,
 ) -> Result<(), PortError>
-    requires in_range { All (λ group. IsInRange group.1) settings.now.groups.entries }
-    requires audit { IfSome settings.now.audit_steps IsAuditLimit }
     ensures same_reader { (reader_of reader.new).ghost_name ≡ (reader_of reader.old).ghost_name }
     ensures same_writer { (writer_of writer.new).ghost_name ≡ (writer_of writer.old).ghost_name }
     ensures read { result ≡ Err PortError.Read → OneFailed reader.old reader.new ⊎ HasRead (2 ^ 40) reader.old reader.new }
@@ -72,8 +68,6 @@ pub fn script<R: Read, W: Write>(
 ///
 /// It fails only for want of memory, as `Memory`.
 pub fn open(alloc: Global, settings: &Settings) -> Result<Core, PortError>
-    requires in_range { All (λ group. IsInRange group.1) settings.now.groups.entries }
-    requires audit { IfSome settings.now.audit_steps IsAuditLimit }
     ensures agrees { IfOk result (λ core. Agrees (settings_seen settings.now) core []) }
     ensures err { IfErr result (λ e. e ≡ PortError.Memory) }
 {

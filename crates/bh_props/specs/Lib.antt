@@ -4,5 +4,6 @@ pub mod InForce
 pub mod Names
 pub mod Refusals
 pub mod Settings
-pub mod Seen
+pub mod Bounds
+pub mod SettingsView
 pub mod Printed

@@ -4,7 +4,7 @@ ghost use Rattle.std.specs.Prelude.{◌≡◌, Some};
 ghost use Rattle.std.specs.List.{flat_map};
 ghost use Rattle.std.specs.Fmt.{WritesOnOk};
 ghost use Rattle.bh_props.specs.Printed.{value_of, line_of, lines_of, lines_of_group, number_or};
-ghost use Rattle.bh_props.specs.Seen.{settings_seen};
+ghost use Rattle.bh_props.specs.SettingsView.{settings_seen};
 
 use crate::property::Property;
 use crate::settings::Settings;

@@ -56,7 +56,7 @@ pub(crate) struct Row {
 }
 
 /// The most slots of a group.
-const MOST_SLOTS: u64 = 64;
+const MOST_SLOTS: u64 = 4096;
 
 impl Property {
     /// The properties in the order of the table.

@@ -1,11 +1,10 @@
 //! Reading a settings file.
 
-ghost use Rattle.std.specs.Prelude.{◌≡◌, ◌≢◌, [], Ok, Err, None, All, IfOk, IfErr, IfSome};
-ghost use Rattle.bh_base.specs.Ranges.{IsInRange};
+ghost use Rattle.std.specs.Prelude.{◌≡◌, ◌≢◌, [], Ok, Err, None, IfOk, IfErr};
 ghost use Rattle.toml.specs.View.{view};
-ghost use Rattle.bh_props.specs.Settings.{IsAuditLimit, settings_of, settings_of_named, settings_of_groups};
+ghost use Rattle.bh_props.specs.Settings.{settings_of, settings_of_named, settings_of_groups};
 ghost use Rattle.bh_props.specs.Names.{names_of, first_twice};
-ghost use Rattle.bh_props.specs.Seen.{settings_seen};
+ghost use Rattle.bh_props.specs.SettingsView.{settings_seen};
 
 use crate::check::{check_values, check_windows};
 use crate::error::SettingsError;
@@ -25,8 +24,6 @@ use toml::Value;
 pub fn read(alloc: Global, text: &str) -> Result<Settings, SettingsError>
     ensures ok { IfOk result (λ s. settings_of text.now ≡ Ok (settings_seen s)) }
     ensures refused { IfErr result (λ e. e ≢ SettingsError.Memory → settings_of text.now ≡ Err e) }
-    ensures in_range { IfOk result (λ s. All (λ group. IsInRange group.1) s.groups.entries) }
-    ensures audit { IfOk result (λ s. IfSome s.audit_steps IsAuditLimit) }
 {
     match toml::table_from_str(alloc, text) {
         Ok(table) => read_tree(alloc, &Value::Table(table)),

@@ -1,10 +1,8 @@
 //! Connections to a service, each with a thread and a conversation of its own.
 
-ghost use Rattle.std.specs.Prelude.{◌≡◌, ◌≤◌, ◌⊎◌, [], ◌∷◌, ◌++◌, length, All, IfSome, IfOk, OnOk, false};
-ghost use Rattle.bh_base.specs.Ranges.{IsInRange};
+ghost use Rattle.std.specs.Prelude.{◌≡◌, ◌≤◌, ◌⊎◌, [], ◌∷◌, ◌++◌, length, IfOk, OnOk, false};
 ghost use Rattle.bh_port.specs.Text.{names_in};
-ghost use Rattle.bh_props.specs.Seen.{settings_seen};
-ghost use Rattle.bh_props.specs.Settings.{IsAuditLimit};
+ghost use Rattle.bh_props.specs.SettingsView.{settings_seen};
 
 use crate::clock::MachineClock;
 use crate::echo::Echo;
@@ -57,8 +55,6 @@ pub fn serve_on<R: Threads + Wait + Clock + Sync, E: Write + Send>(
     settings: &Settings,
     errors: &Mutex<E>,
 ) -> u8
-    requires in_range { All (λ group. IsInRange group.1) settings.now.groups.entries }
-    requires audit { IfSome settings.now.audit_steps IsAuditLimit }
     ensures { (result ≡ 0) ⊎ (result ≡ 3) }
 {
     match serve(rt, alloc, listener, connections, settings, errors) {
@@ -78,10 +74,7 @@ fn serve<R: Threads + Wait + Clock + Sync, E: Write + Send>(
     connections: u32,
     settings: &Settings,
     errors: &Mutex<E>,
-) -> Result<(), ServeError>
-    requires in_range { All (λ group. IsInRange group.1) settings.now.groups.entries }
-    requires audit { IfSome settings.now.audit_steps IsAuditLimit }
-{
+) -> Result<(), ServeError> {
     let Ok(names) = names(alloc, settings) else {
         return Err(ServeError::Memory);
     };
@@ -104,8 +97,6 @@ fn serve<R: Threads + Wait + Clock + Sync, E: Write + Send>(
 
 // The service of the groups of the settings, all new. It is not audited.
 fn service(alloc: Global, settings: &Settings) -> Result<Shared, AllocError>
-    requires in_range { All (λ group. IsInRange group.1) settings.now.groups.entries }
-    requires audit { IfSome settings.now.audit_steps IsAuditLimit }
     ensures audited { IfOk result (λ shared. shared.audited ≡ false) }
     ensures groups { IfOk result (λ shared. length settings.now.groups.entries ≤ shared.groups) }
 {

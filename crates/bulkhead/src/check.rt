@@ -1,7 +1,7 @@
 //! What is in force under a settings file, shown line by line.
 
 ghost use Rattle.std.specs.Prelude.{◌≡◌, ◌⊎◌, IfOk, IsErr};
-ghost use Rattle.bh_props.specs.Seen.{settings_seen};
+ghost use Rattle.bh_props.specs.SettingsView.{settings_seen};
 ghost use Rattle.bulkhead.specs.SettingsFile.{settings_in};
 ghost use Rattle.bulkhead.specs.Status.{IsShown};
 

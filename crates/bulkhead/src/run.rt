@@ -1,9 +1,7 @@
 //! A run of the service over a script.
 
-ghost use Rattle.std.specs.Prelude.{◌≡◌, ◌⊎◌, All, IfSome, IfOk, IsErr};
-ghost use Rattle.bh_base.specs.Ranges.{IsInRange};
-ghost use Rattle.bh_props.specs.Seen.{settings_seen};
-ghost use Rattle.bh_props.specs.Settings.{IsAuditLimit};
+ghost use Rattle.std.specs.Prelude.{◌≡◌, ◌⊎◌, IfSome, IfOk, IsErr};
+ghost use Rattle.bh_props.specs.SettingsView.{settings_seen};
 ghost use Rattle.bulkhead.specs.SettingsFile.{settings_in};
 ghost use Rattle.bh_lines.specs.Lines.{cut};
 ghost use Rattle.bulkhead.specs.Status.{IsRun};
@@ -51,8 +49,6 @@ fn run_script<R: Read, W: Write, E: Write>(
     writer: &mut W,
     errors: &mut E,
 ) -> u8
-    requires in_range { All (λ group. IsInRange group.1) settings.now.groups.entries }
-    requires audit { IfSome settings.now.audit_steps IsAuditLimit }
     ensures status { (result ≡ 0) ⊎ (result ≡ 3) }
     ensures quiet { result ≡ 0 → errors.new ≡ errors.old }
     ensures run { IfSome (R.remaining reader.old) (λ input.

@@ -1,5 +1,5 @@
 use Rattle.std.proofs.Common.{List, length, Some}
-use Rattle.bh_props.specs.Seen.{settings_seen}
+use Rattle.bh_props.specs.SettingsView.{settings_seen}
 use Rattle.bh_base.specs.declared.step.Step.{Step}
 use Rattle.bh_port.specs.Port.{Answered, Agrees}
 use Rattle.bh_port.proofs.answers.answer_lines.Given as goal

@@ -1,5 +1,5 @@
 use Rattle.std.proofs.Common.{◌+◌, ◌≤◌, length, ◌≡◌}
-use Rattle.bh_props.specs.Seen.{settings_seen}
+use Rattle.bh_props.specs.SettingsView.{settings_seen}
 use Rattle.bh_streams.specs.Watched.{counted, reader_of, reads_of, bytes_left, NoneFailed, writer_of, bytes_held, NoneRefused}
 use Rattle.bh_port.proofs.Running.{Progress}
 use Rattle.bh_port.proofs.script.answer_all.Given as goal

@@ -1,4 +1,4 @@
--- Settings of the code, seen as lists.
+-- What contracts see of settings: the entries of the map of groups, in a list, and the limit of audited steps.
 use Rattle.bh_props.specs.declared.settings.Settings.{Settings}
 use Rattle.bh_props.specs.Settings.{GroupSettings}
 
