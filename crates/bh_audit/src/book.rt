@@ -1,12 +1,9 @@
 //! All groups, and in an audited book a journal of each.
 
-ghost use Rattle.std.specs.Prelude.{◌≡◌, ◌≢◌, ◌<◌, ℕ, List, length, nat_lt, replicate, slice_get, is_some, IfOk, IfErr, IfSome, None, Some, true, false};
-ghost use Rattle.bh_base.specs.declared.reply.Reply.{Reply};
-ghost use Rattle.bh_base.specs.Replies.{can_reply, is_refusal};
-ghost use Rattle.bh_base.specs.Runs.{State, View, moved_on};
-ghost use Rattle.bh_base.specs.Runs.{step as machine_step};
-ghost use Rattle.bh_base.specs.Seen.{view_after, view_reply};
-ghost use Rattle.bh_core.specs.Groups.{Shows};
+ghost use Rattle.std.specs.Prelude.{◌≡◌, ◌<◌, List, length, nat_lt, replicate, slice_get, is_some, IfOk, IfErr, IfSome, None, Some, true, false};
+ghost use Rattle.bh_base.specs.Replies.{is_refusal};
+ghost use Rattle.bh_base.specs.Runs.{View};
+ghost use Rattle.bh_core.specs.Step.{IsStep};
 ghost use Rattle.bh_journal.specs.Replay.{written};
 ghost use Rattle.bh_audit.specs.Calls.{IsReady};
 ghost use Rattle.bh_audit.specs.Books.{AreEmpty, AreNew, BookView, IsAudited, IsWritten, empty_journal};
@@ -69,18 +66,10 @@ impl Book {
     /// place, and changes nothing.
     pub fn apply(&mut self, step: Step) -> (Option<u64>, Reply)
         // The groups go as in the core.
-        ensures reply { (s : State) → Shows self.old.groups step.group.0 s → result.1 ≡ (machine_step s step.op step.now).reply }
-        ensures own { (s : State) → Shows self.old.groups step.group.0 s → Shows self.new.groups step.group.0 (machine_step s step.op step.now).state }
-        ensures others { (group : ℕ) → group ≢ step.group.0 → slice_get self.new.groups.views group ≡ slice_get self.old.groups.views group }
-        ensures count { length self.new.groups.views ≡ length self.old.groups.views }
-        ensures unknown { slice_get self.old.groups.views step.group.0 ≡ None → result.1 ≡ Reply.NoGroup }
-        ensures seen { (v : View) → slice_get self.old.groups.views step.group.0 ≡ Some v →
-            (result.1 ≡ view_reply v step.op step.now) × (slice_get self.new.groups.views step.group.0 ≡ Some (view_after v step.op step.now)) }
-        ensures kinds { can_reply step.op result.1 ≡ true }
+        ensures groups { IsStep self.old.groups step result.1 self.new.groups }
 
         // Where it was refused there is no place, and nothing has changed.
         ensures refused { is_refusal result.1 ≡ true → (result.0 ≡ None) × (self.new ≡ self.old) }
-        ensures full { result.1 ≡ Reply.GroupFull → (s : State) → Shows self.old.groups step.group.0 s → Shows self.new.groups step.group.0 (moved_on s step.now) }
 
         // Else the place is the new step number, and an audited book has the step and its reply at the end of the group's journal.
         ensures place { is_refusal result.1 ≡ false → (v : View) × (slice_get self.new.groups.views step.group.0 ≡ Some v) × (result.0 ≡ Some v.present.steps) }

@@ -6,7 +6,7 @@ ghost use Rattle.bh_base.specs.declared.step.Op.TheVariants as op;
 ghost use Rattle.bh_base.specs.declared.step.Step.{Step};
 ghost use Rattle.bh_base.specs.Replies.{can_reply, is_refusal};
 ghost use Rattle.bh_base.specs.Runs.{View};
-ghost use Rattle.bh_base.specs.Seen.{view_after, view_reply};
+ghost use Rattle.bh_core.specs.Step.{IsStep};
 ghost use Rattle.bh_journal.specs.Passes.{Adds, added, receipt_of};
 ghost use Rattle.bh_audit.specs.Books.{IsAudited, IsWritten};
 ghost use Rattle.bh_audit.specs.Calls.{AddsCollect, AddsExpire, AddsNext, IsReady, workers_of};
@@ -39,10 +39,7 @@ impl<const A: u32> Locked<A> {
     pub(crate) fn step(&mut self, pass: &mut Pass, step: Step) -> Reply
         requires { (A == 1) ≡ true → 0 < pass.old.room }
         ensures adds { Adds (A == 1) pass.old step result pass.new }
-        ensures kinds { can_reply step.op result ≡ true }
-        ensures seen { (v : View) → slice_get self.old.book.groups.views step.group.0 ≡ Some v →
-            (result ≡ view_reply v step.op step.now) × (slice_get self.new.book.groups.views step.group.0 ≡ Some (view_after v step.op step.now)) }
-        ensures unknown { slice_get self.old.book.groups.views step.group.0 ≡ None → result ≡ reply.NoGroup }
+        ensures groups { IsStep self.old.book.groups step result self.new.book.groups }
         ensures refused { is_refusal result ≡ true → self.new.book ≡ self.old.book }
         ensures written { (A == 1) ≡ true → is_refusal result ≡ false → IsWritten self.old.book.journals step.group.0 step result self.new.book.journals }
         ensures place { (A == 1) ≡ true → is_refusal result ≡ false → (v : View) × (slice_get self.new.book.groups.views step.group.0 ≡ Some v) × (pass.new ≡ added pass.old (receipt_of v.present.steps step result)) }

@@ -8,6 +8,7 @@ pub mod Stepping
 pub mod Steady
 pub mod OneOfMany
 pub mod Refused
+pub mod OneStep
 pub mod Whole
 pub mod TwoWorlds
 pub mod Looks

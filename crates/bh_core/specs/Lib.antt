@@ -1,4 +1,5 @@
 pub mod Groups
+pub mod Step
 pub mod Looks
 pub mod HistoryView
 pub mod History

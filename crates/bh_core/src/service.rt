@@ -1,13 +1,11 @@
 //! All groups: each step goes to its own group and leaves the others as they are.
 
-ghost use Rattle.std.specs.Prelude.{◌≡◌, ◌≢◌, ◌↔◌, ℕ, ◌+◌, ◌<◌, ◌≤◌, ◌^◌, [], ◌∷◌, ◌++◌, length, map, IfOk, OnOk, OnErr, Err, None, Some, slice_get, true};
+ghost use Rattle.std.specs.Prelude.{◌≡◌, ◌↔◌, ℕ, ◌+◌, ◌<◌, ◌≤◌, ◌^◌, [], ◌∷◌, ◌++◌, length, map, IfOk, OnOk, OnErr, Err, None, slice_get};
 ghost use Rattle.bh_base.specs.declared.reply.Reply.{Reply};
 ghost use Rattle.bh_base.specs.Ranges.{IsInRange};
-ghost use Rattle.bh_base.specs.Replies.{can_reply};
-ghost use Rattle.bh_base.specs.Runs.{State, View, moved_on, own, replies, state_after, opened, view};
-ghost use Rattle.bh_base.specs.Runs.{step as machine_step};
-ghost use Rattle.bh_base.specs.Seen.{view_after, view_reply};
+ghost use Rattle.bh_base.specs.Runs.{State, own, replies, state_after, opened, view};
 ghost use Rattle.bh_core.specs.Groups.{Groups, Shows, own_replies, slots_in};
+ghost use Rattle.bh_core.specs.Step.{IsStep};
 
 mod looks;
 
@@ -94,27 +92,7 @@ impl Core {
     ///
     /// A step of a group that is not registered is answered `NoGroup` and changes nothing.
     pub fn apply(&mut self, step: Step) -> Reply
-        // The group goes as its machine does, from every state that it may be in by its view.
-        ensures reply { (s : State) → Shows self.old step.group.0 s → result ≡ (machine_step s step.op step.now).reply }
-        ensures own { (s : State) → Shows self.old step.group.0 s → Shows self.new step.group.0 (machine_step s step.op step.now).state }
-
-        // Every other group stays as it was.
-        ensures others { (group : ℕ) → group ≢ step.group.0 → slice_get self.new.views group ≡ slice_get self.old.views group }
-        ensures count { length self.new.views ≡ length self.old.views }
-        ensures limit { self.new.slot_limit ≡ self.old.slot_limit }
-
-        ensures unknown { slice_get self.old.views step.group.0 ≡ None → result ≡ Reply.NoGroup }
-        ensures unknown_same { slice_get self.old.views step.group.0 ≡ None → self.new ≡ self.old }
-
-        // What a refusal leaves: all as it was, or of a full group the step's number and moment alone.
-        ensures worn { result ≡ Reply.Worn → self.new ≡ self.old }
-        ensures no_group { result ≡ Reply.NoGroup → self.new ≡ self.old }
-        ensures full { result ≡ Reply.GroupFull → (s : State) → Shows self.old step.group.0 s → Shows self.new step.group.0 (moved_on s step.now) }
-
-        // What can be said with no state at hand: the step by the view alone, and the kinds of replies.
-        ensures seen { (v : View) → slice_get self.old.views step.group.0 ≡ Some v →
-            (result ≡ view_reply v step.op step.now) × (slice_get self.new.views step.group.0 ≡ Some (view_after v step.op step.now)) }
-        ensures kinds { can_reply step.op result ≡ true }
+        ensures { IsStep self.old step result self.new }
     {
         let place = step.group.0;
         if place >= self.groups.len() as u64 {

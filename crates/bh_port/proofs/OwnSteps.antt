@@ -8,6 +8,7 @@ use Rattle.bh_base.specs.declared.step.Step.{Step}
 use Rattle.bh_base.specs.declared.reply.Reply.{Reply}
 use Rattle.bh_base.specs.Runs.{State, View, IsSound, view, opened, step, state_after, own}
 use Rattle.bh_core.specs.Groups.{Groups, Shows}
+use Rattle.bh_core.specs.Step.{IsStep}
 use Rattle.bh_props.specs.Settings.{GroupSettings}
 use Rattle.bh_port.specs.Text.{step_limit}
 use Rattle.bh_port.specs.Text.{opened_group, group_after, reply_of, reply_to}
@@ -36,13 +37,8 @@ group_after-other service props group xs x test =
     let mine : own group (xs ++ x ∷ []) ≡ own group xs = own-push group xs x ∙ ap (λ b. own group xs ++ (if b then x ∷ [] else [])) test ∙ append-nil (own group xs) in
     ap (state_after s) mine
 
--- what a step does to the groups
-pub record IsApplied (old new : Groups) (x : Step) : Type 0 where
-  pub own : (s : State) → Shows old x.group.0 s → Shows new x.group.0 (step s x.op x.now).state
-  pub others : (group : ℕ) → group ≢ x.group.0 → slice_get new.views group ≡ slice_get old.views group
-
-pub agrees-after : (service : GroupSettings) (old new : Groups) (xs : List Step) (x : Step) → Agrees service old xs → IsApplied old new x → Agrees service new (xs ++ x ∷ [])
-agrees-after service old new xs x agrees applied = record { shows = λ group g there. at group g there (x.group.0 == group) refl }
+pub agrees-after : (service : GroupSettings) (old new : Groups) (xs : List Step) (x : Step) (r : Reply) → Agrees service old xs → IsStep old x r new → Agrees service new (xs ++ x ∷ [])
+agrees-after service old new xs x r agrees applied = record { shows = λ group g there. at group g there (x.group.0 == group) refl }
   where
     at : (group : ℕ) (g : List ℕ × GroupProps) → slice_get service.groups group ≡ Some g → (b : Bool) → (x.group.0 == group) ≡ b
         → Shows new group (group_after service g.1 group (xs ++ x ∷ []))
