@@ -1,8 +1,5 @@
 -- A run of answers, from the bytes that had come to those that are left.
-use Rattle.std.proofs.Common.{◌≡◌, ℕ, ◌≤◌, min, List, [], length, take, ◌++◌, Option, Some, None, Result, Ok, Err, IfErr, String, string_bytes, arith, refl, sym, ◌∙◌, subst, ap, append-nil, append_assoc}
-use Rattle.std.proofs.lemmas.Grind.{common_steps}
-use Rattle.std.proofs.lemmas.List.{take-append-le}
-use Rattle.std.proofs.Math.Seq.{take-length}
+use Rattle.std.proofs.Common.{◌≡◌, ℕ, min, List, [], take, ◌++◌, Option, Some, None, Result, Ok, Err, IfErr, String, string_bytes, refl, sym, ◌∙◌, subst, ap, append-nil, append_assoc}
 use Rattle.std.proofs.KnownBytes.{Appends-trans, Appends-nil}
 use Rattle.std.specs.Io.KnownBytes.{Appends}
 use Rattle.std.specs.declared.alloc.Global.{Global}

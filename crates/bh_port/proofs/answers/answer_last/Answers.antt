@@ -1,6 +1,6 @@
 use Rattle.std.proofs.Common.{rules}
 use Rattle.std.proofs.lemmas.Result.{err_from_is_err_and}
-use Rattle.bh_port.proofs.Answering.{last-found, last-none, last-refused, last-unanswered}
+use Rattle.bh_port.proofs.Answering.{last-found, last-none, last-refused}
 use Rattle.bh_port.proofs.answers.answer_last.Goals as goal
 
 pub returns-in_default-clause-outcome : goal.returns-in_default-clause-outcome

@@ -1,4 +1,4 @@
-use Rattle.std.proofs.Common.{rules, arith, refl, ap, ◌∙◌, Result, Ok, IfErr, ◌≡◌, ◌⊎◌, inl, inr, Err}
+use Rattle.std.proofs.Common.{rules, arith, refl, ap, ◌∙◌, Result, Ok, IfErr, ◌≡◌, inr, Err}
 use Rattle.std.proofs.lemmas.Result.{err_from_is_err_and}
 use Rattle.bh_lines.specs.declared.port_error.PortError.TheVariants.{Read, Write, Line, Memory}
 use Rattle.bh_lines.specs.declared.port_error.PortError.{PortError}
