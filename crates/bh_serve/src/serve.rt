@@ -6,12 +6,12 @@ ghost use Rattle.bh_props.specs.SettingsView.{settings_seen};
 
 use crate::clock::MachineClock;
 use crate::echo::Echo;
-use crate::site::{Site, run};
+use crate::threads::Server;
 use bh_audit::{Book, Shared};
 use bh_base::Text;
 use bh_port::script::open;
 use bh_props::Settings;
-use std::alloc::{AllocError, Global};
+use std::alloc::{AllocError, AllocFailed, Global};
 use std::io::Write;
 use std::net::TcpListener;
 use std::rt::Clock;
@@ -37,6 +37,18 @@ pub enum ServeError {
     /// Memory was refused.
     #[error("fault: memory")]
     Memory,
+}
+
+impl From<AllocError> for ServeError {
+    fn from(_refused: AllocError) -> ServeError {
+        ServeError::Memory
+    }
+}
+
+impl<T: Drop> From<AllocFailed<T>> for ServeError {
+    fn from(_refused: AllocFailed<T>) -> ServeError {
+        ServeError::Memory
+    }
 }
 
 /// Serves so many connections of the listener with the groups of the settings, all new, over the echo dependency,
@@ -67,6 +79,7 @@ pub fn serve_on<R: Threads + Wait + Clock + Sync, E: Write + Send>(
     }
 }
 
+/// The same, with what ended the service.
 fn serve<R: Threads + Wait + Clock + Sync, E: Write + Send>(
     rt: &R,
     alloc: Global,
@@ -75,15 +88,11 @@ fn serve<R: Threads + Wait + Clock + Sync, E: Write + Send>(
     settings: &Settings,
     errors: &Mutex<E>,
 ) -> Result<(), ServeError> {
-    let Ok(names) = names(alloc, settings) else {
-        return Err(ServeError::Memory);
-    };
-    let Ok(shared) = service(alloc, settings) else {
-        return Err(ServeError::Memory);
-    };
+    let names = names(alloc, settings)?;
+    let shared = service(alloc, settings)?;
     let echo = Echo::new(rt);
     let clock = MachineClock::start(rt);
-    let site = Site {
+    let server = Server {
         rt,
         alloc,
         shared: &shared,
@@ -92,10 +101,10 @@ fn serve<R: Threads + Wait + Clock + Sync, E: Write + Send>(
         clock: &clock,
         errors,
     };
-    run(&site, listener, connections)
+    server.run(listener, connections)
 }
 
-// The service of the groups of the settings, all new. It is not audited.
+/// The service of the groups of the settings, all new. It is not audited.
 fn service(alloc: Global, settings: &Settings) -> Result<Shared, AllocError>
     ensures audited { IfOk result (λ shared. shared.audited ≡ false) }
     ensures groups { IfOk result (λ shared. length settings.now.groups.entries ≤ shared.groups) }
@@ -112,7 +121,7 @@ fn service(alloc: Global, settings: &Settings) -> Result<Shared, AllocError>
     }
 }
 
-// The names of the groups, each at the place that is its group's number.
+/// The names of the groups, each at the place that is its group's number.
 fn names(alloc: Global, settings: &Settings) -> Result<Vec<Text<32>>, AllocError>
     ensures { IfOk result (λ names. names.items ≡ names_in (settings_seen settings.now)) }
 {
@@ -123,7 +132,7 @@ fn names(alloc: Global, settings: &Settings) -> Result<Vec<Text<32>>, AllocError
     Ok(names)
 }
 
-// Puts an item behind the others.
+/// Puts an item behind the others.
 fn put<T: Drop>(list: &mut Vec<T>, item: T) -> Result<(), AllocError>
     ensures { OnOk result (list.new.items ≡ list.old.items ++ item ∷ []) }
 {

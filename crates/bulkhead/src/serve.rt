@@ -42,6 +42,7 @@ where
     }
 }
 
+/// Binds the port, says so, and serves the connections to it.
 fn serve_port<R, E: Write + Send + Drop>(
     rt: &R,
     alloc: Global,

@@ -1,16 +1,18 @@
--- A conversation, from the reader's first byte to its last.
+-- How far a session has come, from the reader's first byte to its last.
 use Rattle.std.proofs.Common.{◌≡◌, ℕ, false, List, [], ◌∷◌, ◌++◌, Option, Some, None, Result, Ok, Err, IfSome, Vec, refl, sym, ◌∙◌, subst, ap, append-nil, append_assoc}
 use Rattle.std.proofs.KnownBytes.{Appends-trans, Appends-nil}
 use Rattle.std.specs.Io.KnownBytes.{Keeps, Appends, Consumes, IsAtEnd}
 use Rattle.std.specs.declared.alloc.Global.{Global}
 use Rattle.bh_lines.specs.declared.port_error.PortError.{PortError}
 use Rattle.bh_lines.specs.declared.port_error.PortError.TheVariants.{Read, Write, Line, Memory}
-use Rattle.bh_lines.specs.Lines.{Cut, line, stopped, cut, has_line}
-use Rattle.bh_control.specs.Answering.{Responder}
+use Rattle.bh_lines.specs.Lines.{Cut, stopped, cut, has_line, lines_then}
+use Rattle.bh_control.specs.AnswerLine.{Responder}
 use Rattle.bh_streams.specs.Watched.{WritesFront}
+use Rattle.bh_lines.proofs.LinesThen.{lines_then-append}
 use Rattle.bh_streams.proofs.Fronts.{front-after}
-use Rattle.bh_control.specs.Talk.{Talk, lines_then, AnswersEach, Fed}
-use Rattle.bh_control.specs.Conversed.{Wrote, WroteFront, Conversed, HasAnswered, GoesOn, BreaksOff, PieceOutcome, LastOutcome}
+use Rattle.bh_control.specs.ConversationView.{ConversationView}
+use Rattle.bh_control.specs.Pieces.{AnswersEach, Fed}
+use Rattle.bh_control.specs.Session.{Wrote, WroteFront, Conversed, HasAnswered, GoesOn, BreaksOff, PieceOutcome, LastOutcome}
 
 -- what was written for `all` while `left` and what is kept are left of it
 pub record Underway (all left : List ℕ) (who : Responder) (w0 w1 : Option (List ℕ)) (kept : List ℕ) : Type 0 where
@@ -22,6 +24,7 @@ pub record Underway (all left : List ℕ) (who : Responder) (w0 w1 : Option (Lis
   pub wrote : Appends w0 w1 out
   pub cut_is : (more : List ℕ) → cut (read ++ more) ≡ lines_then lines (cut (kept ++ more))
 
+-- the same of a reader whose bytes may not be known
 abbrev pub Progress : Option (List ℕ) → Option (List ℕ) → Responder → Option (List ℕ) → Option (List ℕ) → List ℕ → Type 0
 Progress None now who w0 w1 rest = Unit {0}
 Progress (Some all) None who w0 w1 rest = ⊥
@@ -29,10 +32,6 @@ Progress (Some all) (Some left) who w0 w1 rest = Underway all left who w0 w1 res
 
 wrote-all : (all left : List ℕ) (who : Responder) (w0 w1 : Option (List ℕ)) (kept : List ℕ) → Underway all left who w0 w1 kept → Wrote who w0 w1 (cut all) (cut (kept ++ left))
 wrote-all all left who w0 w1 kept p = record { lines = p.lines; out = p.out; each = p.each; wrote = p.wrote; cut_is = ap cut p.all_is ∙ p.cut_is left }
-
-then-append : (ks ls : List (List ℕ)) (c : Cut) → lines_then (ks ++ ls) c ≡ lines_then ks (lines_then ls c)
-then-append [] ls c = refl
-then-append (k ∷ ks) ls c = ap (λ x. line k x) (then-append ks ls c)
 
 each-append : (who : Responder) (ks ls : List (List ℕ)) (o p : List ℕ) → AnswersEach who ks o → AnswersEach who ls p → AnswersEach who (ks ++ ls) (o ++ p)
 each-append who [] ls o p h k = subst (λ (ys : List ℕ). AnswersEach who ls ys) (ap (λ ys. ys ++ p) (sym h)) k
@@ -47,7 +46,7 @@ wrote-more who w0 w1 w2 all mid rest ls out w each wrote is = record {
   out = w.out ++ out;
   each = each-append who w.lines ls w.out out w.each each;
   wrote = Appends-trans w0 w1 w2 w.out out w.wrote wrote;
-  cut_is = w.cut_is ∙ (ap (λ c. lines_then w.lines c) is ∙ sym (then-append w.lines ls rest));
+  cut_is = w.cut_is ∙ (ap (λ c. lines_then w.lines c) is ∙ sym (lines_then-append w.lines ls rest));
 }
 
 -- what was written first, and then a front
@@ -59,13 +58,14 @@ wrote-front who w0 w1 w2 all mid rest ls out w each front is = record {
   rest = rest;
   each = each-append who w.lines ls w.out out w.each each;
   front = front-after w0 w1 w2 w.out out w.wrote front;
-  cut_is = w.cut_is ∙ (ap (λ c. lines_then w.lines c) is ∙ sym (then-append w.lines ls rest));
+  cut_is = w.cut_is ∙ (ap (λ c. lines_then w.lines c) is ∙ sym (lines_then-append w.lines ls rest));
 }
 
 -- what was written stays, where nothing more is
 wrote-same : (who : Responder) (w0 w1 w2 : Option (List ℕ)) (all rest : Cut) → Wrote who w0 w1 all rest → Appends w1 w2 [] → Wrote who w0 w2 all rest
 wrote-same who w0 w1 w2 all rest w same = wrote-more who w0 w1 w2 all rest rest [] [] w refl same refl
 
+-- nothing was read or written yet
 pub progress-start : (all w : Option (List ℕ)) (who : Responder) (rest : List ℕ) → rest ≡ [] → Progress all all who w w rest
 progress-start None w who rest e = tt
 progress-start (Some all) w who rest e = record { read = []; lines = []; out = []; all_is = refl; each = refl; wrote = Appends-nil w; cut_is = λ more. ap (λ ys. cut (ys ++ more)) (sym e) }
@@ -73,14 +73,15 @@ progress-start (Some all) w who rest e = record { read = []; lines = []; out = [
 joined : (rest piece left : List ℕ) (xs : List ℕ) → xs ≡ piece ++ left → rest ++ xs ≡ (rest ++ piece) ++ left
 joined rest piece left xs e = ap (λ ys. rest ++ ys) e ∙ sym (append_assoc rest piece left)
 
-pub progress-piece : (all now next w0 w1 w2 : Option (List ℕ)) (who : Responder) (rest piece : List ℕ) (talk : Talk)
-    → Progress all now who w0 w1 rest → Consumes now next piece → GoesOn who w1 w2 (rest ++ piece) talk → Progress all next who w0 w2 talk.rest
-progress-piece None now next w0 w1 w2 who rest piece talk p r g = tt
-progress-piece (Some all) None next w0 w1 w2 who rest piece talk p r g = absurd p
-progress-piece (Some all) (Some left) None w0 w1 w2 who rest piece talk p r g = absurd r
-progress-piece (Some all) (Some left) (Some after) w0 w1 w2 who rest piece talk p r g =
+-- a piece more was read, and the lines that it ended were answered
+pub progress-piece : (all now next w0 w1 w2 : Option (List ℕ)) (who : Responder) (rest piece : List ℕ) (conversation : ConversationView)
+    → Progress all now who w0 w1 rest → Consumes now next piece → GoesOn who w1 w2 (rest ++ piece) conversation → Progress all next who w0 w2 conversation.rest
+progress-piece None now next w0 w1 w2 who rest piece conversation p r g = tt
+progress-piece (Some all) None next w0 w1 w2 who rest piece conversation p r g = absurd p
+progress-piece (Some all) (Some left) None w0 w1 w2 who rest piece conversation p r g = absurd r
+progress-piece (Some all) (Some left) (Some after) w0 w1 w2 who rest piece conversation p r g =
     let ls : List (List ℕ) = g.answered.lines in
-    let then : (more : List ℕ) → cut (rest ++ (piece ++ more)) ≡ lines_then ls (cut (talk.rest ++ more)) =
+    let then : (more : List ℕ) → cut (rest ++ (piece ++ more)) ≡ lines_then ls (cut (conversation.rest ++ more)) =
     λ more. ap cut (sym (append_assoc rest piece more)) ∙ g.answered.cut_is more in record {
       read = p.read ++ piece;
       lines = p.lines ++ ls;
@@ -90,22 +91,22 @@ progress-piece (Some all) (Some left) (Some after) w0 w1 w2 who rest piece talk 
       wrote = Appends-trans w0 w1 w2 p.out g.out p.wrote g.wrote;
       cut_is = λ more.
           ap cut (append_assoc p.read piece more) ∙ p.cut_is (piece ++ more)
-          ∙ (ap (λ c. lines_then p.lines c) (then more) ∙ sym (then-append p.lines ls (cut (talk.rest ++ more))));
+          ∙ (ap (λ c. lines_then p.lines c) (then more) ∙ sym (lines_then-append p.lines ls (cut (conversation.rest ++ more))));
     }
 
 -- a piece after which the conversation does not go on
-pub progress-stops : (all now next w0 w1 w2 : Option (List ℕ)) (who : Responder) (rest piece : List ℕ) (talk : Talk) (e : PortError)
-    → Progress all now who w0 w1 rest → Consumes now next piece → PieceOutcome who w1 w2 (rest ++ piece) (Err e) talk
+pub progress-stops : (all now next w0 w1 w2 : Option (List ℕ)) (who : Responder) (rest piece : List ℕ) (conversation : ConversationView) (e : PortError)
+    → Progress all now who w0 w1 rest → Consumes now next piece → PieceOutcome who w1 w2 (rest ++ piece) (Err e) conversation
     → IfSome all (λ input. Conversed who w0 w2 (cut input) (Err e))
-progress-stops None now next w0 w1 w2 who rest piece talk e p r g = tt
-progress-stops (Some all) None next w0 w1 w2 who rest piece talk e p r g = absurd p
-progress-stops (Some all) (Some left) None w0 w1 w2 who rest piece talk e p r g = absurd r
-progress-stops (Some all) (Some left) (Some after) w0 w1 w2 who rest piece talk Line p r g =
+progress-stops None now next w0 w1 w2 who rest piece conversation e p r g = tt
+progress-stops (Some all) None next w0 w1 w2 who rest piece conversation e p r g = absurd p
+progress-stops (Some all) (Some left) None w0 w1 w2 who rest piece conversation e p r g = absurd r
+progress-stops (Some all) (Some left) (Some after) w0 w1 w2 who rest piece conversation Line p r g =
     wrote-more who w0 w1 w2 _ _ _ g.refused.lines g.out (wrote-all all left who w0 w1 rest p) g.refused.each g.wrote
     (ap cut (joined rest piece after left r) ∙ g.refused.cut_is after)
-progress-stops (Some all) (Some left) (Some after) w0 w1 w2 who rest piece talk Memory p r g = record { rest = cut (rest ++ left); some = wrote-same who w0 w1 w2 _ _ (wrote-all all left who w0 w1 rest p) g }
-progress-stops (Some all) (Some left) (Some after) w0 w1 w2 who rest piece talk Read p r g = absurd g
-progress-stops (Some all) (Some left) (Some after) w0 w1 w2 who rest piece talk Write p r g =
+progress-stops (Some all) (Some left) (Some after) w0 w1 w2 who rest piece conversation Memory p r g = record { rest = cut (rest ++ left); some = wrote-same who w0 w1 w2 _ _ (wrote-all all left who w0 w1 rest p) g }
+progress-stops (Some all) (Some left) (Some after) w0 w1 w2 who rest piece conversation Read p r g = absurd g
+progress-stops (Some all) (Some left) (Some after) w0 w1 w2 who rest piece conversation Write p r g =
     wrote-front who w0 w1 w2 _ _ _ g.lines g.out (wrote-all all left who w0 w1 rest p) g.each g.front
     (ap cut (joined rest piece after left r) ∙ (g.cut_is after).1)
 
@@ -180,8 +181,9 @@ breaks-off who w0 w1 all rest out (Some Memory) fed front = absurd fed
 breaks-off who w0 w1 all rest out (Some Read) fed front = absurd fed
 breaks-off who w0 w1 all rest out (Some Write) fed front = absurd fed
 
-pub piece-unwritten : (who : Responder) (w0 w1 : Option (List ℕ)) (all rest bytes : List ℕ) (out : Vec ℕ Global) (fault : Option PortError) (talk : Talk) (e : PortError)
-    → Fed who all (Ok out) rest fault → bytes ≡ out.items → WritesFront w0 w1 bytes → e ≡ Write → PieceOutcome who w0 w1 all (Err e) talk
-piece-unwritten who w0 w1 all rest bytes out fault talk e fed same front is =
-    subst (λ (k : PortError). PieceOutcome who w0 w1 all (Err k) talk) (sym is)
+-- the answers to a piece could not be written
+pub piece-unwritten : (who : Responder) (w0 w1 : Option (List ℕ)) (all rest bytes : List ℕ) (out : Vec ℕ Global) (fault : Option PortError) (conversation : ConversationView) (e : PortError)
+    → Fed who all (Ok out) rest fault → bytes ≡ out.items → WritesFront w0 w1 bytes → e ≡ Write → PieceOutcome who w0 w1 all (Err e) conversation
+piece-unwritten who w0 w1 all rest bytes out fault conversation e fed same front is =
+    subst (λ (k : PortError). PieceOutcome who w0 w1 all (Err k) conversation) (sym is)
     (breaks-off who w0 w1 all rest out fault fed (subst (λ (ys : List ℕ). WritesFront w0 w1 ys) same front))

@@ -1,29 +1,11 @@
 -- What a conversation answers to the pieces of a stream.
-use Rattle.std.specs.Prelude.{◌≡◌, ◌≢◌, ◌⊎◌, ℕ, false, List, [], ◌∷◌, ◌++◌, Option, Some, None, Result, Ok, Err, Vec}
+use Rattle.std.specs.Prelude.{◌≡◌, ◌≢◌, ℕ, false, List, [], ◌∷◌, ◌++◌, Option, Some, None, Result, Ok, Err, Vec}
 use Rattle.std.specs.declared.alloc.Global.{Global}
 use Rattle.bh_lines.specs.declared.port_error.PortError.{PortError}
 use Rattle.bh_lines.specs.declared.port_error.PortError.TheVariants.{Read, Write, Line, Memory}
-use Rattle.bh_lines.specs.Lines.{Cut, line, ended, stopped, cut, has_line}
-use Rattle.bh_lines.specs.Taken.{IsBehindFeed}
-use Rattle.bh_control.specs.Answering.{Responder, Answers}
-
--- what contracts see of a conversation: the bytes of a line that has not ended, and the fault that it answers from now on
-pub record Talk : Type 0 where
-  pub rest : List ℕ
-  pub fault : Option PortError
-
--- a conversation goes on with a rest in which no line has ended, or it has failed
-abbrev pub IsKept : List ℕ → Option PortError → Type 0
-IsKept rest None = has_line rest ≡ false
-IsKept rest (Some Line) = Unit {0}
-IsKept rest (Some Memory) = Unit {0}
-IsKept rest (Some Read) = ⊥
-IsKept rest (Some Write) = ⊥
-
--- these lines, and then the rest
-abbrev pub lines_then : List (List ℕ) → Cut → Cut
-lines_then [] rest = rest
-lines_then (bytes ∷ lines) rest = line bytes (lines_then lines rest)
+use Rattle.bh_lines.specs.Lines.{ended, stopped, cut, has_line, lines_then}
+use Rattle.bh_lines.specs.Taken.{IsBehind}
+use Rattle.bh_control.specs.AnswerLine.{Responder, Answers}
 
 -- the bytes are one answer to each line, in order
 abbrev pub AnswersEach : Responder → List (List ℕ) → List ℕ → Type 0
@@ -31,12 +13,8 @@ AnswersEach who [] out = out ≡ []
 AnswersEach who (bytes ∷ lines) out =
     (one : List ℕ) × (others : List ℕ) × Answers who bytes one × AnswersEach who lines others × (out ≡ one ++ others)
 
--- `rest` is all of the bytes, or what stands in them behind a line feed
-abbrev pub IsBehind : List ℕ → List ℕ → Type 0
-IsBehind all rest = (rest ≡ all) ⊎ IsBehindFeed all rest
-
 -- Whatever bytes follow, lines of `all` have ended, each is answered in `out`, and `rest` is left.
-pub record Answered (who : Responder) (all rest out : List ℕ) : Type 0 where
+pub record AnsweredUpTo (who : Responder) (all rest out : List ℕ) : Type 0 where
   pub lines : List (List ℕ)
   pub each : AnswersEach who lines out
   pub cut_is : (more : List ℕ) → cut (all ++ more) ≡ lines_then lines (cut (rest ++ more))
@@ -58,7 +36,7 @@ pub record RefusedLater (who : Responder) (all out : List ℕ) : Type 0 where
 -- What a piece is answered and what is kept, where `all` is what was kept and the piece: the lines that have ended are
 -- answered, and what follows the last line feed is kept. Where the next line is refused, the lines before it are answered.
 abbrev pub Fed : Responder → List ℕ → Result (Vec ℕ Global) PortError → List ℕ → Option PortError → Type 0
-Fed who all (Ok out) rest None = Answered who all rest out.items × (has_line rest ≡ false)
+Fed who all (Ok out) rest None = AnsweredUpTo who all rest out.items × (has_line rest ≡ false)
 Fed who all (Ok out) rest (Some Line) = RefusedLater who all out.items
 Fed who all (Err Line) rest (Some Line) = (more : List ℕ) → cut (all ++ more) ≡ stopped
 Fed who all (Err Memory) rest (Some Memory) = Unit {0}
@@ -79,7 +57,7 @@ Ended who rest _ _ = ⊥
 
 -- what the lines in front of `all` are answered behind `before`, and what is left of both
 abbrev pub Each : Responder → List ℕ → List ℕ → Result (Unit {0}) PortError → List ℕ → List ℕ → Type 0
-Each who all before (Ok x) rest after = (out : List ℕ) × (after ≡ before ++ out) × Answered who all rest out × (has_line rest ≡ false)
+Each who all before (Ok x) rest after = (out : List ℕ) × (after ≡ before ++ out) × AnsweredUpTo who all rest out × (has_line rest ≡ false)
 Each who all before (Err Line) rest after = (out : List ℕ) × (after ≡ before ++ out) × Refused who all out
 Each who all before (Err Memory) rest after = Unit {0}
 Each who all before (Err Read) rest after = ⊥

@@ -10,7 +10,7 @@ use Rattle.bh_base.specs.declared.reply.CallError.TheVariants as call_errors
 use Rattle.bh_base.specs.declared.reply.Reply.{Reply}
 use Rattle.bh_base.specs.declared.reply.Reply.TheVariants as reply
 use Rattle.bh_lines.specs.declared.fault.Fault.{Fault}
-use Rattle.bh_lines.specs.ReplyLine.{word, line_of, reply_line}
+use Rattle.bh_lines.specs.ReplyLine.{text_member, json_line, reply_line}
 use Rattle.bh_lines.specs.FaultLine.{error_data, fault_line}
 use Rattle.bh_control.specs.declared.control_line.ControlLine.{ControlLine}
 use Rattle.bh_control.specs.declared.control_line.ControlLine.TheVariants as lines
@@ -22,21 +22,21 @@ texts_data texts = items_of (map (λ text. string text) texts)
 
 -- the object of the names of the groups, in their order
 abbrev pub groups_data : List (List ℕ) → Data
-groups_data names = object (member (codes "groups") (array (texts_data names)) (word (codes "reply") (codes "groups") no_members))
+groups_data names = object (member (codes "groups") (array (texts_data names)) (text_member (codes "reply") (codes "groups") no_members))
 
 -- the line of the names of the groups
 unfoldable pub groups_line : List (List ℕ) → List ℕ
-groups_line names = line_of (groups_data names)
+groups_line names = json_line (groups_data names)
 
 -- the line of the answer to a call, or of why there is none
 unfoldable pub answer_line : Result Answer CallError → List ℕ
 answer_line (Ok answer) = reply_line (reply.Answered answer)
 answer_line (Err call_errors.GroupFull) = reply_line reply.GroupFull
 answer_line (Err call_errors.Worn) = reply_line reply.Worn
-answer_line (Err call_errors.PassFull) = line_of (error_data (codes "full"))
-answer_line (Err call_errors.Stopped) = line_of (error_data (codes "stopped"))
-answer_line (Err call_errors.Taken) = line_of (error_data (codes "taken"))
-answer_line (Err call_errors.NoGroup) = line_of (error_data (codes "group"))
+answer_line (Err call_errors.PassFull) = json_line (error_data (codes "full"))
+answer_line (Err call_errors.Stopped) = json_line (error_data (codes "stopped"))
+answer_line (Err call_errors.Taken) = json_line (error_data (codes "taken"))
+answer_line (Err call_errors.NoGroup) = json_line (error_data (codes "group"))
 
 -- who answers: the names of the groups, and what each call may give for its arguments
 pub record Responder : Type 1 where

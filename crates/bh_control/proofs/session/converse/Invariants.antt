@@ -1,9 +1,9 @@
 use Rattle.std.proofs.Common.{◌≡◌, ◌≤◌, false, None}
 use Rattle.bh_lines.specs.Lines.{has_line}
-use Rattle.bh_streams.specs.Watched.{counted, reader_of, reads_of, bytes_left, NoneFailed, writer_of, bytes_held, NoneRefused}
-use Rattle.bh_control.specs.Answering.{responder}
-use Rattle.bh_control.proofs.Conversing.{Progress}
-use Rattle.bh_control.proofs.converse.converse.Given as goal
+use Rattle.bh_streams.specs.Watched.{saturating_count, reader_of, reads_of, bytes_left, NoneFailed, writer_of, bytes_held, NoneRefused}
+use Rattle.bh_control.specs.AnswerLine.{responder}
+use Rattle.bh_control.proofs.Progress.{Progress}
+use Rattle.bh_control.proofs.session.converse.Given as goal
 
 abbrev pub invariant-loop : goal.invariant-loop
 invariant-loop g l = record {
@@ -12,7 +12,7 @@ invariant-loop g l = record {
   names : g.C.Control.names l.control ≡ g.C.Control.names l.fn.control;
   going : l.conversation.fault ≡ None;
   no_line : has_line l.conversation.rest ≡ false;
-  read_enough : counted (reads_of l.fn.reader) l.counter ≤ reads_of l.reader;
+  read_enough : saturating_count (reads_of l.fn.reader) l.counter ≤ reads_of l.reader;
   none_failed : NoneFailed l.fn.reader l.reader;
   none_refused : NoneRefused l.fn.writer l.writer;
   progress : Progress (bytes_left g.R.Read.remaining l.fn.reader) (bytes_left g.R.Read.remaining l.reader)

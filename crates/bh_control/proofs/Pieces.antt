@@ -1,10 +1,11 @@
--- Answers to one line after the other.
-use Rattle.std.proofs.Common.{◌≡◌, ℕ, false, List, [], ◌∷◌, ◌++◌, codes, Option, Some, None, Result, Ok, Err, String, string_bytes, Vec, refl, sym, ◌∙◌, subst, ap, append-nil, append_assoc, inl, inr}
+-- Answers to the lines of a piece, one after the other.
+use Rattle.std.proofs.Common.{◌≡◌, ℕ, false, List, [], ◌∷◌, ◌++◌, codes, Option, Some, None, Result, Ok, Err, String, string_bytes, Vec, refl, sym, ◌∙◌, subst, ap, append-nil, append_assoc, inl}
 use Rattle.std.specs.declared.alloc.Global.{Global}
 use Rattle.bh_lines.specs.declared.port_error.PortError.{PortError}
 use Rattle.bh_lines.specs.declared.port_error.PortError.TheVariants.{Read, Write, Line, Memory}
-use Rattle.bh_lines.specs.Lines.{Cut, line, stopped, cut, has_line}
-use Rattle.bh_lines.specs.Taken.{TakesLine, IsLast, IsBehindFeed}
+use Rattle.bh_lines.specs.Lines.{stopped, cut, has_line, lines_then}
+use Rattle.bh_lines.specs.Taken.{TakesLine, IsLast}
+use Rattle.bh_lines.proofs.LinesThen.{lines_then-append, IsBehind-more}
 use Rattle.bh_lines.specs.declared.fault.Fault.{Fault}
 use Rattle.bh_lines.specs.FaultLine.{fault_line, fault_word, error_data}
 use Rattle.bh_lines.specs.ReplyLine.{reply_line, reply_data}
@@ -17,32 +18,23 @@ use Rattle.bh_base.specs.declared.reply.Reply.TheVariants as reply
 use Rattle.bh_control.specs.declared.control_line.ControlLine.{ControlLine}
 use Rattle.bh_control.specs.declared.control_line.ControlLine.TheVariants as lines
 use Rattle.bh_control.specs.ControlLine.{control_line}
-use Rattle.bh_control.specs.Answering.{Responder, Answers, IsAnswer, groups_data, groups_line, answer_line}
-use Rattle.bh_control.specs.Talk.{lines_then, IsBehind, AnswersEach, Answered, Refused, Each, EachLast, UnlessEmpty, Fed}
+use Rattle.bh_control.specs.AnswerLine.{Responder, Answers, IsAnswer, groups_data, groups_line, answer_line}
+use Rattle.bh_control.specs.Pieces.{AnswersEach, AnsweredUpTo, Refused, Each, EachLast, UnlessEmpty, Fed}
 
 -- the lines in front of `all` were answered behind `before`, up to `rest`
 abbrev pub SoFar : Responder → List ℕ → List ℕ → List ℕ → List ℕ → Type 0
-SoFar who all before rest after = (out : List ℕ) × (after ≡ before ++ out) × Answered who all rest out
-
-then-more : (ls : List (List ℕ)) (l : List ℕ) (c : Cut) → lines_then (ls ++ l ∷ []) c ≡ lines_then ls (line l c)
-then-more [] l c = refl
-then-more (k ∷ ls) l c = ap (λ x. line k x) (then-more ls l c)
+SoFar who all before rest after = (out : List ℕ) × (after ≡ before ++ out) × AnsweredUpTo who all rest out
 
 answers-more : (who : Responder) (ls : List (List ℕ)) (l out one : List ℕ) → AnswersEach who ls out → Answers who l one → AnswersEach who (ls ++ l ∷ []) (out ++ one)
 answers-more who [] l out one h m = (one, [], m, refl, ap (λ ys. ys ++ one) h ∙ sym (append-nil one))
 answers-more who (k ∷ ls) l out one h m =
     (h.0, h.1 ++ one, h.2, answers-more who ls l h.1 one h.3 m, ap (λ ys. ys ++ one) h.4 ∙ append_assoc h.0 h.1 one)
 
+-- no line was answered yet
 pub so_far-none : (who : Responder) (all before : List ℕ) → SoFar who all before all before
 so_far-none who all before = ([], sym (append-nil before), record { lines = []; each = refl; cut_is = λ more. refl; behind = inl refl })
 
--- what is behind a line feed of the bytes that are left, is behind one of all bytes
-behind-more : (all mid new : List ℕ) → IsBehind all mid → IsBehindFeed mid new → IsBehind all new
-behind-more all mid new h f = elim h [
-  | inl e ↦ inr (f.0, sym e ∙ f.1)
-  | inr g ↦ inr (g.0 ++ 10 ∷ f.0, g.1 ∙ (ap (λ ys. g.0 ++ 10 ∷ ys) f.1 ∙ sym (append_assoc g.0 (10 ∷ f.0) (10 ∷ new))))
-]
-
+-- one line more was taken and answered
 pub so_far-one : (who : Responder) (all before mid after new later bytes one : List ℕ) (found : Option (String Global)) (s : String Global)
     → SoFar who all before mid after → found ≡ Some s → TakesLine mid (Ok found) new → bytes ≡ string_bytes s → Answers who bytes one → later ≡ after ++ one
     → SoFar who all before new later
@@ -55,11 +47,12 @@ so_far-one who all before mid after new later bytes one found s so is taken same
       record {
         lines = ls ++ string_bytes s ∷ [];
         each = answers-more who ls (string_bytes s) so.0 one so.2.each m2;
-        cut_is = λ more. so.2.cut_is more ∙ ap (λ c. lines_then ls c) (took.1 more) ∙ sym (then-more ls (string_bytes s) (cut (new ++ more)));
-        behind = behind-more all mid new so.2.behind took.2;
+        cut_is = λ more. so.2.cut_is more ∙ ap (λ c. lines_then ls c) (took.1 more) ∙ sym (lines_then-append ls (string_bytes s ∷ []) (cut (new ++ more)));
+        behind = IsBehind-more all mid new so.2.behind took.2;
       },
     )
 
+-- the next line is refused
 pub so_far-refused : (who : Responder) (all before mid after new : List ℕ) (e : PortError)
     → SoFar who all before mid after → TakesLine mid (Err e) new → Each who all before (Err e) new after
 so_far-refused who all before mid after new Line so taken =
@@ -68,6 +61,7 @@ so_far-refused who all before mid after new Memory so taken = tt
 so_far-refused who all before mid after new Read so taken = taken
 so_far-refused who all before mid after new Write so taken = taken
 
+-- no further line has ended
 pub so_far-waits : (who : Responder) (all before mid after new : List ℕ) (found : Option (String Global))
     → SoFar who all before mid after → found ≡ None → TakesLine mid (Ok found) new → Each who all before (Ok tt) new after
 so_far-waits who all before mid after new found so is taken =
@@ -154,6 +148,7 @@ fed-refused who all whole before rest after fault answers result was is-line non
     let refused : Refused who whole answers.items = subst (λ (ys : List ℕ). Refused who whole ys) same each.2 in
     from-refused who all after answers result (subst (λ (ys : List ℕ). Refused who ys answers.items) is refused) h
 
+-- the last line was taken and answered
 pub last-found : (who : Responder) (rest before after bytes one : List ℕ) (found : Option (String Global)) (s : String Global)
     → found ≡ Some s → IsLast rest (Ok found) → bytes ≡ string_bytes s → Answers who bytes one → after ≡ before ++ one
     → EachLast who rest before (Ok tt) after
@@ -162,6 +157,7 @@ last-found who rest before after bytes one found s is last same answered e =
     let one' : Answers who (string_bytes s) one = subst (λ (ys : List ℕ). Answers who ys one) same answered in
     (one, e, record { lines = string_bytes s ∷ []; each = (one, [], one', refl, sym (append-nil one)); cut_is = ends })
 
+-- there is no last line
 pub last-none : (who : Responder) (rest before : List ℕ) (found : Option (String Global))
     → found ≡ None → IsLast rest (Ok found) → EachLast who rest before (Ok tt) before
 last-none who rest before found is last =

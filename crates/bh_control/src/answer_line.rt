@@ -3,31 +3,30 @@
 ghost use Rattle.std.specs.Prelude.{◌≡◌, length, map, ◌++◌, ◌∷◌, [], IfOk, OnOk, Ok, string_bytes};
 ghost use Rattle.serde_json.specs.Data.{array, string};
 ghost use Rattle.serde_json.specs.View.{view};
-ghost use Rattle.bh_lines.specs.ReplyLine.{line_of};
+ghost use Rattle.bh_lines.specs.ReplyLine.{json_line};
 ghost use Rattle.bh_control.specs.ControlLine.{IsOfGroups};
-ghost use Rattle.bh_control.specs.Answering.{responder, texts_data, groups_data, groups_line, answer_line, Answers, IsAnswer};
+ghost use Rattle.bh_control.specs.AnswerLine.{responder, texts_data, groups_data, groups_line, answer_line, Answers, IsAnswer};
 
 use crate::control::Control;
 use crate::control_line::ControlLine;
 use bh_base::{Answer, CallError, Reply, Text};
-use bh_lines::{error_line, fault_line, line_of, reply_line};
+use bh_lines::{error_line, fault_line, json_line, reply_line};
 use serde_json::{Value, json};
 use std::alloc::{AllocError, Global};
 
-// The line that answers a line.
-#[tactic(auto, unfolding(crate::specs::Answering::Answers))]
+/// The line that answers a line.
+#[tactic(auto, unfolding(crate::specs::AnswerLine::Answers))]
 pub fn answer<C: Control>(alloc: Global, control: &mut C, line: &str) -> Result<String, AllocError>
     ensures answer { IfOk result (λ s. Answers (responder (C.names control.old) C.may_show C.may_answer C.may_close) line.now (string_bytes s)) }
     ensures groups { C.names control.new ≡ C.names control.old }
 {
-    match ControlLine::parse(alloc, control.groups(), line) {
-        Ok(Ok(asked)) => answer_asked(alloc, control, asked),
-        Ok(Err(fault)) => fault_line(alloc, fault),
-        Err(error) => Err(error),
+    match ControlLine::parse(alloc, control.groups(), line)? {
+        Ok(asked) => answer_asked(alloc, control, asked),
+        Err(fault) => fault_line(alloc, fault),
     }
 }
 
-// The line that answers what is asked.
+/// The line that answers what is asked.
 fn answer_asked<C: Control>(
     alloc: Global,
     control: &mut C,
@@ -54,15 +53,16 @@ fn answer_asked<C: Control>(
     }
 }
 
-// The line of the names of the groups.
-#[tactic(auto, unfolding(crate::specs::Answering::groups_line))]
+/// The line of the names of the groups.
+#[tactic(auto, unfolding(crate::specs::AnswerLine::groups_line))]
 fn groups_line(alloc: Global, names: &[Text<32>]) -> Result<String, AllocError>
     ensures { IfOk result (λ s. string_bytes s ≡ groups_line names.now) }
 {
     let value = groups_value(alloc, names)?;
-    line_of(alloc, &value)
+    json_line(alloc, &value)
 }
 
+/// The names of the groups, as a value.
 fn groups_value(alloc: Global, names: &[Text<32>]) -> Result<Value, AllocError>
     ensures { IfOk result (λ v. view v ≡ groups_data names.now) }
 {
@@ -70,7 +70,7 @@ fn groups_value(alloc: Global, names: &[Text<32>]) -> Result<Value, AllocError>
     json!(in alloc; {"groups": listed, "reply": "groups"})
 }
 
-// The texts, as an array.
+/// The texts, as an array.
 fn texts_value(alloc: Global, texts: &[Text<32>]) -> Result<Value, AllocError>
     ensures { IfOk result (λ v. view v ≡ array (texts_data texts.now)) }
 {
@@ -81,7 +81,7 @@ fn texts_value(alloc: Global, texts: &[Text<32>]) -> Result<Value, AllocError>
     Ok(Value::Array(listed))
 }
 
-// Puts a text behind what is listed.
+/// Puts a text behind what is listed.
 fn put_text(alloc: Global, listed: &mut Vec<Value>, text: &str) -> Result<(), AllocError>
     ensures { OnOk result (map view listed.new.items ≡ map view listed.old.items ++ string text.now ∷ []) }
 {
@@ -90,8 +90,8 @@ fn put_text(alloc: Global, listed: &mut Vec<Value>, text: &str) -> Result<(), Al
     Ok(())
 }
 
-// The line of the answer to a call, or of why there is none.
-#[tactic(auto, unfolding(crate::specs::Answering::answer_line))]
+/// The line of the answer to a call, or of why there is none.
+#[tactic(auto, unfolding(crate::specs::AnswerLine::answer_line))]
 fn answer_line(alloc: Global, answer: Result<Answer, CallError>) -> Result<String, AllocError>
     ensures { IfOk result (λ s. string_bytes s ≡ answer_line answer) }
 {

@@ -1,26 +1,26 @@
-//! The words of the command line.
+//! The arguments of the program.
 
 use super::assert_end;
-use crate::{command, run_words};
+use crate::{command, run_arguments};
 use std::net::{Net, TcpListener, TcpStream};
 use std::process::Abort;
 use std::rt::Clock;
 use std::sync::Wait;
 use std::thread::Threads;
 
-// The words, of which the first is the program's name.
-fn listed<R: Abort + AllocGlobal>(rt: &R, words: &str) -> Vec<String> {
-    let mut listed = Vec::new(rt.alloc());
-    for word in words.split(' ') {
+/// The arguments of a command line, of which the first is the program's name.
+fn arguments<R: Abort + AllocGlobal>(rt: &R, line: &str) -> Vec<String> {
+    let mut arguments = Vec::new(rt.alloc());
+    for argument in line.split(' ') {
         let mut text = String::new(rt.alloc());
-        text.push_str(word).expect(rt, "memory");
-        listed.push(text).expect(rt, "memory");
+        text.push_str(argument).expect(rt, "memory");
+        arguments.push(text).expect(rt, "memory");
     }
-    listed
+    arguments
 }
 
-// Asserts the status that the words leave.
-fn assert_words<
+/// Asserts the status that a command line leaves.
+fn assert_status<
     R: Net<Listener = TcpListener, Stream = TcpStream>
         + Threads
         + Wait
@@ -29,13 +29,13 @@ fn assert_words<
         + Sync
         + Abort
         + AllocGlobal,
->(rt: &HostRuntime, handles: &R, words: &str, status: u8) {
-    let listed = listed(handles, words);
-    let answered = run_words(rt, handles, listed.as_slice()).expect(handles, "memory");
+>(rt: &HostRuntime, handles: &R, line: &str, status: u8) {
+    let arguments = arguments(handles, line);
+    let answered = run_arguments(rt, handles, arguments.as_slice()).expect(handles, "memory");
     assert_end(handles, answered, status);
 }
 
-// Words that are refused.
+/// Command lines that are refused.
 const REFUSED: &str = "bulkhead
 bulkhead stop
 bulkhead check
@@ -47,12 +47,12 @@ bulkhead serve settings.toml --port 1 --connections 0
 bulkhead serve settings.toml --port 1 --connections 65";
 
 #[test]
-fn refused_words_leave_status_2(rt: HostRuntime) {
-    for words in REFUSED.lines() {
-        assert_words(&rt, &rt, words, 2);
+fn refused_arguments_leave_status_2(rt: HostRuntime) {
+    for line in REFUSED.lines() {
+        assert_status(&rt, &rt, line, 2);
     }
-    assert_words(&rt, &rt, "bulkhead --help", 0);
-    assert_words(&rt, &rt, "bulkhead check no-such-file", 3);
+    assert_status(&rt, &rt, "bulkhead --help", 0);
+    assert_status(&rt, &rt, "bulkhead check no-such-file", 3);
 }
 
 const NO_FILE: &str = "error: the following required arguments were not provided:
@@ -64,10 +64,10 @@ For more information, try '--help'.
 ";
 
 #[test]
-fn refused_words_are_told_with_the_usage(rt: HostRuntime) {
-    let listed = listed(&rt, "bulkhead check");
+fn refused_arguments_are_told_with_the_usage(rt: HostRuntime) {
+    let arguments = arguments(&rt, "bulkhead check");
     let command = command(rt.alloc()).expect(&rt, "memory");
-    let text = match command.try_get_matches_from(listed.as_slice()) {
+    let text = match command.try_get_matches_from(arguments.as_slice()) {
         Ok(_) => String::new(rt.alloc()),
         Err(error) => error.to_string(rt.alloc()).expect(&rt, "memory"),
     };

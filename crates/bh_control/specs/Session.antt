@@ -1,12 +1,13 @@
--- What a whole conversation writes.
+-- What a session writes: a whole conversation over a reader and a writer.
 use Rattle.std.specs.Prelude.{◌≡◌, ℕ, false, List, [], ◌++◌, Option, Some, None, Result, Ok, Err}
 use Rattle.std.specs.Io.KnownBytes.{Appends}
 use Rattle.bh_lines.specs.declared.port_error.PortError.{PortError}
 use Rattle.bh_lines.specs.declared.port_error.PortError.TheVariants.{Read, Write, Line, Memory}
-use Rattle.bh_lines.specs.Lines.{Cut, ended, stopped, cut, has_line}
+use Rattle.bh_lines.specs.Lines.{Cut, ended, stopped, cut, has_line, lines_then}
 use Rattle.bh_streams.specs.Watched.{WritesFront}
-use Rattle.bh_control.specs.Answering.{Responder}
-use Rattle.bh_control.specs.Talk.{Talk, lines_then, AnswersEach, Answered, AnsweredLast, Refused}
+use Rattle.bh_control.specs.AnswerLine.{Responder}
+use Rattle.bh_control.specs.ConversationView.{ConversationView}
+use Rattle.bh_control.specs.Pieces.{AnswersEach, AnsweredUpTo, AnsweredLast, Refused}
 
 -- One answer to each of the first lines was written, in order, and `rest` is what follows them.
 pub record Wrote (who : Responder) (w0 w1 : Option (List ℕ)) (all rest : Cut) : Type 0 where
@@ -59,12 +60,12 @@ HasAnswered who w0 w1 (Some input) None = ⊥
 HasAnswered who w0 w1 (Some input) (Some left) = AnsweredRead who w0 w1 input left
 
 -- The lines that have ended were answered, and the conversation goes on.
-pub record GoesOn (who : Responder) (w0 w1 : Option (List ℕ)) (all : List ℕ) (talk : Talk) : Type 0 where
+pub record GoesOn (who : Responder) (w0 w1 : Option (List ℕ)) (all : List ℕ) (conversation : ConversationView) : Type 0 where
   pub out : List ℕ
-  pub answered : Answered who all talk.rest out
+  pub answered : AnsweredUpTo who all conversation.rest out
   pub wrote : Appends w0 w1 out
-  pub going : talk.fault ≡ None
-  pub no_line : has_line talk.rest ≡ false
+  pub going : conversation.fault ≡ None
+  pub no_line : has_line conversation.rest ≡ false
 
 -- The lines before one that is refused were answered.
 pub record Stops (who : Responder) (w0 w1 : Option (List ℕ)) (all : List ℕ) : Type 0 where
@@ -81,12 +82,12 @@ pub record BreaksOff (who : Responder) (w0 w1 : Option (List ℕ)) (all : List �
   pub cut_is : (more : List ℕ) → (rest : Cut) × (cut (all ++ more) ≡ lines_then lines rest)
 
 -- what was written for a piece, where `all` is what was kept and the piece
-abbrev pub PieceOutcome : Responder → Option (List ℕ) → Option (List ℕ) → List ℕ → Result (Unit {0}) PortError → Talk → Type 0
-PieceOutcome who w0 w1 all (Ok x) talk = GoesOn who w0 w1 all talk
-PieceOutcome who w0 w1 all (Err Line) talk = Stops who w0 w1 all
-PieceOutcome who w0 w1 all (Err Memory) talk = Appends w0 w1 []
-PieceOutcome who w0 w1 all (Err Read) talk = ⊥
-PieceOutcome who w0 w1 all (Err Write) talk = BreaksOff who w0 w1 all
+abbrev pub PieceOutcome : Responder → Option (List ℕ) → Option (List ℕ) → List ℕ → Result (Unit {0}) PortError → ConversationView → Type 0
+PieceOutcome who w0 w1 all (Ok x) conversation = GoesOn who w0 w1 all conversation
+PieceOutcome who w0 w1 all (Err Line) conversation = Stops who w0 w1 all
+PieceOutcome who w0 w1 all (Err Memory) conversation = Appends w0 w1 []
+PieceOutcome who w0 w1 all (Err Read) conversation = ⊥
+PieceOutcome who w0 w1 all (Err Write) conversation = BreaksOff who w0 w1 all
 
 -- what was written for the last line, or none, where `rest` was kept
 abbrev pub LastOutcome : Responder → Option (List ℕ) → Option (List ℕ) → List ℕ → Result (Unit {0}) PortError → Type 0

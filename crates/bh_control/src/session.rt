@@ -1,11 +1,11 @@
-//! A whole conversation, over a reader and a writer.
+//! A session: a whole conversation, from the first byte of a reader to its last, answered to a writer.
 
 ghost use Rattle.std.specs.Prelude.{◌≡◌, ◌⊎◌, ◌-◌, ◌^◌, ◌++◌, None, Err, IfSome};
 ghost use Rattle.bh_lines.specs.Lines.{cut};
 ghost use Rattle.bh_streams.specs.Watched.{reader_of, bytes_left, HasRead, OneFailed, NoneFailed, writer_of, bytes_held, OneRefused, NoneRefused};
-ghost use Rattle.bh_control.specs.Answering.{responder};
-ghost use Rattle.bh_control.specs.Talk.{Answered};
-ghost use Rattle.bh_control.specs.Conversed.{PieceOutcome, LastOutcome, Conversed, HasAnswered};
+ghost use Rattle.bh_control.specs.AnswerLine.{responder};
+ghost use Rattle.bh_control.specs.Pieces.{AnsweredUpTo};
+ghost use Rattle.bh_control.specs.Session.{PieceOutcome, LastOutcome, Conversed, HasAnswered};
 
 use crate::control::Control;
 use crate::conversation::Conversation;
@@ -14,7 +14,7 @@ use bh_streams::{WatchedReader, WatchedWriter, write};
 use std::alloc::Global;
 use std::io::{Read, Write};
 
-// So many bytes are asked of the reader at a time.
+/// So many bytes are asked of the reader at a time.
 const READ_SIZE: usize = 4096;
 
 /// Answers the control lines of the reader to the writer, as they come, to the end of the input.
@@ -44,22 +44,18 @@ pub fn converse<R: Read, W: Write, C: Control>(
     let mut piece = [0u8; READ_SIZE];
     let mut conversation = Conversation::new(alloc);
     for _ in 0..u64::MAX {
-        let count = match reader.read(&mut piece) {
-            Ok(count) => count,
-            Err(_) => return Err(PortError::Read),
+        let Ok(count) = reader.read(&mut piece) else {
+            return Err(PortError::Read);
         };
         if count == 0 {
             return answer_last(&mut conversation, control, writer);
         }
-        match answer_piece(&mut conversation, &piece[..count], control, writer) {
-            Ok(()) => {}
-            Err(error) => return Err(error),
-        }
+        answer_piece(&mut conversation, &piece[..count], control, writer)?;
     }
     Err(PortError::Read)
 }
 
-// Answers the lines that a piece ends.
+/// Answers the lines that a piece ends.
 fn answer_piece<W: Write, C: Control>(
     conversation: &mut Conversation,
     piece: &[u8],
@@ -74,21 +70,15 @@ fn answer_piece<W: Write, C: Control>(
     ensures outcome { PieceOutcome (responder (C.names control.old) C.may_show C.may_answer C.may_close) (bytes_held W.contents writer.old) (bytes_held W.contents writer.new)
         (conversation.old.rest ++ piece.now) result conversation.new }
 {
-    let replies = match conversation.feed(piece, control) {
-        Ok(replies) => replies,
-        Err(error) => return Err(error),
-    };
-    match write(writer, replies.as_slice()) {
-        Ok(()) => {}
-        Err(error) => return Err(error),
-    }
+    let replies = conversation.feed(piece, control)?;
+    write(writer, replies.as_slice())?;
     match conversation.fault() {
         Some(fault) => Err(fault),
         None => Ok(()),
     }
 }
 
-// Answers the line that no line feed ended, if there is one.
+/// Answers the line that no line feed ended, if there is one.
 fn answer_last<W: Write, C: Control>(
     conversation: &mut Conversation,
     control: &mut C,
@@ -101,9 +91,6 @@ fn answer_last<W: Write, C: Control>(
     ensures not_refused { (result ≡ Err PortError.Write) ⊎ NoneRefused writer.old writer.new }
     ensures outcome { LastOutcome (responder (C.names control.old) C.may_show C.may_answer C.may_close) (bytes_held W.contents writer.old) (bytes_held W.contents writer.new) conversation.old.rest result }
 {
-    let replies = match conversation.end(control) {
-        Ok(replies) => replies,
-        Err(error) => return Err(error),
-    };
+    let replies = conversation.end(control)?;
     write(writer, replies.as_slice())
 }
