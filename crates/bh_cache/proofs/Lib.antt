@@ -1,0 +1,4 @@
+pub mod Counts
+pub mod Listed
+pub mod Order
+pub mod Walks
