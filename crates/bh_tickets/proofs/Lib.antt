@@ -1,0 +1,9 @@
+pub mod Touched
+pub mod Own
+pub mod Others
+pub mod Puts
+pub mod Adds
+pub mod Releases
+pub mod Whole
+pub mod Finds
+pub mod Times

@@ -1,0 +1,4 @@
+pub mod TicketsView
+pub mod Changes
+pub mod GroupSlots
+pub mod Whole

@@ -1,0 +1,10 @@
+//! The tickets of all groups, in the slots of one arena: a group's tickets lie on lists of its own, and what is counted
+//! of them is kept as they change, so that a call takes no walk over other groups, and most take none over the group's.
+#![tactic(auto)]
+
+mod group_slots;
+mod states;
+mod tickets;
+
+pub use states::{DueRule, is_running, is_unanswered};
+pub use tickets::Tickets;

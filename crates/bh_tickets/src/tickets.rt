@@ -1,0 +1,266 @@
+//! The tickets of all groups.
+
+ghost use Rattle.std.specs.Prelude.{◌≡◌, ◌≢◌, ℕ, ◌+◌, ◌-◌, ◌^◌, ◌<◌, ◌≤◌, Bool, [], ◌∷◌, ◌++◌, count_by, filter, find, false, length, slice_get, IfSome, None, Some};
+ghost use Rattle.bh_base.specs.declared.ticket.Ticket.{Ticket};
+ghost use Rattle.bh_base.specs.declared.ticket.TicketState.TheVariants as ticket;
+ghost use Rattle.bh_base.specs.Machine.{released_by_one};
+ghost use Rattle.bh_base.specs.Tickets.{changed_first, in_state, is_busy_at, is_held_at, is_in_fallback, is_in_fallback_at, is_queued};
+ghost use Rattle.bh_tickets.specs.Changes.{answered, fallback_started, joined, queued_in, run_ended, run_started, run_stopped};
+ghost use Rattle.bh_tickets.specs.TicketsView.{CanPush, ChangesOnly, IsFirstAt, IsThere, group_at, in_slot};
+ghost use Rattle.bh_tickets.specs.Whole.{CanChange, IsChanged};
+
+use crate::group_slots::{GroupSlots, add, put};
+use crate::states::{is_held, is_in_fallback};
+use bh_base::{Answer, Cause, Serial, Ticket, TicketState};
+use bh_cache::find_serial;
+use bh_slot_arena::Arena;
+use std::marker::Model;
+
+/// The tickets of all groups, by the numbers of the groups.
+#[derive(Drop)]
+pub struct Tickets {
+    arena: Arena<Ticket, 1>,
+    groups: Vec<GroupSlots>,
+}
+
+impl Model for Tickets {
+    ghost use Rattle.bh_tickets.specs.TicketsView.{TicketsView};
+    ghost use Rattle.bh_tickets.specs.Whole.{view_of, IsWhole};
+
+    ghost Value = { TicketsView };
+
+    ghost view = { λ ts. view_of ts.arena ts.groups.items };
+
+    ghost invariant = { λ ts. IsWhole ts.arena ts.groups.items };
+}
+
+impl Tickets {
+    /// How many tickets a group has.
+    pub fn len(&self, group: usize) -> u64
+        requires { group < length self.now.groups }
+        ensures { result ≡ length (group_at self.now group).items }
+    {
+        self.groups[group].taken
+    }
+
+    /// How many runs of a group are under way, timed out ones included.
+    pub fn busy_count(&self, group: usize) -> u64
+        requires { group < length self.now.groups }
+        ensures { result ≡ count_by (λ t. t.busy) (group_at self.now group).items }
+    {
+        self.groups[group].busy
+    }
+
+    /// How many wait for a worker.
+    pub fn queued_count(&self, group: usize) -> u64
+        requires { group < length self.now.groups }
+        ensures { result ≡ count_by is_queued (group_at self.now group).items }
+    {
+        self.groups[group].queued
+    }
+
+    /// How many have their fallback running.
+    pub fn in_fallback_count(&self, group: usize) -> u64
+        requires { group < length self.now.groups }
+        ensures { result ≡ count_by is_in_fallback (group_at self.now group).items }
+    {
+        self.groups[group].in_fallback
+    }
+
+    /// The next ticket's serial.
+    pub fn next_serial(&self, group: usize) -> Serial
+        requires { group < length self.now.groups }
+        ensures { result ≡ (group_at self.now group).next }
+    {
+        self.groups[group].next
+    }
+
+    /// The slot of the queued ticket of least serial.
+    pub fn first_queued(&self, group: usize) -> Option<u32>
+        requires { group < length self.now.groups }
+        ensures found { IfSome result (λ slot. IsFirstAt is_queued (group_at self.now group) slot) }
+        ensures none { result ≡ None → find is_queued (group_at self.now group).items ≡ None }
+    {
+        let entry = &self.groups[group];
+        self.arena.front(0, entry.lists.queued)
+    }
+
+    /// The slot of the ticket of the serial, where its run is under way.
+    pub fn find_busy(&self, group: usize, serial: Serial) -> Option<u32>
+        requires { group < length self.now.groups }
+        ensures found { IfSome result (λ slot. IsFirstAt (is_busy_at serial) (group_at self.now group) slot) }
+        ensures none { result ≡ None → find (is_busy_at serial) (group_at self.now group).items ≡ None }
+    {
+        let entry = &self.groups[group];
+        let slot = find_serial(&self.arena, &entry.lists, serial)?;
+        if !self.arena.get(slot).busy {
+            return None;
+        }
+        Some(slot)
+    }
+
+    /// The slot of the ticket of the serial, where someone holds it.
+    pub fn find_held(&self, group: usize, serial: Serial) -> Option<u32>
+        requires { group < length self.now.groups }
+        ensures found { IfSome result (λ slot. IsFirstAt (is_held_at serial) (group_at self.now group) slot) }
+        ensures none { result ≡ None → find (is_held_at serial) (group_at self.now group).items ≡ None }
+    {
+        let entry = &self.groups[group];
+        let slot = find_serial(&self.arena, &entry.lists, serial)?;
+        if !is_held(self.arena.get(slot)) {
+            return None;
+        }
+        Some(slot)
+    }
+
+    /// The slot of the ticket of the serial, where a holder runs its fallback.
+    pub fn find_in_fallback(&self, group: usize, serial: Serial) -> Option<u32>
+        requires { group < length self.now.groups }
+        ensures found { IfSome result (λ slot. IsFirstAt (is_in_fallback_at serial) (group_at self.now group) slot) }
+        ensures none { result ≡ None → find (is_in_fallback_at serial) (group_at self.now group).items ≡ None }
+    {
+        let entry = &self.groups[group];
+        let slot = find_serial(&self.arena, &entry.lists, serial)?;
+        if !is_in_fallback(self.arena.get(slot)) {
+            return None;
+        }
+        Some(slot)
+    }
+
+    /// The ticket in the slot.
+    pub fn get(&self, group: usize, slot: u32) -> &Ticket
+        requires group { group < length self.now.groups }
+        requires there { IsThere (group_at self.now group) slot }
+        ensures { in_slot (group_at self.now group) slot ≡ Some result.now }
+    {
+        self.arena.get(slot)
+    }
+
+    /// The ticket in the slot changes.
+    fn put(&mut self, group: usize, slot: u32, ticket: &Ticket)
+        requires group { group < length self.old.groups }
+        requires ticket { CanChange (group_at self.old group) slot ticket.now }
+        ensures { IsChanged group slot ticket.now self.old self.new }
+    {
+        let entry = &mut self.groups[group];
+        put(&mut self.arena, entry, slot, ticket);
+    }
+
+    /// A worker begins with the run of the ticket, the first that is queued.
+    pub fn start_run(&mut self, group: usize, slot: u32)
+        requires group { group < length self.old.groups }
+        requires first { IsFirstAt is_queued (group_at self.old group) slot }
+        ensures items { (p : Ticket → Bool) → IsFirstAt p (group_at self.old group) slot → (group_at self.new group).items ≡ changed_first p run_started (group_at self.old group).items }
+        ensures left { ChangesOnly group self.old self.new }
+    {
+        let mut ticket = *self.get(group, slot);
+        ticket.state = TicketState::Running;
+        ticket.busy = true;
+        self.put(group, slot, &ticket);
+    }
+
+    /// The run of the ticket has ended in time.
+    pub fn end_run(&mut self, group: usize, slot: u32, state: &TicketState)
+        requires group { group < length self.old.groups }
+        requires there { IsThere (group_at self.old group) slot }
+        requires ended { queued_in state.now ≡ false }
+        ensures items { (p : Ticket → Bool) → IsFirstAt p (group_at self.old group) slot → (group_at self.new group).items ≡ changed_first p (run_ended state.now) (group_at self.old group).items }
+        ensures left { ChangesOnly group self.old self.new }
+    {
+        let mut ticket = *self.get(group, slot);
+        ticket.state = *state;
+        ticket.busy = false;
+        self.put(group, slot, &ticket);
+    }
+
+    /// The run of the ticket has ended, too late.
+    pub fn stop_run(&mut self, group: usize, slot: u32)
+        requires group { group < length self.old.groups }
+        requires there { IsThere (group_at self.old group) slot }
+        ensures items { (p : Ticket → Bool) → IsFirstAt p (group_at self.old group) slot → (group_at self.new group).items ≡ changed_first p run_stopped (group_at self.old group).items }
+        ensures left { ChangesOnly group self.old self.new }
+    {
+        let mut ticket = *self.get(group, slot);
+        ticket.busy = false;
+        self.put(group, slot, &ticket);
+    }
+
+    /// One holder has collected the answer.
+    pub fn release_holder(&mut self, group: usize, slot: u32)
+        requires group { group < length self.old.groups }
+        requires there { IsThere (group_at self.old group) slot }
+        requires held { (t : Ticket) → in_slot (group_at self.old group) slot ≡ Some t → 0 < t.holders }
+        ensures items { (p : Ticket → Bool) → IsFirstAt p (group_at self.old group) slot → (group_at self.new group).items ≡ changed_first p released_by_one (group_at self.old group).items }
+        ensures left { ChangesOnly group self.old self.new }
+    {
+        let mut ticket = *self.get(group, slot);
+        ticket.holders -= 1;
+        self.put(group, slot, &ticket);
+    }
+
+    /// The ticket is answered, and one holder has collected that.
+    pub fn answer_holder(&mut self, group: usize, slot: u32, answer: &Answer)
+        requires group { group < length self.old.groups }
+        requires there { IsThere (group_at self.old group) slot }
+        requires held { (t : Ticket) → in_slot (group_at self.old group) slot ≡ Some t → 0 < t.holders }
+        ensures items { (p : Ticket → Bool) → IsFirstAt p (group_at self.old group) slot → (group_at self.new group).items ≡ changed_first p (answered answer.now) (group_at self.old group).items }
+        ensures left { ChangesOnly group self.old self.new }
+    {
+        let mut ticket = *self.get(group, slot);
+        ticket.state = TicketState::Answered(*answer);
+        ticket.holders -= 1;
+        self.put(group, slot, &ticket);
+    }
+
+    /// The ticket is answered.
+    pub fn answer(&mut self, group: usize, slot: u32, answer: &Answer)
+        requires group { group < length self.old.groups }
+        requires there { IsThere (group_at self.old group) slot }
+        ensures items { (p : Ticket → Bool) → IsFirstAt p (group_at self.old group) slot → (group_at self.new group).items ≡ changed_first p (in_state (ticket.Answered answer.now)) (group_at self.old group).items }
+        ensures left { ChangesOnly group self.old self.new }
+    {
+        let mut ticket = *self.get(group, slot);
+        ticket.state = TicketState::Answered(*answer);
+        self.put(group, slot, &ticket);
+    }
+
+    /// A holder begins with the fallback of the ticket.
+    pub fn start_fallback(&mut self, group: usize, slot: u32, cause: Cause)
+        requires group { group < length self.old.groups }
+        requires there { IsThere (group_at self.old group) slot }
+        ensures items { (p : Ticket → Bool) → IsFirstAt p (group_at self.old group) slot → (group_at self.new group).items ≡ changed_first p (fallback_started cause) (group_at self.old group).items }
+        ensures left { ChangesOnly group self.old self.new }
+    {
+        let mut ticket = *self.get(group, slot);
+        ticket.state = TicketState::InFallback(cause);
+        self.put(group, slot, &ticket);
+    }
+
+    /// One more holder waits for the answer of the ticket.
+    pub fn add_holder(&mut self, group: usize, slot: u32)
+        requires group { group < length self.old.groups }
+        requires there { IsThere (group_at self.old group) slot }
+        requires few { (t : Ticket) → in_slot (group_at self.old group) slot ≡ Some t → t.holders < 2 ^ 64 - 1 }
+        ensures items { (p : Ticket → Bool) → IsFirstAt p (group_at self.old group) slot → (group_at self.new group).items ≡ changed_first p joined (group_at self.old group).items }
+        ensures left { ChangesOnly group self.old self.new }
+    {
+        let mut ticket = *self.get(group, slot);
+        ticket.holders += 1;
+        self.put(group, slot, &ticket);
+    }
+
+    /// A ticket of the next serial, behind the others.
+    pub fn push(&mut self, group: usize, ticket: &Ticket)
+        requires group { group < length self.old.groups }
+        requires ticket { CanPush (group_at self.old group) ticket.now }
+        ensures items { (group_at self.new group).items ≡ (group_at self.old group).items ++ ticket.now ∷ [] }
+        ensures next { (group_at self.new group).next ≡ (group_at self.old group).next + 1 }
+        ensures room { (group_at self.new group).room ≡ (group_at self.old group).room }
+        ensures others { (g : ℕ) → g ≢ group → slice_get self.new.groups g ≡ slice_get self.old.groups g }
+        ensures count { length self.new.groups ≡ length self.old.groups }
+        ensures limit { self.new.limit ≡ self.old.limit }
+    {
+        let entry = &mut self.groups[group];
+        add(&mut self.arena, entry, ticket);
+    }
+}
