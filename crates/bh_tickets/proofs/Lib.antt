@@ -7,3 +7,5 @@ pub mod Releases
 pub mod Whole
 pub mod Finds
 pub mod Times
+pub mod Along
+pub mod Swept

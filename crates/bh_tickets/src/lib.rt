@@ -4,6 +4,7 @@
 
 mod group_slots;
 mod states;
+mod sweeps;
 mod tickets;
 
 pub use states::{DueRule, is_running, is_unanswered};
