@@ -7,3 +7,4 @@ pub mod Releases
 pub mod Whole
 pub mod Finds
 pub mod Times
+pub mod AddedGroup

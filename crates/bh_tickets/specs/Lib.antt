@@ -2,3 +2,4 @@ pub mod TicketsView
 pub mod Changes
 pub mod GroupSlots
 pub mod Whole
+pub mod Growth
