@@ -170,6 +170,7 @@ impl<T: Copy, const K: usize> Arena<T, K> {
         ensures lists { IsPartition (length self.now.payloads) (lists_in self.now family) }
         ensures families { length self.now.families ≡ K }
         ensures limit { length self.now.payloads ≤ self.now.limit }
+        ensures few { self.now.limit < 2 ^ 32 }
     {
         self.families[family].partition();
     }
