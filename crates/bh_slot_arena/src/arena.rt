@@ -1,6 +1,6 @@
 //! Slots with a payload each, on lists of several families.
 
-ghost use Rattle.std.specs.Prelude.{◌≡◌, ℕ, ◌+◌, ◌<◌, ◌≤◌, ◌↔◌, ◌≢◌, ◌^◌, [], ◌++◌, Contains, length, replicate, slice_get, slice_index, vec_len, vec_capacity, IfOk, OnOk, OnErr, Err, Some};
+ghost use Rattle.std.specs.Prelude.{◌≡◌, ℕ, ◌+◌, ◌<◌, ◌≤◌, ◌↔◌, ◌≢◌, ◌^◌, [], ◌++◌, Contains, length, nat_le, replicate, slice_get, slice_index, vec_len, vec_capacity, IfOk, OnOk, OnErr, Err, Some};
 ghost use Rattle.bh_slot_arena.specs.Lists.{IsPartition};
 ghost use Rattle.bh_slot_arena.specs.Slots.{lists_in, slots_on, with_moved, with_new_lists, with_new_slots, with_payload};
 ghost use Rattle.bh_slot_arena.specs.Family.{AddsSlots, IsReady, but_room, family_at, no_lists};
@@ -61,10 +61,19 @@ impl<T: Copy, const K: usize> Arena<T, K> {
         }
     }
 
+    /// Whether so many slots more are within what the arena may have.
+    pub fn has_room_for(&self, count: u32) -> bool
+        ensures { result ≡ nat_le (length self.now.payloads + count) self.now.limit }
+    {
+        let slots = self.payloads.len() as u32;
+        count <= self.limit - slots
+    }
+
     /// Adds empty lists to a family, and answers the number of the first. Where memory is refused, nothing has changed.
     pub fn add_lists(&mut self, family: usize, count: usize) -> Result<usize, AllocError>
         requires { family < K }
         ensures first { IfOk result (λ n. n ≡ length (lists_in self.old family)) }
+        ensures few { IfOk result (λ n. n + count < 2 ^ 64) }
         ensures ok { OnOk result (self.new ≡ with_new_lists family count self.old) }
         ensures err { OnErr result (self.new ≡ self.old) }
     {

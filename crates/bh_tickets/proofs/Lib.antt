@@ -9,3 +9,4 @@ pub mod Finds
 pub mod Times
 pub mod Along
 pub mod Swept
+pub mod AddedGroup

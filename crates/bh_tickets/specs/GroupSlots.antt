@@ -49,6 +49,10 @@ noted x needless.Nothing = needless.One x
 noted x (needless.One y) = if eqb y x then needless.One y else needless.Many
 noted x needless.Many = needless.Many
 
+-- so many slots, none of which has a ticket
+abbrev pub no_slot_taken : GroupLists → ℕ → GroupSlots
+no_slot_taken lists room = record { lists = lists; room = room; next = 1; taken = 0; busy = 0; queued = 0; in_fallback = 0; needless = needless.Nothing }
+
 -- what a group keeps fits its tickets in the arena
 pub record IsGroupSlots (a : Slots) (s : GroupSlots) : Type 0 where
   pub numbered : IsNumbered s.lists

@@ -3,3 +3,4 @@ pub mod Changes
 pub mod GroupSlots
 pub mod Whole
 pub mod Sweeps
+pub mod Growth

@@ -7,7 +7,7 @@ ghost use Rattle.bh_base.specs.declared.ticket.TicketState.TheVariants as state;
 ghost use Rattle.bh_base.specs.declared.reply.Cause.TheVariants as cause;
 ghost use Rattle.bh_slot_arena.specs.Slots.{lists_in, with_payload, with_moved};
 ghost use Rattle.bh_cache.specs.Slots.{IsArena, list_for, ticket_at, one};
-ghost use Rattle.bh_tickets.specs.GroupSlots.{IsGroupSlots, CanPut, IsPut, CanAdd, IsAdded, IsReleasedAt, IsTimed, counted_in, counted_out, noted};
+ghost use Rattle.bh_tickets.specs.GroupSlots.{IsGroupSlots, CanPut, IsPut, CanAdd, IsAdded, IsReleasedAt, IsTimed, counted_in, counted_out, no_slot_taken, noted};
 ghost use Rattle.bh_tickets.specs.Changes.{is_due_by};
 
 use crate::states::{DueRule, is_due, is_in_fallback, is_kept, is_queued};
@@ -38,6 +38,24 @@ pub struct GroupSlots {
     pub queued: u64,
     pub in_fallback: u64,
     pub needless: Needless,
+}
+
+impl GroupSlots {
+    /// So many slots, none of which has a ticket.
+    pub fn new(lists: GroupLists, room: u64) -> Self
+        ensures { result ≡ no_slot_taken lists room }
+    {
+        GroupSlots {
+            lists,
+            room,
+            next: 1,
+            taken: 0,
+            busy: 0,
+            queued: 0,
+            in_fallback: 0,
+            needless: Needless::Nothing,
+        }
+    }
 }
 
 fn one(counts: bool) -> u64

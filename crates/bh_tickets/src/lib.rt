@@ -3,6 +3,7 @@
 #![tactic(auto)]
 
 mod group_slots;
+mod growth;
 mod states;
 mod sweeps;
 mod tickets;

@@ -1,19 +1,21 @@
 //! The tickets of all groups.
 
-ghost use Rattle.std.specs.Prelude.{◌≡◌, ◌≢◌, ℕ, ◌+◌, ◌-◌, ◌^◌, ◌<◌, ◌≤◌, Bool, [], ◌∷◌, ◌++◌, count_by, filter, find, false, length, slice_get, IfSome, None, Some};
+ghost use Rattle.std.specs.Prelude.{◌≡◌, ◌≢◌, ℕ, ◌+◌, ◌-◌, ◌^◌, ◌<◌, ◌≤◌, Bool, [], ◌∷◌, ◌++◌, count_by, filter, find, false, length, nat_le, slice_get, IfSome, None, OnErr, OnOk, Some};
 ghost use Rattle.bh_base.specs.declared.ticket.Ticket.{Ticket};
 ghost use Rattle.bh_base.specs.declared.ticket.TicketState.TheVariants as ticket;
 ghost use Rattle.bh_base.specs.Machine.{released_by_one};
 ghost use Rattle.bh_base.specs.Tickets.{changed_first, in_state, is_busy_at, is_held_at, is_in_fallback, is_in_fallback_at, is_queued};
 ghost use Rattle.bh_tickets.specs.Changes.{answered, fallback_started, joined, queued_in, run_ended, run_started, run_stopped};
-ghost use Rattle.bh_tickets.specs.TicketsView.{CanPush, ChangesOnly, IsFirstAt, IsThere, group_at, in_slot};
+ghost use Rattle.bh_tickets.specs.TicketsView.{CanPush, ChangesOnly, IsFirstAt, IsThere, group_at, in_slot, no_tickets_in, slots_of};
 ghost use Rattle.bh_tickets.specs.Whole.{CanChange, IsChanged};
 
 use crate::group_slots::{GroupSlots, add, put};
+use crate::growth::{add_lists, add_slots, new_arena};
 use crate::states::{is_held, is_in_fallback};
 use bh_base::{Answer, Cause, Serial, Ticket, TicketState};
 use bh_cache::find_serial;
 use bh_slot_arena::Arena;
+use std::alloc::{AllocError, Global};
 use std::marker::Model;
 
 /// The tickets of all groups, by the numbers of the groups.
@@ -35,6 +37,39 @@ impl Model for Tickets {
 }
 
 impl Tickets {
+    /// No group. There may be so many slots in all.
+    pub fn new(alloc: Global, limit: u32) -> Self
+        ensures { result ≡ record { limit = limit; groups = [] } }
+    {
+        Tickets {
+            arena: new_arena(alloc, limit),
+            groups: Vec::new(alloc),
+        }
+    }
+
+    /// Whether so many slots more are within the limit.
+    pub fn has_slots_for(&self, slots: u64) -> bool
+        requires { slots ≤ 4096 }
+        ensures { result ≡ nat_le (slots_of self.now + slots) self.now.limit }
+    {
+        self.arena.has_room_for(slots as u32)
+    }
+
+    /// A group more, with so many slots and no ticket. It takes all the memory that the group's tickets will need.
+    /// Refused, nothing has changed.
+    pub fn add_group(&mut self, slots: u64) -> Result<(), AllocError>
+        requires few { slots ≤ 4096 }
+        requires within { slots_of self.old + slots ≤ self.old.limit }
+        ensures ok { OnOk result (self.new ≡ record self.old { groups = self.old.groups ++ no_tickets_in slots ∷ [] }) }
+        ensures err { OnErr result (self.new ≡ self.old) }
+    {
+        self.groups.reserve(1)?;
+        let lists = add_lists(&mut self.arena)?;
+        add_slots(&mut self.arena, &lists, slots as u32)?;
+        self.groups.push_reserved(GroupSlots::new(lists, slots));
+        Ok(())
+    }
+
     /// How many tickets a group has.
     pub fn len(&self, group: usize) -> u64
         requires { group < length self.now.groups }
