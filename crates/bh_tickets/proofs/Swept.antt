@@ -2,6 +2,7 @@
 use Rattle.std.proofs.Common.{◌≡◌, ℕ, ◌+◌, ◌-◌, ◌≤◌, ◌⊎◌, inl, inr, Bool, true, false, List, [], ◌∷◌, length, take, Option, Some, None, refl, ◌∙◌, sym, ap, subst, arith}
 use Rattle.std.specs.Prelude.{◌&&◌, eqb, nat_le, slice_get, if◌then◌else◌}
 use Rattle.std.specs.Option.{option_map}
+use Rattle.std.proofs.lemmas.Bool.{cases_eq, eq-eqb, ne_eqb}
 use Rattle.std.proofs.lemmas.List.Sums.{length-filter}
 use Rattle.bh_base.specs.declared.ticket.Ticket.{Ticket}
 use Rattle.bh_base.specs.declared.ticket.TicketState.{TicketState}
@@ -10,16 +11,17 @@ use Rattle.bh_base.specs.Tickets.{is_kept}
 use Rattle.bh_slot_arena.specs.Slots.{slots_on}
 use Rattle.bh_cache.specs.declared.lists.GroupLists.{GroupLists}
 use Rattle.bh_cache.specs.Listed.{listed}
-use Rattle.bh_cache.specs.Slots.{Slots, has_one, is_on, list_for, ticket_at, tickets_of}
+use Rattle.bh_cache.specs.Slots.{Slots, has_one, is_on, list_for, ticket_at, tickets_of, IsArena}
 use Rattle.bh_cache.proofs.Counts.{count_all, count_listed, count_none}
 use Rattle.bh_cache.proofs.Listed.{listed_filter, listed_map, option_filter}
 use Rattle.bh_tickets.specs.declared.group_slots.GroupSlots.{GroupSlots}
 use Rattle.bh_tickets.specs.declared.group_slots.Needless.TheVariants as needless
 use Rattle.bh_tickets.specs.declared.states.DueRule.{DueRule}
 use Rattle.bh_tickets.specs.Changes.{is_due_by, timed_out_by}
-use Rattle.bh_tickets.specs.GroupSlots.{IsGroupSlots, IsGroupChange, IsReleased, IsReleasedAt, IsTimed, count_at, if_kept}
+use Rattle.bh_tickets.specs.GroupSlots.{IsGroupSlots, IsGroupChange, IsReleased, IsReleasedAt, IsTimed, count_at, if_kept, may_go}
 use Rattle.bh_tickets.specs.Sweeps.{IsReleasedFrom, IsSwept, IsTimedFrom, IsTimedOut}
 use Rattle.bh_tickets.proofs.Along.{change_trans, has_one_slot, swept_more}
+use Rattle.bh_tickets.proofs.Releases.{change_none}
 use Rattle.bh_tickets.proofs.Times.{due_no_more, with_timeout}
 
 -- ---- tickets that time out
@@ -233,6 +235,97 @@ module _ (a : Slots) (s : GroupSlots) (b : Slots) (r : GroupSlots) (group : IsGr
           let there : is_on a 0 l y ≡ true = ap (λ k. is_on a 0 k y) (sym q) ∙ group.arranged.placed y t was in
           let z : true ≡ false = sym there ∙ on in cc
 
+as_filter : (o : Option Ticket) → if_kept o ≡ option_filter is_kept o
+as_filter None = refl
+as_filter (Some t) = refl
+
+-- where each ticket that is left is needed, nothing is noted any more
+module _ (a : Slots) (s : GroupSlots) (b : Slots) (r : GroupSlots) (group : IsGroupSlots a s) (change : IsGroupChange a s b r) (next : r.next ≡ s.next) (kept : (y : ℕ) → ticket_at b s.lists y ≡ if_kept (ticket_at a s.lists y)) where
+  needed_all : (y : ℕ) (t : Ticket) → ticket_at b s.lists y ≡ Some t → is_kept t ≡ true
+  needed_all y t e = by (ticket_at a s.lists y) (sym (kept y) ∙ e)
+    where
+      by : (o : Option Ticket) → if_kept o ≡ Some t → is_kept t ≡ true
+      by None f = absurd cc
+      by (Some u) f = at (is_kept u) refl f
+        where
+          at : (d : Bool) → is_kept u ≡ d → (if d then Some u else None) ≡ Some t → is_kept t ≡ true
+          at true g f = let k : u ≡ t = cc in ap is_kept (sym k) ∙ g
+          at false g f = absurd cc
+
+  pub released_is : IsReleased a s b (record r { needless = needless.Nothing })
+  released_is = record {
+    change = record {
+      arena = change.arena;
+      group = (let g = change.group in record {
+        numbered = g.numbered;
+        there = g.there;
+        arranged = g.arranged;
+        slots = g.slots;
+        few = g.few;
+        taken = g.taken;
+        busy = g.busy;
+        queued = g.queued;
+        in_fallback = g.in_fallback;
+        needed = λ x t e k. absurd (not_both x t (ap (λ (l : GroupLists). ticket_at b l x) (sym change.lists) ∙ e) k);
+        noted = λ x e. absurd (never x e);
+      });
+      frame = change.frame;
+      limit = change.limit;
+      lists = change.lists;
+      room = change.room;
+    };
+    next = next;
+    items = ap (listed (ticket_at b s.lists)) change.frame.slots ∙ listed_filter is_kept (ticket_at a s.lists) (ticket_at b s.lists) (length a.payloads) group.arranged.distinct (λ x lt. kept x ∙ as_filter (ticket_at a s.lists x));
+  }
+    where
+      not_both : (x : ℕ) (t : Ticket) → ticket_at b s.lists x ≡ Some t → is_kept t ≡ false → ⊥
+      not_both x t e k = let z : true ≡ false = sym (needed_all x t e) ∙ k in cc
+
+      never : (x : ℕ) → needless.Nothing ≡ needless.One x → ⊥
+      never x e = cc
+
+-- a ticket that is needed is the same where it is needed
+kept_same : (o : Option Ticket) → ((t : Ticket) → o ≡ Some t → is_kept t ≡ true) → o ≡ if_kept o
+kept_same None keeps = refl
+kept_same (Some t) keeps = sym (ap (λ d. if d then Some t else None) (keeps t refl))
+
+keeps_unless : (p : Bool) → (p ≡ false → ⊥) → p ≡ true
+keeps_unless true no' = refl
+keeps_unless false no' = absurd (no' refl)
+
+-- nothing was noted
+pub released_none : (a : Slots) (s : GroupSlots) → IsArena a 0 → IsGroupSlots a s → s.needless ≡ needless.Nothing → IsReleased a s a s
+released_none a s arena group nothing = record {
+  change = change_none a s arena group;
+  next = refl;
+  items = listed_filter is_kept (ticket_at a s.lists) (ticket_at a s.lists) (length a.payloads) group.arranged.distinct (λ x lt. kept_same (ticket_at a s.lists x) (keeps x) ∙ as_filter (ticket_at a s.lists x));
+}
+  where
+    keeps : (x : ℕ) (t : Ticket) → ticket_at a s.lists x ≡ Some t → is_kept t ≡ true
+    keeps x t e = keeps_unless (is_kept t) (λ k. let z : false ≡ true = sym (ap (λ n. may_go n x) nothing) ∙ group.needed x t e k in cc)
+
+-- one was noted
+pub released_one : (a : Slots) (s : GroupSlots) (slot : ℕ) (b : Slots) (r : GroupSlots) → IsGroupSlots a s → s.needless ≡ needless.One slot → IsReleasedAt a (record s { needless = needless.Many }) slot b r → IsReleased a s b (record r { needless = needless.Nothing })
+released_one a s slot b r group one released = released_is a s b r group change released.next (λ y. released.tickets y ∙ at y (eqb y slot) refl)
+  where
+    change : IsGroupChange a s b r
+    change = record { arena = released.change.arena; group = released.change.group; frame = released.change.frame; limit = released.change.limit; lists = released.change.lists; room = released.change.room }
+
+    other : (y : ℕ) (t : Ticket) → eqb y slot ≡ false → ticket_at a s.lists y ≡ Some t → is_kept t ≡ true
+    other y t ne e = keeps_unless (is_kept t) (λ k.
+        let z : eqb slot y ≡ true = sym (ap (λ n. may_go n y) one) ∙ group.needed y t e k in
+        differ z ne)
+      where
+        differ : eqb slot y ≡ true → eqb y slot ≡ false → ⊥
+        differ e f = elim (cases_eq y slot) [
+          | inl q ↦ let z : true ≡ false = sym (eq-eqb y slot q) ∙ f in cc
+          | inr ne ↦ let z : true ≡ false = sym e ∙ ne_eqb slot y (λ q. ne (sym q)) in cc
+        ]
+
+    at : (y : ℕ) (d : Bool) → eqb y slot ≡ d → (if d then if_kept (ticket_at a s.lists y) else ticket_at a s.lists y) ≡ if_kept (ticket_at a s.lists y)
+    at y true e = refl
+    at y false e = kept_same (ticket_at a s.lists y) (λ t f. other y t e f)
+
 -- all three lists on which the group has tickets
 module _ (a : Slots) (s : GroupSlots) (b : Slots) (r : GroupSlots) (c : Slots) (u : GroupSlots) (d : Slots) (w : GroupSlots) (group : IsGroupSlots a s)
     (first : IsReleasedFrom (slots_on a 0 s.lists.queued) a s b r) (second : IsReleasedFrom (slots_on b 0 s.lists.running) b r c u) (third : IsReleasedFrom (slots_on c 0 s.lists.settled) c u d w) where
@@ -245,8 +338,8 @@ module _ (a : Slots) (s : GroupSlots) (b : Slots) (r : GroupSlots) (c : Slots) (
   lists_w : w.lists ≡ s.lists
   lists_w = third.swept.change.lists ∙ lists_u
 
-  needed_all : (y : ℕ) (t : Ticket) → ticket_at d s.lists y ≡ Some t → is_kept t ≡ false → ⊥
-  needed_all y t e drops = by t.state refl
+  not_needless : (y : ℕ) (t : Ticket) → ticket_at d s.lists y ≡ Some t → is_kept t ≡ false → ⊥
+  not_needless y t e drops = by t.state refl
     where
       in_d : ticket_at d u.lists y ≡ Some t
       in_d = ap (λ (g : GroupLists). ticket_at d g y) lists_u ∙ e
@@ -273,7 +366,7 @@ module _ (a : Slots) (s : GroupSlots) (b : Slots) (r : GroupSlots) (c : Slots) (
         where
           at : (z : Bool) → is_kept t ≡ z → Some t ≡ (if z then Some t else None)
           at true k = refl
-          at false k = absurd (needed_all y t e k)
+          at false k = absurd (not_needless y t e k)
 
       from_d : if_kept (ticket_at d s.lists y) ≡ if_kept (ticket_at c s.lists y)
       from_d = subst (λ (g : GroupLists). if_kept (ticket_at d g y) ≡ if_kept (ticket_at c g y)) lists_u (same_kept c u d w second.swept.change.group s.lists.settled third.swept y)
@@ -285,34 +378,4 @@ module _ (a : Slots) (s : GroupSlots) (b : Slots) (r : GroupSlots) (c : Slots) (
   change_all = change_trans a s b r d w first.swept.change (change_trans b r c u d w second.swept.change third.swept.change)
 
   pub released_all : IsReleased a s d (record w { needless = needless.Nothing })
-  released_all = record {
-    change = record {
-      arena = change_all.arena;
-      group = (let g = third.swept.change.group in record {
-        numbered = g.numbered;
-        there = g.there;
-        arranged = g.arranged;
-        slots = g.slots;
-        few = g.few;
-        taken = g.taken;
-        busy = g.busy;
-        queued = g.queued;
-        in_fallback = g.in_fallback;
-        needed = λ x t e k. absurd (needed_all x t (ap (λ (l : GroupLists). ticket_at d l x) (sym lists_w) ∙ e) k);
-        noted = λ x e. absurd (never x e);
-      });
-      frame = change_all.frame;
-      limit = change_all.limit;
-      lists = change_all.lists;
-      room = change_all.room;
-    };
-    next = third.swept.next ∙ second.swept.next ∙ first.swept.next;
-    items = ap (listed (ticket_at d s.lists)) change_all.frame.slots ∙ listed_filter is_kept (ticket_at a s.lists) (ticket_at d s.lists) (length a.payloads) group.arranged.distinct (λ x lt. kept_all x ∙ as_filter (ticket_at a s.lists x));
-  }
-    where
-      never : (x : ℕ) → needless.Nothing ≡ needless.One x → ⊥
-      never x e = cc
-
-      as_filter : (o : Option Ticket) → if_kept o ≡ option_filter is_kept o
-      as_filter None = refl
-      as_filter (Some t) = refl
+  released_all = released_is a s d w group change_all (third.swept.next ∙ second.swept.next ∙ first.swept.next) kept_all

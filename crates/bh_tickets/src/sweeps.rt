@@ -24,8 +24,33 @@ pub fn time_out(arena: &mut Arena<Ticket, 1>, group: &mut GroupSlots, due: &DueR
     queued + running
 }
 
-/// Each of the group's tickets that nobody needs goes.
-pub fn release_all(arena: &mut Arena<Ticket, 1>, group: &mut GroupSlots)
+/// Each of the group's tickets that nobody needs goes. It takes no walk where at most one was noted.
+pub fn release(arena: &mut Arena<Ticket, 1>, group: &mut GroupSlots)
+    requires arena { IsArena arena.old 0 }
+    requires group { IsGroupSlots arena.old group.old }
+    ensures { IsReleased arena.old group.old arena.new group.new }
+{
+    match group.needless {
+        Needless::Nothing => {}
+        Needless::One(slot) => release_one(arena, group, slot),
+        Needless::Many => release_all(arena, group),
+    }
+}
+
+/// The ticket that was noted goes, where nobody needs it.
+fn release_one(arena: &mut Arena<Ticket, 1>, group: &mut GroupSlots, slot: u32)
+    requires arena { IsArena arena.old 0 }
+    requires group { IsGroupSlots arena.old group.old }
+    requires noted { group.old.needless ≡ Needless.One slot }
+    ensures { IsReleased arena.old group.old arena.new group.new }
+{
+    group.needless = Needless::Many;
+    release_at(arena, group, slot);
+    group.needless = Needless::Nothing;
+}
+
+/// Each of the group's tickets that nobody needs goes, by a walk along all its lists.
+fn release_all(arena: &mut Arena<Ticket, 1>, group: &mut GroupSlots)
     requires arena { IsArena arena.old 0 }
     requires group { IsGroupSlots arena.old group.old }
     requires many { group.old.needless ≡ Needless.Many }
