@@ -1,29 +1,27 @@
 -- A group is added.
-use Rattle.std.proofs.Common.{◌≡◌, ℕ, zero, suc, ◌+◌, ◌-◌, ◌<◌, ◌≤◌, ◌⊎◌, inl, inr, Bool, true, false, List, [], ◌∷◌, ◌++◌, map, length, get_or, set, replicate, Option, Some, None, refl, ◌∙◌, sym, ap, subst, arith, length-append, length-set, get_or-set_same, get_or-set_other}
-use Rattle.std.specs.Prelude.{◌||◌, ◌≢◌, ◌^◌, sum_by, eqb, slice_get, if◌then◌else◌}
+use Rattle.std.proofs.Common.{◌≡◌, ℕ, zero, suc, ◌+◌, ◌-◌, ◌<◌, ◌≤◌, ◌⊎◌, inl, inr, Bool, true, false, List, [], ◌∷◌, ◌++◌, map, length, get_or, replicate, Option, Some, None, refl, ◌∙◌, sym, ap, subst, arith, length-append, length-set, get_or-set_same, get_or-set_other}
+use Rattle.std.specs.Prelude.{◌||◌, eqb, slice_get, if◌then◌else◌}
 use Rattle.std.specs.List.{range_with_len, zip}
 use Rattle.std.proofs.Math.ListN.{get_or-append}
 use Rattle.std.proofs.Math.Seq.{get_or-append_right}
-use Rattle.std.proofs.lemmas.Bool.{cases_eq, cases_lt, eq-eqb, ne_eqb}
-use Rattle.std.proofs.lemmas.Bool.Decides.{nat_tests}
+use Rattle.std.proofs.lemmas.Bool.{cases_eq, eq-eqb, ne_eqb}
 use Rattle.std.proofs.lemmas.List.{map-append, length-replicate}
 use Rattle.std.proofs.lemmas.List.Sums.{sum_by-append, sum_by-cons}
 use Rattle.bh_base.specs.declared.ticket.Ticket.{Ticket}
 use Rattle.bh_slot_arena.specs.Lists.{put_last}
-use Rattle.bh_slot_arena.specs.Slots.{lists_in, slots_on, with_new_lists, with_new_slots}
+use Rattle.bh_slot_arena.specs.Slots.{lists_in, slots_on}
 use Rattle.bh_cache.specs.declared.lists.GroupLists.{GroupLists}
 use Rattle.bh_cache.specs.Listed.{listed, put_in}
-use Rattle.bh_cache.specs.Slots.{Slots, has, is_on, is_live, is_owned, ticket_at, tickets_of, list_for, has_one, one, count_below, IsArena, IsOwn, IsApart, InOrder}
+use Rattle.bh_cache.specs.Slots.{Slots, has, is_live, is_owned, ticket_at, has_one, one, count_below, IsApart, InOrder}
 use Rattle.bh_cache.proofs.Order.{count_same}
 use Rattle.bh_base.specs.Tickets.{is_queued, is_in_fallback}
 use Rattle.bh_tickets.specs.declared.group_slots.GroupSlots.{GroupSlots}
 use Rattle.bh_tickets.specs.declared.group_slots.Needless.TheVariants as needless
-use Rattle.bh_tickets.specs.GroupSlots.{IsNumbered, IsArranged, IsGroupSlots, count_at, no_slot_taken, is_any, is_busy}
+use Rattle.bh_tickets.specs.GroupSlots.{IsGroupSlots, count_at, no_slot_taken, is_any, is_busy}
 use Rattle.bh_tickets.specs.Growth.{HasNewLists, IsGrown, lists_from}
-use Rattle.bh_tickets.specs.TicketsView.{TicketsView, GroupTickets, no_tickets_in}
+use Rattle.bh_tickets.specs.TicketsView.{GroupTickets, no_tickets_in}
 use Rattle.bh_tickets.specs.Whole.{group_of, groups_of, view_of, slotted, slot_in, IsWhole}
 use Rattle.bh_tickets.proofs.Others.{IsSame, group_same, slots_same}
-use Rattle.bh_tickets.proofs.Whole.{rooms}
 
 -- ---- lists
 
@@ -128,10 +126,13 @@ empty_list (suc k) (suc i) = empty_list k i
 module _ (a m b : Slots) (ss : List GroupSlots) (g : GroupLists) (count : ℕ) (whole : IsWhole a ss) (more : HasNewLists a m) (from : g ≡ lists_from (length (lists_in a 0))) (grown : IsGrown g count m b) (few : count ≤ 4096) where
   is_free : g.free ≡ length (lists_in a 0)
   is_free = ap (λ (z : GroupLists). z.free) from
+
   is_queued_list : g.queued ≡ length (lists_in a 0) + 1
   is_queued_list = ap (λ (z : GroupLists). z.queued) from
+
   is_running_list : g.running ≡ length (lists_in a 0) + 2
   is_running_list = ap (λ (z : GroupLists). z.running) from
+
   is_settled_list : g.settled ≡ length (lists_in a 0) + 3
   is_settled_list = ap (λ (z : GroupLists). z.settled) from
 
@@ -192,8 +193,8 @@ module _ (a m b : Slots) (ss : List GroupSlots) (g : GroupLists) (count : ℕ) (
       order = subst (InOrder b.payloads) (sym (empty_in_b g.queued (omega (arith, is_queued_list)))) tt;
     };
     slots = count_same (is_owned b g) (λ x. has x (range_with_len (length m.payloads) count)) (length b.payloads) owned_is
-      ∙ ap (λ n. count_below n (λ x. has x (range_with_len (length m.payloads) count))) size
-      ∙ count_range (λ x. has x (range_with_len (length m.payloads) count)) (length m.payloads) count (λ x lt. has_before x (length m.payloads) count lt) (λ x le lt. has_range x (length m.payloads) count le lt);
+        ∙ ap (λ n. count_below n (λ x. has x (range_with_len (length m.payloads) count))) size
+        ∙ count_range (λ x. has x (range_with_len (length m.payloads) count)) (length m.payloads) count (λ x lt. has_before x (length m.payloads) count lt) (λ x le lt. has_range x (length m.payloads) count le lt);
     few = omega (arith, few);
     taken = sym (no_count is_any);
     busy = sym (no_count is_busy);
@@ -263,5 +264,6 @@ module _ (a m b : Slots) (ss : List GroupSlots) (g : GroupLists) (count : ℕ) (
       where
         same : b.limit ≡ a.limit
         same = ap (λ (z : Slots). z.limit) grown.is ∙ ap (λ (z : Slots). z.limit) more.is
+
         shown : groups_of b (ss ++ made ∷ []) ≡ groups_of a ss ++ no_tickets_in count ∷ []
         shown = map-append (group_of b) ss (made ∷ []) ∙ (λ i. map_same (group_of b) (group_of a) ss (λ j s e. group_same a b s (same_grown j s e) whole.arena (whole.each j s e)) i ++ shown_new i ∷ [])

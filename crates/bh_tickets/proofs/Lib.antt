@@ -8,3 +8,5 @@ pub mod Whole
 pub mod Finds
 pub mod Times
 pub mod AddedGroup
+pub mod Exists
+pub mod Uncached

@@ -1,4 +1,4 @@
-use Rattle.std.proofs.Common.{◌≡◌, ◌<◌, length, arith}
+use Rattle.std.proofs.Common.{arith}
 use Rattle.bh_cache.proofs.Walks.{arena_is}
 use Rattle.bh_tickets.proofs.growth.add_lists.Goals as goal
 

@@ -1,4 +1,4 @@
-use Rattle.std.proofs.Common.{◌≡◌, ◌<◌, length, arith, false, sym, ◌∙◌, Result, Ok, Err}
+use Rattle.std.proofs.Common.{◌≡◌, arith, false, sym, ◌∙◌, Result, Ok, Err}
 use Rattle.std.specs.Result.{OnOk, is_err}
 use Rattle.bh_cache.proofs.Walks.{arena_is}
 use Rattle.bh_tickets.proofs.growth.add_slots.Goals as goal

@@ -1,9 +1,6 @@
-use Rattle.std.proofs.Common.{◌≡◌, ◌++◌, ◌∷◌, [], sym, ap, ◌∙◌, refl, List, subst, rules}
-use Rattle.std.proofs.lemmas.Result.{on_err_weaker}
-use Rattle.bh_cache.specs.Slots.{Slots}
-use Rattle.bh_tickets.specs.declared.group_slots.GroupSlots.{GroupSlots}
+use Rattle.std.proofs.Common.{◌≡◌, ◌++◌, ◌∷◌, [], ap, ◌∙◌, rules}
 use Rattle.bh_tickets.specs.TicketsView.{TicketsView, no_tickets_in}
-use Rattle.bh_tickets.specs.Whole.{IsWhole, view_of}
+use Rattle.bh_tickets.specs.Whole.{view_of}
 use Rattle.bh_tickets.proofs.AddedGroup.{whole_more, view_more, whole_grown, view_grown}
 use Rattle.bh_tickets.proofs.tickets.Tickets.add_group.Goals as goal
 
