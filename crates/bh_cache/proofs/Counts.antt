@@ -1,5 +1,5 @@
 -- How many tickets pass, by their places.
-use Rattle.std.proofs.Common.{◌≡◌, ℕ, zero, suc, ◌+◌, ◌<◌, inl, inr, Bool, true, false, List, [], ◌∷◌, Option, Some, None, refl, sym, ap, arith}
+use Rattle.std.proofs.Common.{◌≡◌, ℕ, zero, suc, ◌+◌, ◌<◌, ◌≤◌, inl, inr, Bool, true, false, List, [], ◌∷◌, Option, Some, None, refl, sym, ap, arith}
 use Rattle.std.specs.Prelude.{nat_lt, count_by, if◌then◌else◌}
 use Rattle.std.proofs.lemmas.Bool.{cases_eq}
 use Rattle.bh_base.specs.declared.ticket.Ticket.{Ticket}
@@ -34,3 +34,17 @@ count_point p q (suc n) x lt same = elim (cases_eq x n) [
   | inl e ↦ let k : one (p x) ≡ one (p n) = ap (λ z. one (p z)) e in let m : one (q x) ≡ one (q n) = ap (λ z. one (q z)) e in omega (arith, k, m, same_below p q n (λ y l. same y (λ z. absurd (omega (arith, z, e, l)))))
   | inr ne ↦ let k : one (q n) ≡ one (p n) = ap one (same n (λ z. ne (sym z))) in omega (arith, k, count_point p q n x (omega (arith, lt, ne)) same)
 ]
+
+-- no more pass than there are
+pub count_all : (n : ℕ) (p : ℕ → Bool) → count_below n p ≤ n
+count_all zero p = omega arith
+count_all (suc n) p = by (p n) (count_all n p)
+  where
+    by : (b : Bool) → count_below n p ≤ n → one b + count_below n p ≤ suc n
+    by true h = omega (arith, h)
+    by false h = omega (arith, h)
+
+-- none passes
+pub count_none : (n : ℕ) (p : ℕ → Bool) → ((x : ℕ) → p x ≡ false) → count_below n p ≡ 0
+count_none zero p h = refl
+count_none (suc n) p h = let z : one (p n) ≡ 0 = ap one (h n) in omega (arith, z, count_none n p h)

@@ -10,7 +10,7 @@ use Rattle.bh_cache.specs.declared.lists.GroupLists.{GroupLists}
 use Rattle.bh_cache.specs.Cache.{IsDropped, IsDroppedFrom, cached_among, uncached_in}
 use Rattle.bh_cache.specs.Listed.{listed}
 use Rattle.bh_cache.specs.Slots.{Slots, count_below, has, has_one, is_on, is_live, one, ticket_at, tickets_of}
-use Rattle.bh_cache.proofs.Counts.{count_listed, count_point}
+use Rattle.bh_cache.proofs.Counts.{count_all, count_listed, count_none, count_point}
 use Rattle.bh_cache.proofs.Listed.{listed_map}
 use Rattle.bh_cache.proofs.Order.{count_same}
 
@@ -165,14 +165,6 @@ take_one_more xs i x e = ap (λ k. take k xs) (add-one i) ∙ at xs i e
 pub dropped_more : (context : ℕ) (xs : List ℕ) (i x : ℕ) (a b c : Slots) (n m : ℕ) → slice_get xs i ≡ Some x → IsDroppedFrom context (take i xs) a b n → IsDroppedFrom context (x ∷ []) b c m → IsDroppedFrom context (take (i + 1) xs) a c (n + m)
 dropped_more context xs i x a b c n m at first second = subst (λ ys. IsDroppedFrom context ys a c (n + m)) (sym (take_one_more xs i x at)) (dropped_both context (take i xs) (x ∷ []) a b c n m first second)
 
-count_all : (n : ℕ) (p : ℕ → Bool) → count_below n p ≤ n
-count_all zero p = omega arith
-count_all (suc n) p = by (p n) (count_all n p)
-  where
-    by : (b : Bool) → count_below n p ≤ n → one b + count_below n p ≤ suc n
-    by true h = omega (arith, h)
-    by false h = omega (arith, h)
-
 -- no more were dropped than there are slots
 pub dropped_few : (context : ℕ) (xs : List ℕ) (a b : Slots) (n : ℕ) → IsDroppedFrom context xs a b n → n ≤ length a.payloads
 dropped_few context xs a b n dropped =
@@ -230,10 +222,6 @@ module _ (context : ℕ) (a b : Slots) (g : GroupLists) (n : ℕ) (dropped : IsD
       let total = count_listed (is_cached_in context) (ticket_at a g) (length a.payloads) in
       omega (arith, k, none, all, total)
     where
-      count_none : (m : ℕ) (p : ℕ → Bool) → ((x : ℕ) → p x ≡ false) → count_below m p ≡ 0
-      count_none zero p h = refl
-      count_none (suc m) p h = let z : one (p m) ≡ 0 = ap one (h m) in omega (arith, z, count_none m p h)
-
       either : (d : Bool) (o : Option Ticket) → (d && has_one (is_cached_in context) o) ≡ has_one (is_cached_in context) (if d then o else None)
       either true o = refl
       either false o = refl

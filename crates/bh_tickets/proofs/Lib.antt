@@ -7,6 +7,8 @@ pub mod Releases
 pub mod Whole
 pub mod Finds
 pub mod Times
+pub mod Along
+pub mod Swept
 pub mod AddedGroup
 pub mod Exists
 pub mod Uncached

@@ -6,6 +6,7 @@ mod due;
 mod group_slots;
 mod growth;
 mod states;
+mod sweeps;
 mod tickets;
 
 pub use states::{DueRule, is_running, is_unanswered};
