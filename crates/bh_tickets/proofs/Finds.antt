@@ -130,7 +130,7 @@ module _ (a : Slots) (ss : List GroupSlots) (i : ℕ) (s : GroupSlots) (whole : 
   queue_none o e none = none_at is_queued (no_front a s whole.arena (whole.each i s is) (sym e ∙ none))
 
   -- the ticket of the serial that lies in the slot
-  ticket_of : (serial x : ℕ) (t : Ticket) → has_serial_in serial (ticket_at a s.lists x) ≡ true → Some t ≡ slice_get a.payloads x → (ticket_at a s.lists x ≡ Some t) × (t.serial ≡ serial)
+  pub ticket_of : (serial x : ℕ) (t : Ticket) → has_serial_in serial (ticket_at a s.lists x) ≡ true → Some t ≡ slice_get a.payloads x → (ticket_at a s.lists x ≡ Some t) × (t.serial ≡ serial)
   ticket_of serial x t has' read =
       let r = has_serial a s whole.arena (whole.each i s is) serial x has' in
       let here : ticket_at a s.lists x ≡ Some t = was_is a s.lists x r.0 t r.1 (sym read) in

@@ -10,3 +10,5 @@ pub mod Times
 pub mod Along
 pub mod Swept
 pub mod AddedGroup
+pub mod Exists
+pub mod Uncached

@@ -226,6 +226,9 @@ can_add_at a ss i s v whole is can =
 pub len_is : (a : Slots) (ss : List GroupSlots) (i : ℕ) (s : GroupSlots) → IsWhole a ss → slice_get ss i ≡ Some s → s.taken ≡ length (group_at (view_of a ss) i).items
 len_is a ss i s whole is = taken_is a s (whole.each i s is) ∙ ap (λ (z : GroupTickets). length z.items) (sym (group_is a ss i s is))
 
+pub shown_count : (a : Slots) (ss : List GroupSlots) (i : ℕ) (s : GroupSlots) → slice_get ss i ≡ Some s → (q : Ticket → Bool) → count_by q (group_at (view_of a ss) i).items ≡ count_by q (tickets_of a s.lists)
+shown_count a ss i s is q = ap (λ (z : GroupTickets). count_by q z.items) (group_is a ss i s is)
+
 pub counted_is : (a : Slots) (ss : List GroupSlots) (i : ℕ) (s : GroupSlots) (q : Ticket → Bool) → IsWhole a ss → slice_get ss i ≡ Some s → count_at a s.lists q ≡ count_by q (group_at (view_of a ss) i).items
 counted_is a ss i s q whole is = count_is a s (whole.each i s is) q ∙ ap (λ (z : GroupTickets). count_by q z.items) (sym (group_is a ss i s is))
 

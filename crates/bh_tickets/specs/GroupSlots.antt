@@ -1,5 +1,6 @@
 -- What a group keeps of its tickets beside their slots, and what its calls do.
-use Rattle.std.specs.Prelude.{eqb, if◌then◌else◌, ◌≡◌, ℕ, ◌+◌, ◌-◌, ◌<◌, ◌^◌, [], ◌∷◌, ◌++◌, filter, map, Bool, true, false, length, is_some, Option, Some, None}
+use Rattle.std.specs.Prelude.{eqb, if◌then◌else◌, ◌≡◌, ℕ, ◌+◌, ◌-◌, ◌<◌, ◌^◌, [], ◌∷◌, ◌++◌, filter, map, Bool, true, false, length, is_some, slice_get, Option, Some, None, List, count_by}
+use Rattle.std.specs.List.{list_any}
 use Rattle.bh_base.specs.declared.ticket.Ticket.{Ticket}
 use Rattle.bh_base.specs.Tickets.{is_queued, is_in_fallback, is_kept}
 use Rattle.bh_index_lists.specs.Lists.{without}
@@ -10,6 +11,8 @@ use Rattle.bh_tickets.specs.Changes.{is_due_by, timed_out_by}
 use Rattle.std.specs.Option.{option_map}
 use Rattle.bh_cache.specs.declared.lists.GroupLists.{GroupLists}
 use Rattle.bh_tickets.specs.declared.group_slots.GroupSlots.{GroupSlots}
+use Rattle.bh_base.specs.Tickets.{is_cached_in}
+use Rattle.bh_cache.specs.Cache.{uncached_in}
 use Rattle.bh_cache.specs.Listed.{now_is}
 use Rattle.bh_slot_arena.specs.Slots.{lists_in, slots_on}
 use Rattle.bh_cache.specs.Slots.{Slots, is_on, is_owned, ticket_at, tickets_of, list_for, count_below, has_one, one, InOrder, IsArena, IsFrame}
@@ -36,6 +39,10 @@ is_busy t = t.busy
 
 abbrev pub is_any : Ticket → Bool
 is_any t = true
+
+-- a ticket of the slots passes
+abbrev pub any_at : (Ticket → Bool) → List Ticket → List ℕ → Bool
+any_at q payloads slots = list_any (λ x. has_one q (slice_get payloads x)) slots
 
 -- the ticket in the slot may be needed no more
 abbrev pub may_go : Needless → ℕ → Bool
@@ -140,3 +147,10 @@ pub record IsTimed (a : Slots) (s : GroupSlots) (x : ℕ) (due : DueRule) (n : �
   pub tickets : (y : ℕ) → ticket_at b s.lists y ≡ option_map (λ t. if eqb y x then timed_out_by due t else t) (ticket_at a s.lists y)
   pub count : n + count_at b s.lists (is_due_by due) ≡ count_at a s.lists (is_due_by due)
   pub walk : (l : ℕ) → (l ≡ s.lists.settled → ⊥) → slots_on b 0 l ≡ (if has_one (is_due_by due) (ticket_at a s.lists x) then without x (slots_on a 0 l) else slots_on a 0 l)
+
+-- the group's tickets are cached in the context no more
+pub record IsUncached (a : Slots) (s : GroupSlots) (context n : ℕ) (b : Slots) (r : GroupSlots) : Type 0 where
+  pub change : IsGroupChange a s b r
+  pub next : r.next ≡ s.next
+  pub items : tickets_of b s.lists ≡ map (uncached_in context) (tickets_of a s.lists)
+  pub count : n ≡ count_by (is_cached_in context) (tickets_of a s.lists)

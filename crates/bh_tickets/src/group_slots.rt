@@ -7,12 +7,12 @@ ghost use Rattle.bh_base.specs.declared.ticket.TicketState.TheVariants as state;
 ghost use Rattle.bh_base.specs.declared.reply.Cause.TheVariants as cause;
 ghost use Rattle.bh_slot_arena.specs.Slots.{lists_in, with_payload, with_moved};
 ghost use Rattle.bh_cache.specs.Slots.{IsArena, list_for, ticket_at, one};
-ghost use Rattle.bh_tickets.specs.GroupSlots.{IsGroupSlots, CanPut, IsPut, CanAdd, IsAdded, IsReleasedAt, IsTimed, counted_in, counted_out, no_slot_taken, noted};
+ghost use Rattle.bh_tickets.specs.GroupSlots.{IsGroupSlots, CanPut, IsPut, CanAdd, IsAdded, IsReleasedAt, IsTimed, IsUncached, counted_in, counted_out, no_slot_taken, noted};
 ghost use Rattle.bh_tickets.specs.Changes.{is_due_by};
 
 use crate::states::{DueRule, is_due, is_in_fallback, is_kept, is_queued};
 use bh_base::{Cause, Serial, Ticket, TicketState};
-use bh_cache::GroupLists;
+use bh_cache::{GroupLists, drop_context};
 use bh_slot_arena::Arena;
 
 /// Which of a group's tickets may be needed no more.
@@ -180,6 +180,19 @@ pub fn release_at(arena: &mut Arena<Ticket, 1>, group: &mut GroupSlots, slot: u3
     count_out(group, was);
     group.taken -= 1;
     arena.move_to_back(0, slot, group.lists.free);
+}
+
+/// No ticket of the group is cached in the context any more; answers how many were.
+pub fn drop_cached(arena: &mut Arena<Ticket, 1>, group: &mut GroupSlots, context: u64) -> u64
+    requires arena { IsArena arena.old 0 }
+    requires group { IsGroupSlots arena.old group.old }
+    ensures { IsUncached arena.old group.old context result arena.new group.new }
+{
+    let count = drop_context(arena, &group.lists, context);
+    if 0 < count {
+        group.needless = Needless::Many;
+    }
+    count
 }
 
 /// The ticket in the slot has timed out, where it is due; answers how many did.

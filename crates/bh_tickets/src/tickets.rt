@@ -1,18 +1,21 @@
 //! The tickets of all groups.
 
-ghost use Rattle.std.specs.Prelude.{◌≡◌, ◌≢◌, ℕ, ◌+◌, ◌-◌, ◌^◌, ◌<◌, ◌≤◌, Bool, [], ◌∷◌, ◌++◌, count_by, filter, find, false, length, nat_le, slice_get, IfSome, None, OnErr, OnOk, Some};
+ghost use Rattle.std.specs.List.{list_any};
+ghost use Rattle.std.specs.Prelude.{◌≡◌, ◌≢◌, ℕ, ◌+◌, ◌-◌, ◌^◌, ◌<◌, ◌≤◌, ◌==◌, Bool, [], ◌∷◌, ◌++◌, count_by, filter, find, false, length, map, nat_le, slice_get, IfSome, None, OnErr, OnOk, Some};
 ghost use Rattle.bh_base.specs.declared.ticket.Ticket.{Ticket};
 ghost use Rattle.bh_base.specs.declared.ticket.TicketState.TheVariants as ticket;
 ghost use Rattle.bh_base.specs.Machine.{released_by_one};
-ghost use Rattle.bh_base.specs.Tickets.{changed_first, in_state, is_busy_at, is_held_at, is_in_fallback, is_in_fallback_at, is_queued};
-ghost use Rattle.bh_tickets.specs.Changes.{answered, fallback_started, joined, queued_in, run_ended, run_started, run_stopped};
+ghost use Rattle.bh_base.specs.Tickets.{changed_first, in_state, is_busy_at, is_cached_as, is_cached_in, is_held_at, is_in_fallback, is_in_fallback_at, is_queued};
+ghost use Rattle.bh_cache.specs.Cache.{uncached_in};
+ghost use Rattle.bh_tickets.specs.Changes.{answered, fallback_started, is_due_by, joined, queued_in, run_ended, run_started, run_stopped};
 ghost use Rattle.bh_tickets.specs.TicketsView.{CanPush, ChangesOnly, IsFirstAt, IsThere, group_at, in_slot, no_tickets_in, slots_of};
 ghost use Rattle.bh_tickets.specs.Whole.{CanChange, IsChanged};
 
-use crate::group_slots::{GroupSlots, add, put};
+use crate::due::any_due_on;
+use crate::group_slots::{GroupSlots, add, drop_cached, put};
 use crate::growth::{add_lists, add_slots, new_arena};
-use crate::states::{is_held, is_in_fallback};
-use bh_base::{Answer, Cause, Serial, Ticket, TicketState};
+use crate::states::{DueRule, is_due, is_held, is_in_fallback};
+use bh_base::{Answer, Cause, Serial, Text, Ticket, TicketState};
 use bh_cache::find_serial;
 use bh_slot_arena::Arena;
 use std::alloc::{AllocError, Global};
@@ -162,6 +165,48 @@ impl Tickets {
         Some(slot)
     }
 
+    /// The slot of the ticket that is cached under the context and the key.
+    pub fn find_cached(&self, group: usize, context: u64, key: &Text<32>) -> Option<u32>
+        requires { group < length self.now.groups }
+        ensures found { IfSome result (λ slot. IsFirstAt (is_cached_as (context, key.now)) (group_at self.now group) slot) }
+        ensures none { result ≡ None → find (is_cached_as (context, key.now)) (group_at self.now group).items ≡ None }
+    {
+        let entry = &self.groups[group];
+        bh_cache::find(&self.arena, &entry.lists, context, key)
+    }
+
+    /// Whether a ticket waits for a worker.
+    pub fn any_queued(&self, group: usize) -> bool
+        requires { group < length self.now.groups }
+        ensures { result ≡ list_any is_queued (group_at self.now group).items }
+    {
+        let entry = &self.groups[group];
+        self.arena.front(0, entry.lists.queued).is_some()
+    }
+
+    /// Whether the ticket of the serial has timed out: it is queued or running, and was submitted so many
+    /// milliseconds before the moment.
+    pub fn is_due(&self, group: usize, serial: Serial, due: &DueRule) -> bool
+        requires { group < length self.now.groups }
+        ensures { result ≡ list_any (λ t. t.serial == serial) (filter (is_due_by due.now) (group_at self.now group).items) }
+    {
+        let entry = &self.groups[group];
+        let Some(slot) = find_serial(&self.arena, &entry.lists, serial) else {
+            return false;
+        };
+        is_due(self.arena.get(slot), due)
+    }
+
+    /// Whether a ticket has timed out.
+    pub fn any_due(&self, group: usize, due: &DueRule) -> bool
+        requires { group < length self.now.groups }
+        ensures { result ≡ list_any (is_due_by due.now) (group_at self.now group).items }
+    {
+        let entry = &self.groups[group];
+        any_due_on(&self.arena, entry.lists.queued, due)
+            || any_due_on(&self.arena, entry.lists.running, due)
+    }
+
     /// The ticket in the slot.
     pub fn get(&self, group: usize, slot: u32) -> &Ticket
         requires group { group < length self.now.groups }
@@ -297,5 +342,16 @@ impl Tickets {
     {
         let entry = &mut self.groups[group];
         add(&mut self.arena, entry, ticket);
+    }
+
+    /// No ticket of the context is cached any more; answers how many were.
+    pub fn close(&mut self, group: usize, context: u64) -> u64
+        requires group { group < length self.old.groups }
+        ensures items { (group_at self.new group).items ≡ map (uncached_in context) (group_at self.old group).items }
+        ensures count { result ≡ count_by (is_cached_in context) (group_at self.old group).items }
+        ensures left { ChangesOnly group self.old self.new }
+    {
+        let entry = &mut self.groups[group];
+        drop_cached(&mut self.arena, entry, context)
     }
 }
