@@ -1,3 +1,4 @@
+pub mod Changed
 pub mod Touched
 pub mod Own
 pub mod Others
@@ -12,3 +13,4 @@ pub mod Swept
 pub mod AddedGroup
 pub mod Exists
 pub mod Uncached
+pub mod InPlace
