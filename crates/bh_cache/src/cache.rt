@@ -1,35 +1,120 @@
 //! Looking a cached ticket up, and the end of a request context.
 
-ghost use Rattle.std.specs.Prelude.{◌≡◌, ◌<◌, IfSome, count_by, length, map, position};
+ghost use Rattle.std.specs.Prelude.{◌≡◌, ℕ, ◌<◌, [], ◌∷◌, IfSome, None, false, length};
 ghost use Rattle.bh_base.specs.Tickets.{is_cached_as, is_cached_in};
-ghost use Rattle.bh_cache.specs.Cache.{uncached_in};
+ghost use Rattle.bh_slot_arena.specs.Slots.{lists_in, slots_on};
+ghost use Rattle.bh_cache.specs.Cache.{IsEarliest, IsDropped, IsDroppedFrom, earlier, earliest};
+ghost use Rattle.bh_cache.specs.Slots.{HasLists, has_one, ticket_at};
 
+use crate::lists::GroupLists;
 use bh_base::{Text, Ticket};
+use bh_slot_arena::Arena;
 
-/// The place of the ticket that is cached under the request context and the key, the first where there are several.
-pub fn find(tickets: &[Ticket], context: u64, key: &Text<32>) -> Option<usize>
-    ensures place { result ≡ position (is_cached_as (context, key.now)) tickets.now }
-    ensures within { IfSome result (λ i. i < length tickets.now) }
+/// The slot of the group's ticket that is cached under the request context and the key, the one of the least serial
+/// where there are several; None only where there is none.
+pub fn find(
+    arena: &Arena<Ticket, 1>,
+    lists: &GroupLists,
+    context: u64,
+    key: &Text<32>,
+) -> Option<u32>
+    requires { HasLists arena.now lists.now }
+    ensures found { IfSome result (λ slot. IsEarliest (is_cached_as (context, key.now)) arena.now lists.now slot) }
+    ensures none { result ≡ None → (slot : ℕ) → has_one (is_cached_as (context, key.now)) (ticket_at arena.now lists.now slot) ≡ false }
 {
-    tickets
-        .iter()
-        .position(|ticket| has_name(ticket, context, key))
+    let found = find_on(arena, lists.queued, context, key, None);
+    let found = find_on(arena, lists.running, context, key, found);
+    find_on(arena, lists.settled, context, key, found)
 }
 
-/// Ends a request context: none of its tickets is cached any more, and the rest of each ticket stays as it was. The
-/// number of those that were cached.
-pub fn drop_context(tickets: &mut [Ticket], context: u64) -> u64
-    ensures tickets { tickets.new ≡ map (uncached_in context) tickets.old }
-    ensures number { result ≡ count_by (is_cached_in context) tickets.old }
+/// Ends a request context: none of the group's tickets is cached in it any more, and the rest of each ticket stays as
+/// it was, as does each other slot and each list. The number of those that were cached.
+pub fn drop_context(arena: &mut Arena<Ticket, 1>, lists: &GroupLists, context: u64) -> u64
+    requires { HasLists arena.old lists.now }
+    ensures { IsDropped context lists.now arena.old arena.new result }
 {
-    let mut number = 0;
-    for ticket in tickets.iter_mut() {
-        if has_context(ticket, context) {
-            ticket.cached = false;
-            number += 1;
+    arena.partition(0);
+    let queued = drop_on(arena, lists.queued, context);
+    let running = drop_on(arena, lists.running, context);
+    let settled = drop_on(arena, lists.settled, context);
+    queued + running + settled
+}
+
+/// The slot of the least serial among `found` and those of the list that are cached under the context and the key.
+fn find_on(
+    arena: &Arena<Ticket, 1>,
+    list: usize,
+    context: u64,
+    key: &Text<32>,
+    found: Option<u32>,
+) -> Option<u32>
+    requires list { list < length (lists_in arena.now 0) }
+    requires within { IfSome found (λ slot. slot < length arena.now.payloads) }
+    ensures within { IfSome result (λ slot. slot < length arena.now.payloads) }
+    ensures earliest { result ≡ earliest (is_cached_as (context, key.now)) arena.now.payloads found (slots_on arena.now 0 list) }
+{
+    arena.partition(0);
+    let mut found = found;
+    let mut place = arena.front(0, list);
+    for _ in 0..arena.len_of(0, list) {
+        let Some(slot) = place else {
+            return found;
+        };
+        if has_name(arena.get(slot), context, key) {
+            found = Some(earlier(arena, found, slot));
         }
+        place = arena.next(0, slot);
+    }
+    found
+}
+
+/// Of two slots that whose ticket has the lesser serial.
+fn earlier(arena: &Arena<Ticket, 1>, found: Option<u32>, slot: u32) -> u32
+    requires slot { slot < length arena.now.payloads }
+    requires found { IfSome found (λ other. other < length arena.now.payloads) }
+    ensures earlier { result ≡ earlier arena.now.payloads found slot }
+    ensures within { result < length arena.now.payloads }
+{
+    let Some(other) = found else {
+        return slot;
+    };
+    if arena.get(slot).serial < arena.get(other).serial {
+        slot
+    } else {
+        other
+    }
+}
+
+/// The tickets of a list are cached in the context no more. The number of those that were.
+fn drop_on(arena: &mut Arena<Ticket, 1>, list: usize, context: u64) -> u64
+    requires { list < length (lists_in arena.old 0) }
+    ensures { IsDroppedFrom context (slots_on arena.old 0 list) arena.old arena.new result }
+{
+    arena.partition(0);
+    let mut number = 0;
+    let mut place = arena.front(0, list);
+    for _ in 0..arena.len_of(0, list) {
+        let Some(slot) = place else {
+            return number;
+        };
+        number += drop_at(arena, slot, context);
+        place = arena.next(0, slot);
     }
     number
+}
+
+/// The ticket of a slot is cached in the context no more. 1 where it was, else 0.
+fn drop_at(arena: &mut Arena<Ticket, 1>, slot: u32, context: u64) -> u64
+    requires { slot < length arena.old.payloads }
+    ensures { IsDroppedFrom context (slot ∷ []) arena.old arena.new result }
+{
+    let mut ticket = *arena.get(slot);
+    if !has_context(&ticket, context) {
+        return 0;
+    }
+    ticket.cached = false;
+    arena.set(slot, ticket);
+    1
 }
 
 /// Whether the ticket is cached under the context and the key.

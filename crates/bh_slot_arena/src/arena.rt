@@ -1,9 +1,11 @@
 //! Slots with a payload each, on lists of several families.
 
-ghost use Rattle.std.specs.Prelude.{◌≡◌, ℕ, ◌+◌, ◌<◌, ◌≤◌, ◌↔◌, ◌≢◌, ◌^◌, [], ◌++◌, Contains, length, replicate, slice_get, slice_index, vec_len, vec_capacity, IfOk, OnOk, OnErr, Err, Some};
+ghost use Rattle.std.specs.Prelude.{◌≡◌, ℕ, ◌+◌, ◌<◌, ◌≤◌, ◌↔◌, ◌≢◌, ◌^◌, [], ◌++◌, Contains, length, nat_le, replicate, slice_get, slice_index, vec_len, vec_capacity, IfOk, OnOk, OnErr, Err, Some};
 ghost use Rattle.bh_slot_arena.specs.Lists.{IsPartition};
 ghost use Rattle.bh_slot_arena.specs.Slots.{lists_in, slots_on, with_moved, with_new_lists, with_new_slots, with_payload};
 ghost use Rattle.bh_slot_arena.specs.Family.{AddsSlots, IsReady, but_room, family_at, no_lists};
+ghost use Rattle.std.specs.Borrow.{Lends, sem};
+ghost use Rattle.bh_slot_arena.specs.contracts.arena.Arena.{the_row};
 
 use crate::family::Family;
 use std::alloc::{AllocError, Global};
@@ -61,10 +63,19 @@ impl<T: Copy, const K: usize> Arena<T, K> {
         }
     }
 
+    /// Whether so many slots more are within what the arena may have.
+    pub fn has_room_for(&self, count: u32) -> bool
+        ensures { result ≡ nat_le (length self.now.payloads + count) self.now.limit }
+    {
+        let slots = self.payloads.len() as u32;
+        count <= self.limit - slots
+    }
+
     /// Adds empty lists to a family, and answers the number of the first. Where memory is refused, nothing has changed.
     pub fn add_lists(&mut self, family: usize, count: usize) -> Result<usize, AllocError>
         requires { family < K }
         ensures first { IfOk result (λ n. n ≡ length (lists_in self.old family)) }
+        ensures few { IfOk result (λ n. n + count < 2 ^ 64) }
         ensures ok { OnOk result (self.new ≡ with_new_lists family count self.old) }
         ensures err { OnErr result (self.new ≡ self.old) }
     {
@@ -146,6 +157,15 @@ impl<T: Copy, const K: usize> Arena<T, K> {
         &self.payloads[slot as usize]
     }
 
+    /// The payload of a slot, to be changed in place.
+    pub fn get_mut(&mut self, slot: u32) -> &mut T
+        requires { slot < length self.old.payloads }
+        ensures* writes_back { sem 𝓛 (Lends (the_row T.row K.row) T.row self.entry result (λ payload. with_payload slot payload self.old)) }
+        ensures value { Some result.now ≡ slice_get self.old.payloads slot }
+    {
+        &mut self.payloads[slot as usize]
+    }
+
     /// Gives a slot another payload.
     pub fn set(&mut self, slot: u32, payload: T)
         requires { slot < length self.old.payloads }
@@ -161,6 +181,7 @@ impl<T: Copy, const K: usize> Arena<T, K> {
         ensures lists { IsPartition (length self.now.payloads) (lists_in self.now family) }
         ensures families { length self.now.families ≡ K }
         ensures limit { length self.now.payloads ≤ self.now.limit }
+        ensures few { self.now.limit < 2 ^ 32 }
     {
         self.families[family].partition();
     }

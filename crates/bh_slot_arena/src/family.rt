@@ -48,6 +48,7 @@ impl Family {
     /// Adds empty lists, and answers the number of the first.
     pub fn add_lists(&mut self, count: usize) -> Result<usize, AllocError>
         ensures first { IfOk result (λ n. n ≡ length self.old.lists) }
+        ensures few { IfOk result (λ n. n + count < 2 ^ 64) }
         ensures slots { self.new.slots ≡ self.old.slots }
         ensures ok { OnOk result (self.new.lists ≡ self.old.lists ++ replicate count []) }
         ensures err { OnErr result (self.new.lists ≡ self.old.lists) }

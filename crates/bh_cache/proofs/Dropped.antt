@@ -1,0 +1,245 @@
+-- What becomes of the slots of a list as a request context ends.
+use Rattle.std.proofs.Common.{◌≡◌, ℕ, zero, suc, ◌+◌, ◌<◌, ◌≤◌, inl, inr, Bool, true, false, List, [], ◌∷◌, ◌++◌, length, set, take, Option, Some, None, refl, ◌∙◌, sym, ap, subst, arith, add-one}
+use Rattle.std.specs.Prelude.{◌||◌, ◌&&◌, eqb, slice_get, count_by, if◌then◌else◌}
+use Rattle.std.specs.Option.{option_map}
+use Rattle.std.proofs.lemmas.Bool.{cases_eq, eq-eqb, ne_eqb}
+use Rattle.bh_base.specs.declared.ticket.Ticket.{Ticket}
+use Rattle.bh_base.specs.Tickets.{is_cached_in}
+use Rattle.bh_slot_arena.specs.Slots.{slots_on}
+use Rattle.bh_cache.specs.declared.lists.GroupLists.{GroupLists}
+use Rattle.bh_cache.specs.Cache.{IsDropped, IsDroppedFrom, cached_among, uncached_in}
+use Rattle.bh_cache.specs.Listed.{listed}
+use Rattle.bh_cache.specs.Slots.{Slots, count_below, has, has_one, is_on, is_live, one, ticket_at, tickets_of}
+use Rattle.bh_cache.proofs.Counts.{count_all, count_listed, count_none, count_point}
+use Rattle.bh_cache.proofs.Listed.{listed_map}
+use Rattle.bh_cache.proofs.Order.{count_same}
+
+-- ---- one ticket
+
+pub uncached_not : (context : ℕ) (t : Ticket) → is_cached_in context (uncached_in context t) ≡ false
+uncached_not context t = by (is_cached_in context t) refl
+  where
+    by : (b : Bool) → is_cached_in context t ≡ b → is_cached_in context (if b then record t { cached = false } else t) ≡ false
+    by true e = refl
+    by false e = e
+
+pub uncached_same : (context : ℕ) (t : Ticket) → is_cached_in context t ≡ false → uncached_in context t ≡ t
+uncached_same context t e = ap (λ b. if b then record t { cached = false } else t) e
+
+uncached_serial : (context : ℕ) (t : Ticket) → (uncached_in context t).serial ≡ t.serial
+uncached_serial context t = by (is_cached_in context t)
+  where
+    by : (b : Bool) → (if b then record t { cached = false } else t).serial ≡ t.serial
+    by true = refl
+    by false = refl
+
+twice : (context : ℕ) (o : Option Ticket) → option_map (uncached_in context) (option_map (uncached_in context) o) ≡ option_map (uncached_in context) o
+twice context None = refl
+twice context (Some t) = ap Some (uncached_same context (uncached_in context t) (uncached_not context t))
+
+none_cached : (context : ℕ) (o : Option Ticket) → has_one (is_cached_in context) (option_map (uncached_in context) o) ≡ false
+none_cached context None = refl
+none_cached context (Some t) = uncached_not context t
+
+-- ---- one slot
+
+module _ (context : ℕ) (a b : Slots) (slot : ℕ) (t : Ticket) (n : ℕ) (within : slot < length a.payloads) (is : slice_get a.payloads slot ≡ Some t)
+    (limit : b.limit ≡ a.limit) (families : b.families ≡ a.families) (slots : length b.payloads ≡ length a.payloads)
+    (now : (y : ℕ) → slice_get b.payloads y ≡ (if eqb y slot then Some (uncached_in context t) else slice_get a.payloads y)) (number : n ≡ one (is_cached_in context t)) where
+  now_slot : slice_get b.payloads slot ≡ Some (uncached_in context t)
+  now_slot = now slot ∙ ap (λ c. if c then Some (uncached_in context t) else slice_get a.payloads slot) (eq-eqb slot slot refl)
+
+  now_other : (y : ℕ) → (y ≡ slot → ⊥) → slice_get b.payloads y ≡ slice_get a.payloads y
+  now_other y ne = now y ∙ ap (λ c. if c then Some (uncached_in context t) else slice_get a.payloads y) (ne_eqb y slot ne)
+
+  or_no : (c : Bool) → (c || false) ≡ c
+  or_no true = refl
+  or_no false = refl
+
+  payload_at : (y : ℕ) → slice_get b.payloads y ≡ (if (eqb slot y || false) then option_map (uncached_in context) (slice_get a.payloads y) else slice_get a.payloads y)
+  payload_at y = elim (cases_eq slot y) [
+    | inl e ↦
+        ap (slice_get b.payloads) (sym e) ∙ now_slot ∙ ap (option_map (uncached_in context)) (sym is) ∙ ap (λ z. option_map (uncached_in context) (slice_get a.payloads z)) e
+        ∙ sym (ap (λ c. if c then option_map (uncached_in context) (slice_get a.payloads y) else slice_get a.payloads y) (or_no (eqb slot y) ∙ eq-eqb slot y e))
+    | inr ne ↦
+        now_other y (λ e. ne (sym e))
+        ∙ sym (ap (λ c. if c then option_map (uncached_in context) (slice_get a.payloads y) else slice_get a.payloads y) (or_no (eqb slot y) ∙ ne_eqb slot y ne))
+  ]
+
+  pub dropped_at : IsDroppedFrom context (slot ∷ []) a b n
+  dropped_at = record {
+    limit = limit;
+    families = families;
+    slots = slots;
+    payloads = payload_at;
+    count = λ live covers.
+        let before : ℕ → Bool = λ x. live x && has_one (is_cached_in context) (slice_get a.payloads x) in
+        let after : ℕ → Bool = λ x. live x && has_one (is_cached_in context) (slice_get b.payloads x) in
+        let lives : live slot ≡ true = covers slot (or_no (eqb slot slot) ∙ eq-eqb slot slot refl) in
+        let was : before slot ≡ is_cached_in context t = ap (λ c. c && has_one (is_cached_in context) (slice_get a.payloads slot)) lives ∙ ap (has_one (is_cached_in context)) is in
+        let gone : after slot ≡ false = ap (λ c. c && has_one (is_cached_in context) (slice_get b.payloads slot)) lives ∙ ap (has_one (is_cached_in context)) now_slot ∙ uncached_not context t in
+        let k : one (before slot) ≡ n = ap one was ∙ sym number in
+        let z : one (after slot) ≡ 0 = ap one gone in
+        let size : count_below (length b.payloads) after ≡ count_below (length a.payloads) after = ap (λ m. count_below m after) slots in
+        let point = count_point before after (length a.payloads) slot within (λ y ne. ap (λ o. live y && has_one (is_cached_in context) o) (now_other y ne)) in
+        omega (arith, k, z, size, point);
+  }
+
+get_set_same : (xs : List Ticket) (i : ℕ) (v : Ticket) → i < length xs → slice_get (set xs i v) i ≡ Some v
+get_set_same [] i v lt = absurd (omega (arith, lt))
+get_set_same (x ∷ xs) zero v lt = refl
+get_set_same (x ∷ xs) (suc i) v lt = get_set_same xs i v (omega (arith, lt))
+
+get_set_other : (xs : List Ticket) (i j : ℕ) (v : Ticket) → (j ≡ i → ⊥) → slice_get (set xs i v) j ≡ slice_get xs j
+get_set_other [] i j v ne = refl
+get_set_other (x ∷ xs) zero zero v ne = absurd (ne refl)
+get_set_other (x ∷ xs) zero (suc j) v ne = refl
+get_set_other (x ∷ xs) (suc i) zero v ne = refl
+get_set_other (x ∷ xs) (suc i) (suc j) v ne = get_set_other xs i j v (λ e. ne (ap suc e))
+
+-- a payload that is written
+pub get_set : (xs : List Ticket) (i j : ℕ) (v : Ticket) → i < length xs → slice_get (set xs i v) j ≡ (if eqb j i then Some v else slice_get xs j)
+get_set xs i j v lt = elim (cases_eq j i) [
+  | inl e ↦ ap (slice_get (set xs i v)) e ∙ get_set_same xs i v lt ∙ sym (ap (λ b. if b then Some v else slice_get xs j) (eq-eqb j i e))
+  | inr ne ↦ get_set_other xs i j v ne ∙ sym (ap (λ b. if b then Some v else slice_get xs j) (ne_eqb j i ne))
+]
+
+-- and one that stays
+pub get_same : (xs : List Ticket) (i j : ℕ) (v : Ticket) → slice_get xs i ≡ Some v → slice_get xs j ≡ (if eqb j i then Some v else slice_get xs j)
+get_same xs i j v is = elim (cases_eq j i) [
+  | inl e ↦ ap (slice_get xs) e ∙ is ∙ sym (ap (λ b. if b then Some v else slice_get xs j) (eq-eqb j i e))
+  | inr ne ↦ sym (ap (λ b. if b then Some v else slice_get xs j) (ne_eqb j i ne))
+]
+
+-- ---- many slots
+
+pub has_append : (x : ℕ) (xs ys : List ℕ) → has x (xs ++ ys) ≡ (has x xs || has x ys)
+has_append x [] ys = refl
+has_append x (z ∷ zs) ys = ap (λ b. eqb z x || b) (has_append x zs ys) ∙ regroup (eqb z x) (has x zs) (has x ys)
+  where
+    regroup : (a b c : Bool) → (a || (b || c)) ≡ ((a || b) || c)
+    regroup true b c = refl
+    regroup false b c = refl
+
+module _ (context : ℕ) (xs ys : List ℕ) (a b c : Slots) (n m : ℕ) (first : IsDroppedFrom context xs a b n) (second : IsDroppedFrom context ys b c m) where
+  payload_both : (x : ℕ) → slice_get c.payloads x ≡ (if has x (xs ++ ys) then option_map (uncached_in context) (slice_get a.payloads x) else slice_get a.payloads x)
+  payload_both x =
+      second.payloads x
+      ∙ by (has x xs) (has x ys) (slice_get a.payloads x) (slice_get b.payloads x) (first.payloads x)
+      ∙ sym (ap (λ d. if d then option_map (uncached_in context) (slice_get a.payloads x) else slice_get a.payloads x) (has_append x xs ys))
+    where
+      by : (d e : Bool) (o q : Option Ticket) → q ≡ (if d then option_map (uncached_in context) o else o) → (if e then option_map (uncached_in context) q else q) ≡ (if (d || e) then option_map (uncached_in context) o else o)
+      by true true o q is = ap (option_map (uncached_in context)) is ∙ twice context o
+      by true false o q is = is
+      by false true o q is = ap (option_map (uncached_in context)) is
+      by false false o q is = is
+
+  pub dropped_both : IsDroppedFrom context (xs ++ ys) a c (n + m)
+  dropped_both = record {
+    limit = second.limit ∙ first.limit;
+    families = second.families ∙ first.families;
+    slots = second.slots ∙ first.slots;
+    payloads = payload_both;
+    count = λ live covers.
+        let f = first.count live (λ x h. covers x (has_append x xs ys ∙ left (has x xs) (has x ys) h)) in
+        let s = second.count live (λ x h. covers x (has_append x xs ys ∙ right (has x xs) (has x ys) h)) in
+        omega (arith, f, s);
+  }
+    where
+      left : (d e : Bool) → d ≡ true → (d || e) ≡ true
+      left d e h = ap (λ z. z || e) h
+
+      right : (d e : Bool) → e ≡ true → (d || e) ≡ true
+      right true e h = refl
+      right false e h = h
+
+-- one slot more of a list
+pub take_one_more : (xs : List ℕ) (i x : ℕ) → slice_get xs i ≡ Some x → take (i + 1) xs ≡ take i xs ++ x ∷ []
+take_one_more xs i x e = ap (λ k. take k xs) (add-one i) ∙ at xs i e
+  where
+    at : (ys : List ℕ) (k : ℕ) → slice_get ys k ≡ Some x → take (suc k) ys ≡ take k ys ++ x ∷ []
+    at [] k e = absurd cc
+    at (y ∷ ys) zero e = let q : y ≡ x = cc in ap (λ z. z ∷ []) q
+    at (y ∷ ys) (suc k) e = ap (λ zs. y ∷ zs) (at ys k e)
+
+pub dropped_more : (context : ℕ) (xs : List ℕ) (i x : ℕ) (a b c : Slots) (n m : ℕ) → slice_get xs i ≡ Some x → IsDroppedFrom context (take i xs) a b n → IsDroppedFrom context (x ∷ []) b c m → IsDroppedFrom context (take (i + 1) xs) a c (n + m)
+dropped_more context xs i x a b c n m at first second = subst (λ ys. IsDroppedFrom context ys a c (n + m)) (sym (take_one_more xs i x at)) (dropped_both context (take i xs) (x ∷ []) a b c n m first second)
+
+-- no more were dropped than there are slots
+pub dropped_few : (context : ℕ) (xs : List ℕ) (a b : Slots) (n : ℕ) → IsDroppedFrom context xs a b n → n ≤ length a.payloads
+dropped_few context xs a b n dropped =
+    let k = dropped.count (λ x. true) (λ x h. refl) in
+    let l = count_all (length a.payloads) (λ x. true && has_one (is_cached_in context) (slice_get a.payloads x)) in
+    omega (arith, k, l)
+
+-- the lists stay
+pub list_same : (context : ℕ) (xs : List ℕ) (a b : Slots) (n l : ℕ) → IsDroppedFrom context xs a b n → slots_on b 0 l ≡ slots_on a 0 l
+list_same context xs a b n l dropped = ap (λ (fs : List (List (List ℕ))). let v : Slots = record a { families = fs } in slots_on v 0 l) dropped.families
+
+-- along three lists
+module _ (context : ℕ) (a b c d : Slots) (q r s n m k : ℕ) (first : IsDroppedFrom context (slots_on a 0 q) a b n) (second : IsDroppedFrom context (slots_on b 0 r) b c m) (third : IsDroppedFrom context (slots_on c 0 s) c d k) where
+  dropped_two : IsDroppedFrom context (slots_on a 0 q ++ slots_on a 0 r) a c (n + m)
+  dropped_two = dropped_both context (slots_on a 0 q) (slots_on a 0 r) a b c n m first (subst (λ xs. IsDroppedFrom context xs b c m) (list_same context (slots_on a 0 q) a b n r first) second)
+
+  pub dropped_three : IsDroppedFrom context (slots_on a 0 q ++ slots_on a 0 r ++ slots_on a 0 s) a d (n + m + k)
+  dropped_three = dropped_both context (slots_on a 0 q ++ slots_on a 0 r) (slots_on a 0 s) a c d (n + m) k dropped_two (subst (λ xs. IsDroppedFrom context xs c d k) (list_same context (slots_on a 0 q ++ slots_on a 0 r) a c (n + m) s dropped_two) third)
+
+-- ---- the tickets of a group
+
+module _ (context : ℕ) (a b : Slots) (g : GroupLists) (n : ℕ) (dropped : IsDroppedFrom context (slots_on a 0 g.queued ++ slots_on a 0 g.running ++ slots_on a 0 g.settled) a b n) where
+  has_live : (x : ℕ) → has x (slots_on a 0 g.queued ++ slots_on a 0 g.running ++ slots_on a 0 g.settled) ≡ is_live a g x
+  has_live x =
+      has_append x (slots_on a 0 g.queued ++ slots_on a 0 g.running) (slots_on a 0 g.settled)
+      ∙ ap (λ d. d || has x (slots_on a 0 g.settled)) (has_append x (slots_on a 0 g.queued) (slots_on a 0 g.running))
+      ∙ regroup (is_on a 0 g.queued x) (is_on a 0 g.running x) (is_on a 0 g.settled x)
+    where
+      regroup : (d e f : Bool) → ((d || e) || f) ≡ (d || (e || f))
+      regroup true e f = refl
+      regroup false e f = refl
+
+  lists_same : (l : ℕ) → slots_on b 0 l ≡ slots_on a 0 l
+  lists_same l = list_same context (slots_on a 0 g.queued ++ slots_on a 0 g.running ++ slots_on a 0 g.settled) a b n l dropped
+
+  live_same : (x : ℕ) → is_live b g x ≡ is_live a g x
+  live_same x = λ i. has x (lists_same g.queued i) || (has x (lists_same g.running i) || has x (lists_same g.settled i))
+
+  payload_is : (x : ℕ) → slice_get b.payloads x ≡ (if is_live a g x then option_map (uncached_in context) (slice_get a.payloads x) else slice_get a.payloads x)
+  payload_is x = dropped.payloads x ∙ ap (λ d. if d then option_map (uncached_in context) (slice_get a.payloads x) else slice_get a.payloads x) (has_live x)
+
+  here_is : (x : ℕ) → ticket_at b g x ≡ option_map (uncached_in context) (ticket_at a g x)
+  here_is x = ap (λ d. if d then slice_get b.payloads x else None) (live_same x) ∙ by (is_live a g x) (payload_is x)
+    where
+      by : (d : Bool) → slice_get b.payloads x ≡ (if d then option_map (uncached_in context) (slice_get a.payloads x) else slice_get a.payloads x) → (if d then slice_get b.payloads x else None) ≡ option_map (uncached_in context) (if d then slice_get a.payloads x else None)
+      by true e = e
+      by false e = refl
+
+  counted : n ≡ count_by (is_cached_in context) (tickets_of a g)
+  counted =
+      let k = dropped.count (is_live a g) (λ x h. sym (has_live x) ∙ h) in
+      let none : cached_among (is_live a g) context b.payloads ≡ 0 = count_none (length b.payloads) (λ x. is_live a g x && has_one (is_cached_in context) (slice_get b.payloads x)) still in
+      let all : cached_among (is_live a g) context a.payloads ≡ count_below (length a.payloads) (λ x. has_one (is_cached_in context) (ticket_at a g x))
+      = count_same _ (λ x. has_one (is_cached_in context) (ticket_at a g x)) (length a.payloads) (λ x. either (is_live a g x) (slice_get a.payloads x)) in
+      let total = count_listed (is_cached_in context) (ticket_at a g) (length a.payloads) in
+      omega (arith, k, none, all, total)
+    where
+      either : (d : Bool) (o : Option Ticket) → (d && has_one (is_cached_in context) o) ≡ has_one (is_cached_in context) (if d then o else None)
+      either true o = refl
+      either false o = refl
+
+      gone : (d : Bool) (o q : Option Ticket) → q ≡ (if d then option_map (uncached_in context) o else o) → (d && has_one (is_cached_in context) q) ≡ false
+      gone true o q e = ap (has_one (is_cached_in context)) e ∙ none_cached context o
+      gone false o q e = refl
+
+      still : (x : ℕ) → (is_live a g x && has_one (is_cached_in context) (slice_get b.payloads x)) ≡ false
+      still x = gone (is_live a g x) (slice_get a.payloads x) (slice_get b.payloads x) (payload_is x)
+
+  pub dropped_group : IsDropped context g a b n
+  dropped_group = record {
+    limit = dropped.limit;
+    families = dropped.families;
+    slots = dropped.slots;
+    here = here_is;
+    others = λ x out. payload_is x ∙ ap (λ d. if d then option_map (uncached_in context) (slice_get a.payloads x) else slice_get a.payloads x) out;
+    tickets = ap (listed (ticket_at b g)) dropped.slots ∙ listed_map (uncached_in context) (ticket_at a g) (ticket_at b g) (length a.payloads) (uncached_serial context) here_is;
+    count = counted;
+  }

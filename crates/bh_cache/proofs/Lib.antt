@@ -1,0 +1,6 @@
+pub mod Counts
+pub mod Dropped
+pub mod Earliest
+pub mod Listed
+pub mod Order
+pub mod Walks

@@ -1,0 +1,140 @@
+-- A walk along a list.
+use Rattle.std.proofs.Common.{◌≡◌, ℕ, zero, suc, ◌+◌, ◌<◌, ◌≤◌, ◌⊎◌, inl, inr, Bool, true, false, cond, List, [], ◌∷◌, length, drop, Some, None, refl, ◌∙◌, sym, ap, arith, add-one}
+use Rattle.std.specs.Prelude.{◌||◌, eqb, slice_get, find, if◌then◌else◌}
+use Rattle.std.proofs.lemmas.Bool.{cases_eq, eq-eqb, ne_eqb}
+use Rattle.bh_base.specs.declared.ticket.Ticket.{Ticket}
+use Rattle.bh_cache.specs.declared.lists.GroupLists.{GroupLists}
+use Rattle.bh_slot_arena.specs.Lists.{IsPartition}
+use Rattle.bh_slot_arena.specs.Slots.{lists_in, slots_on}
+use Rattle.bh_cache.specs.Slots.{Slots, has, is_on, is_live, ticket_at, has_serial_in, serial_on, Once, IsArena}
+
+pub drop_at : (xs : List ℕ) (i x : ℕ) → slice_get xs i ≡ Some x → drop i xs ≡ x ∷ drop (suc i) xs
+drop_at [] zero x e = absurd cc
+drop_at [] (suc i) x e = absurd cc
+drop_at (y ∷ ys) zero x e = let k : y ≡ x = cc in ap (λ z. z ∷ ys) k
+drop_at (y ∷ ys) (suc i) x e = drop_at ys i x e
+
+pub drop_past : (xs : List ℕ) (i : ℕ) → slice_get xs i ≡ None → drop i xs ≡ []
+drop_past [] zero e = refl
+drop_past [] (suc i) e = refl
+drop_past (y ∷ ys) zero e = absurd cc
+drop_past (y ∷ ys) (suc i) e = drop_past ys i e
+
+pub drop_end : (xs : List ℕ) (i : ℕ) → length xs ≤ i → drop i xs ≡ []
+drop_end [] zero h = refl
+drop_end [] (suc i) h = refl
+drop_end (y ∷ ys) zero h = absurd (omega (arith, h))
+drop_end (y ∷ ys) (suc i) h = drop_end ys i (omega (arith, h))
+
+module _ (p : ℕ → Bool) (xs : List ℕ) (i x : ℕ) (at : slice_get xs i ≡ Some x) where
+  pub found_at : p x ≡ true → find p (drop i xs) ≡ Some x
+  found_at yes' = ap (find p) (drop_at xs i x at) ∙ ap (λ b. cond b (Some x) (find p (drop (suc i) xs))) yes'
+
+  pub next_at : p x ≡ false → find p (drop i xs) ≡ find p (drop (i + 1) xs)
+  next_at no' = ap (find p) (drop_at xs i x at) ∙ ap (λ b. cond b (Some x) (find p (drop (suc i) xs))) no' ∙ ap (λ n. find p (drop n xs)) (sym (add-one i))
+
+pub has_at : (xs : List ℕ) (i x : ℕ) → slice_get xs i ≡ Some x → has x xs ≡ true
+has_at [] i x e = absurd cc
+has_at (y ∷ ys) zero x e = let k : y ≡ x = cc in ap (λ b. b || has x ys) (eq-eqb y x k)
+has_at (y ∷ ys) (suc i) x e = ap (λ b. eqb y x || b) (has_at ys i x e) ∙ either (eqb y x)
+  where
+    either : (b : Bool) → (b || true) ≡ true
+    either true = refl
+    either false = refl
+
+-- a member of a list has a place on it
+pub has_place : (xs : List ℕ) (x : ℕ) → has x xs ≡ true → (k : ℕ) × (slice_get xs k ≡ Some x)
+has_place [] x e = absurd cc
+has_place (y ∷ ys) x e = elim (cases_eq y x) [
+  | inl q ↦ (0, ap Some q)
+  | inr ne ↦ let r = has_place ys x (ap (λ b. b || has x ys) (sym (ne_eqb y x ne)) ∙ e) in (suc r.0, r.1)
+]
+
+-- the law of an arena's lists says that each slot is on one list at most, and there once
+pub arena_is : (a : Slots) (f : ℕ) → f < length a.families → IsPartition (length a.payloads) (lists_in a f) → IsArena a f
+arena_is a f wide law = record {
+  wide = wide;
+  apart = λ l m x p q. let r = has_place (slots_on a f l) x p in let s = has_place (slots_on a f m) x q in (law.once l m r.0 s.0 x r.1 s.1).0;
+  within = λ l x p. let r = has_place (slots_on a f l) x p in law.within l r.0 x r.1;
+  once = λ l. no_twice (slots_on a f l) (λ k j x p q. (law.once l l k j x p q).1);
+}
+  where
+    no_twice : (xs : List ℕ) → ((k j x : ℕ) → slice_get xs k ≡ Some x → slice_get xs j ≡ Some x → k ≡ j) → Once xs
+    no_twice [] same = tt
+    no_twice (x ∷ xs) same = (out (has x xs) refl, no_twice xs (λ k j y p q. let e : suc k ≡ suc j = same (suc k) (suc j) y p q in omega (arith, e)))
+      where
+        out : (b : Bool) → has x xs ≡ b → b ≡ false
+        out false e = refl
+        out true e = let r = has_place xs x e in let z : 0 ≡ suc r.0 = same 0 (suc r.0) x refl r.1 in absurd (omega (arith, z))
+
+module _ (a : Slots) (l serial i x : ℕ) (t : Ticket) (at : slice_get (slots_on a 0 l) i ≡ Some x) (is : slice_get a.payloads x ≡ Some t)
+    (rest : serial_on a l serial ≡ find (λ x. has_serial_in serial (slice_get a.payloads x)) (drop i (slots_on a 0 l))) where
+  pub serial_found : t.serial ≡ serial → Some x ≡ serial_on a l serial
+  serial_found e = sym (rest ∙ found_at (λ x. has_serial_in serial (slice_get a.payloads x)) (slots_on a 0 l) i x at (ap (has_serial_in serial) is ∙ eq-eqb t.serial serial e))
+
+  pub serial_next : (t.serial ≡ serial → ⊥) → serial_on a l serial ≡ find (λ x. has_serial_in serial (slice_get a.payloads x)) (drop (i + 1) (slots_on a 0 l))
+  serial_next ne = rest ∙ next_at (λ x. has_serial_in serial (slice_get a.payloads x)) (slots_on a 0 l) i x at (ap (has_serial_in serial) is ∙ ne_eqb t.serial serial ne)
+
+-- what a search along a list finds
+find_on : (p : ℕ → Bool) (xs : List ℕ) (x : ℕ) → find p xs ≡ Some x → (has x xs ≡ true) × (p x ≡ true)
+find_on p [] x e = absurd cc
+find_on p (y ∷ ys) x e = by (p y) refl e (find_on p ys x)
+  where
+    by : (b : Bool) → p y ≡ b → cond b (Some y) (find p ys) ≡ Some x → (find p ys ≡ Some x → (has x ys ≡ true) × (p x ≡ true)) → (has x (y ∷ ys) ≡ true) × (p x ≡ true)
+    by true is e rest = let k : y ≡ x = cc in (ap (λ b. b || has x ys) (eq-eqb y x k), ap p (sym k) ∙ is)
+    by false is e rest = let r = rest e in (either (eqb y x) (has x ys) r.0, r.1)
+      where
+        either : (b c : Bool) → c ≡ true → (b || c) ≡ true
+        either true c e = refl
+        either false c e = e
+
+find_off : (p : ℕ → Bool) (xs : List ℕ) (x : ℕ) → find p xs ≡ None → has x xs ≡ true → p x ≡ false
+find_off p [] x e h = absurd cc
+find_off p (y ∷ ys) x e h = by (p y) refl e (find_off p ys x)
+  where
+    by : (b : Bool) → p y ≡ b → cond b (Some y) (find p ys) ≡ None → (find p ys ≡ None → has x ys ≡ true → p x ≡ false) → p x ≡ false
+    by true is e rest = absurd cc
+    by false is e rest = elim (cases_eq y x) [
+      | inl k ↦ ap p (sym k) ∙ is
+      | inr ne ↦ rest e (ap (λ b. b || has x ys) (sym (ne_eqb y x ne)) ∙ h)
+    ]
+
+live_of : (p q r : Bool) → (p ≡ true) ⊎ ((q ≡ true) ⊎ (r ≡ true)) → (p || (q || r)) ≡ true
+live_of true q r h = refl
+live_of false true r h = refl
+live_of false false true h = refl
+live_of false false false h = elim h [ inl e ↦ e | inr k ↦ elim k [ inl e ↦ e | inr e ↦ e ] ]
+
+abbrev live_for_list : Slots → GroupLists → ℕ → ℕ → Type 0
+live_for_list a g l x = is_on a 0 l x ≡ true → is_live a g x ≡ true
+
+pub on_queued : (a : Slots) (g : GroupLists) (x : ℕ) → is_on a 0 g.queued x ≡ true → is_live a g x ≡ true
+on_queued a g x e = live_of (is_on a 0 g.queued x) (is_on a 0 g.running x) (is_on a 0 g.settled x) (inl e)
+
+pub on_running : (a : Slots) (g : GroupLists) (x : ℕ) → is_on a 0 g.running x ≡ true → is_live a g x ≡ true
+on_running a g x e = live_of (is_on a 0 g.queued x) (is_on a 0 g.running x) (is_on a 0 g.settled x) (inr (inl e))
+
+pub on_settled : (a : Slots) (g : GroupLists) (x : ℕ) → is_on a 0 g.settled x ≡ true → is_live a g x ≡ true
+on_settled a g x e = live_of (is_on a 0 g.queued x) (is_on a 0 g.running x) (is_on a 0 g.settled x) (inr (inr e))
+
+pub serial_at : (a : Slots) (g : GroupLists) (l serial x : ℕ) → live_for_list a g l x → Some x ≡ serial_on a l serial → has_serial_in serial (ticket_at a g x) ≡ true
+serial_at a g l serial x live e =
+    let r = find_on (λ x. has_serial_in serial (slice_get a.payloads x)) (slots_on a 0 l) x (sym e) in
+    ap (λ b. has_serial_in serial (if b then slice_get a.payloads x else None)) (live r.0) ∙ r.1
+
+pub serial_none : (a : Slots) (g : GroupLists) (serial : ℕ) → None ≡ serial_on a g.queued serial → None ≡ serial_on a g.running serial → None ≡ serial_on a g.settled serial → (x : ℕ) → has_serial_in serial (ticket_at a g x) ≡ false
+serial_none a g serial q r s x = by (is_on a 0 g.queued x) (is_on a 0 g.running x) (is_on a 0 g.settled x) refl refl refl
+  where
+    off : (l : ℕ) → None ≡ serial_on a l serial → is_on a 0 l x ≡ true → has_serial_in serial (slice_get a.payloads x) ≡ false
+    off l e h = find_off (λ x. has_serial_in serial (slice_get a.payloads x)) (slots_on a 0 l) x (sym e) h
+
+    by : (b c d : Bool) → is_on a 0 g.queued x ≡ b → is_on a 0 g.running x ≡ c → is_on a 0 g.settled x ≡ d → has_serial_in serial (if (b || (c || d)) then slice_get a.payloads x else None) ≡ false
+    by true c d e f h = off g.queued q e
+    by false true d e f h = off g.running r f
+    by false false true e f h = off g.settled s h
+    by false false false e f h = refl
+
+pub not_past : (xs : List ℕ) (i : ℕ) → i < length xs → None ≡ slice_get xs i → ⊥
+not_past [] i lt e = absurd (omega (arith, lt))
+not_past (y ∷ ys) zero lt e = absurd cc
+not_past (y ∷ ys) (suc i) lt e = not_past ys i (omega (arith, lt)) e

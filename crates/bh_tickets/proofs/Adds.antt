@@ -1,0 +1,205 @@
+-- A ticket comes.
+use Rattle.std.proofs.Common.{◌≡◌, ℕ, zero, suc, ◌+◌, ◌<◌, ◌≤◌, inl, inr, Bool, true, false, List, [], ◌∷◌, ◌++◌, length, Option, Some, None, refl, ◌∙◌, sym, ap, subst, arith}
+use Rattle.std.specs.Prelude.{◌||◌, ◌≢◌, eqb, slice_get, is_some, if◌then◌else◌}
+use Rattle.std.proofs.lemmas.Bool.{cases_eq, eq-eqb, ne_eqb}
+use Rattle.bh_base.specs.declared.ticket.Ticket.{Ticket}
+use Rattle.bh_base.specs.declared.ticket.TicketState.{TicketState}
+use Rattle.bh_base.specs.Tickets.{is_queued, is_in_fallback, is_kept}
+use Rattle.bh_index_lists.specs.Lists.{without}
+use Rattle.bh_cache.specs.declared.lists.GroupLists.{GroupLists}
+use Rattle.bh_tickets.specs.declared.group_slots.GroupSlots.{GroupSlots}
+use Rattle.bh_slot_arena.specs.Slots.{lists_in, slots_on, with_payload, with_moved}
+use Rattle.bh_cache.specs.Slots.{Slots, has, is_on, is_live_list, is_live, is_owned, ticket_at, list_for, serial_in, InOrder, count_below, has_one, one, IsArena}
+use Rattle.bh_tickets.specs.GroupSlots.{IsNumbered, IsGroupSlots, CanAdd, IsAdded, count_at, counted_in, is_any, is_busy, may_go}
+use Rattle.bh_tickets.specs.declared.group_slots.Needless.TheVariants as needless
+use Rattle.bh_cache.proofs.Order.{order_same, order_without, order_append, front_on, front_none, count_le, count_same}
+use Rattle.bh_cache.proofs.Counts.{count_point}
+use Rattle.bh_tickets.proofs.Touched.{IsTouched, touched_both, payload_other, payload_slot, at_other, at_slot, touched_arena, touched_frame, owned_same, has_without, list_to}
+use Rattle.bh_tickets.proofs.Own.{come_arranged, come_tickets, live_for}
+use Rattle.bh_tickets.proofs.Others.{each_list, own_for}
+
+-- ---- tickets lie in live slots
+
+pub payload_some : (ps : List Ticket) (y : ℕ) → y < length ps → is_some (slice_get ps y) ≡ true
+payload_some [] y lt = absurd (omega (arith, lt))
+payload_some (p ∷ ps) zero lt = refl
+payload_some (p ∷ ps) (suc y) lt = payload_some ps y (omega (arith, lt))
+
+pub live_within : (a : Slots) (g : GroupLists) (x : ℕ) → IsArena a 0 → is_live a g x ≡ true → x < length a.payloads
+live_within a g x arena e = by (is_on a 0 g.queued x) (is_on a 0 g.running x) (is_on a 0 g.settled x) refl refl refl e
+  where
+    by : (p q r : Bool) → is_on a 0 g.queued x ≡ p → is_on a 0 g.running x ≡ q → is_on a 0 g.settled x ≡ r → (p || (q || r)) ≡ true → x < length a.payloads
+    by true q r i j k e = arena.within g.queued x i
+    by false true r i j k e = arena.within g.running x j
+    by false false true i j k e = arena.within g.settled x k
+    by false false false i j k e = absurd cc
+
+pub any_is : (o : Option Ticket) → has_one is_any o ≡ is_some o
+any_is None = refl
+any_is (Some t) = refl
+
+pub live_is : (a : Slots) (g : GroupLists) (x : ℕ) → IsArena a 0 → has_one is_any (ticket_at a g x) ≡ is_live a g x
+live_is a g x arena = by (is_live a g x) refl
+  where
+    by : (b : Bool) → is_live a g x ≡ b → has_one is_any (if b then slice_get a.payloads x else None) ≡ b
+    by true e = any_is (slice_get a.payloads x) ∙ payload_some a.payloads x (live_within a g x arena e)
+    by false e = refl
+
+-- where no slot is free, all are taken
+pub all_taken : (a : Slots) (s : GroupSlots) → IsArena a 0 → IsGroupSlots a s → slice_get (slots_on a 0 s.lists.free) 0 ≡ None → s.taken ≡ s.room
+all_taken a s arena group none =
+    group.taken
+    ∙ count_same (λ x. has_one is_any (ticket_at a s.lists x)) (is_owned a s.lists) (length a.payloads)
+    (λ x. live_is a s.lists x arena ∙ sym (ap (λ xs. has x xs || is_live a s.lists x) (front_none (slots_on a 0 s.lists.free) none)))
+    ∙ group.slots
+
+-- a slot that is free has no ticket
+pub free_slot : (a : Slots) (s : GroupSlots) (x : ℕ) → IsArena a 0 → IsGroupSlots a s → is_on a 0 s.lists.free x ≡ true → ticket_at a s.lists x ≡ None
+free_slot a s x arena group on = by (is_on a 0 s.lists.queued x) (is_on a 0 s.lists.running x) (is_on a 0 s.lists.settled x) refl refl refl
+  where
+    by : (p q r : Bool) → is_on a 0 s.lists.queued x ≡ p → is_on a 0 s.lists.running x ≡ q → is_on a 0 s.lists.settled x ≡ r → (if (p || (q || r)) then slice_get a.payloads x else None) ≡ None
+    by true q r i j k = let e : s.lists.free ≡ s.lists.queued = arena.apart s.lists.free s.lists.queued x on i in absurd (omega (arith, e, group.numbered.queued))
+    by false true r i j k = let e : s.lists.free ≡ s.lists.running = arena.apart s.lists.free s.lists.running x on j in absurd (omega (arith, e, group.numbered.running))
+    by false false true i j k = let e : s.lists.free ≡ s.lists.settled = arena.apart s.lists.free s.lists.settled x on k in absurd (omega (arith, e, group.numbered.settled))
+    by false false false i j k = refl
+
+-- no count is more than that of all tickets
+pub count_few : (a : Slots) (s : GroupSlots) (q : Ticket → Bool) → IsGroupSlots a s → count_at a s.lists q ≤ s.taken
+count_few a s q group = omega (arith, group.taken, count_le (λ x. has_one q (ticket_at a s.lists x)) (λ x. has_one is_any (ticket_at a s.lists x)) (length a.payloads) (λ x e. any (ticket_at a s.lists x) e))
+  where
+    any : (o : Option Ticket) → has_one q o ≡ true → has_one is_any o ≡ true
+    any None e = absurd cc
+    any (Some t) e = refl
+
+or_first : (b c : Bool) → b ≡ true → (b || c) ≡ true
+or_first b c e = ap (λ d. d || c) e
+
+or_second : (b c : Bool) → c ≡ true → (b || c) ≡ true
+or_second true c e = refl
+or_second false c e = e
+
+module _ (a b : Slots) (s : GroupSlots) (x : ℕ) (v : Ticket) (arena : IsArena a 0) (group : IsGroupSlots a s) (front : slice_get (slots_on a 0 s.lists.free) 0 ≡ Some x) (can : CanAdd s v)
+    (is : b ≡ with_moved 0 x (list_for s.lists v.state) (with_payload x v a)) where
+  on : is_on a 0 s.lists.free x ≡ true
+  on = front_on x (slots_on a 0 s.lists.free) front
+
+  within : x < length a.payloads
+  within = arena.within s.lists.free x on
+
+  was : ticket_at a s.lists x ≡ None
+  was = free_slot a s x arena group on
+
+  there : list_for s.lists v.state < length (lists_in a 0)
+  there = each_list (λ l. l < length (lists_in a 0)) s.lists (omega (arith, group.there, group.numbered.queued, group.numbered.settled)) (omega (arith, group.there, group.numbered.running, group.numbered.settled)) group.there v.state
+
+  touched : IsTouched a b x (list_for s.lists v.state) v
+  touched = subst (λ (z : Slots). IsTouched a z x (list_for s.lists v.state) v) (sym is) (touched_both a x (list_for s.lists v.state) v arena within there)
+
+  away : (y : ℕ) → has y (without x (slots_on a 0 s.lists.queued)) ≡ true → (y ≡ x → ⊥) × (has y (slots_on a 0 s.lists.queued) ≡ true)
+  away y i = elim (cases_eq y x) [
+    | inl e ↦ let k : false ≡ true = sym (has_without y x (slots_on a 0 s.lists.queued) ∙ ap (λ c. if c then false else has y (slots_on a 0 s.lists.queued)) (eq-eqb y x e)) ∙ i in cc
+    | inr ne ↦ (ne, sym (has_without y x (slots_on a 0 s.lists.queued) ∙ ap (λ c. if c then false else has y (slots_on a 0 s.lists.queued)) (ne_eqb y x ne)) ∙ i)
+  ]
+
+  rest : InOrder b.payloads (without x (slots_on a 0 s.lists.queued))
+  rest = order_same a.payloads b.payloads (without x (slots_on a 0 s.lists.queued)) (λ y i. ap serial_in (payload_other a b x (list_for s.lists v.state) v touched y (away y i).0)) (order_without a.payloads x (slots_on a 0 s.lists.queued) group.arranged.order)
+
+  -- the serials of those that wait are less
+  less : (y : ℕ) → has y (without x (slots_on a 0 s.lists.queued)) ≡ true → serial_in (slice_get b.payloads y) < serial_in (slice_get b.payloads x)
+  less y i =
+      let k = away y i in
+      let live : is_live a s.lists y ≡ true = or_first (is_on a 0 s.lists.queued y) (is_on a 0 s.lists.running y || is_on a 0 s.lists.settled y) k.1 in
+      let same : slice_get b.payloads y ≡ slice_get a.payloads y = payload_other a b x (list_for s.lists v.state) v touched y k.0 in
+      let lt : serial_in (slice_get a.payloads y) < s.next = by (slice_get a.payloads y) refl (payload_some a.payloads y (live_within a s.lists y arena live)) live in
+      let e : serial_in (slice_get b.payloads x) ≡ s.next = ap serial_in (payload_slot a b x (list_for s.lists v.state) v touched) ∙ can.serial in
+      omega (arith, lt, e, ap serial_in same)
+    where
+      by : (o : Option Ticket) → slice_get a.payloads y ≡ o → is_some o ≡ true → is_live a s.lists y ≡ true → serial_in o < s.next
+      by None e some live = absurd cc
+      by (Some t) e some live = group.arranged.below y t (ap (λ c. if c then slice_get a.payloads y else None) live ∙ e)
+
+  order : InOrder b.payloads (slots_on b 0 s.lists.queued)
+  order = elim (cases_eq s.lists.queued (list_for s.lists v.state)) [
+    | inl e ↦
+        let at_end : slots_on b 0 s.lists.queued ≡ without x (slots_on a 0 s.lists.queued) ++ x ∷ [] =
+        ap (λ (z : Slots). slots_on z 0 s.lists.queued) is ∙ ap (λ l. slots_on (with_moved 0 x l (with_payload x v a)) 0 s.lists.queued) (sym e) ∙ list_to (with_payload x v a) x s.lists.queued arena.wide (subst (λ l. l < length (lists_in a 0)) (sym e) there) in
+        subst (InOrder b.payloads) (sym at_end) (order_append b.payloads x (without x (slots_on a 0 s.lists.queued)) rest less)
+    | inr ne ↦ subst (InOrder b.payloads) (sym (touched.left s.lists.queued ne)) rest
+  ]
+
+  now_here : ticket_at b s.lists x ≡ Some v
+  now_here = at_slot a b x (list_for s.lists v.state) v touched s.lists ∙ ap (λ c. if c then Some v else None) (live_for s.lists v.state)
+
+  else_same : (y : ℕ) → (y ≡ x → ⊥) → ticket_at b s.lists y ≡ ticket_at a s.lists y
+  else_same y ne = at_other a b x (list_for s.lists v.state) v touched s.lists y ne
+
+  recount : (q : Ticket → Bool) → count_at b s.lists q ≡ count_at a s.lists q + one (q v)
+  recount q =
+      let k : one (has_one q (ticket_at a s.lists x)) ≡ 0 = ap (λ o. one (has_one q o)) was in
+      let l : one (has_one q (ticket_at b s.lists x)) ≡ one (q v) = ap (λ o. one (has_one q o)) now_here in
+      let m : count_at b s.lists q ≡ count_below (length a.payloads) (λ y. has_one q (ticket_at b s.lists y)) = ap (λ n. count_below n (λ y. has_one q (ticket_at b s.lists y))) touched.slots in
+      omega (arith, k, l, m, count_point (λ y. has_one q (ticket_at a s.lists y)) (λ y. has_one q (ticket_at b s.lists y)) (length a.payloads) x within (λ y ne. ap (has_one q) (else_same y ne)))
+
+  module _ (r : GroupSlots) (made : r ≡ record (counted_in v s) { taken = s.taken + 1; next = s.next + 1 }) where
+    needed : (y : ℕ) (u : Ticket) → ticket_at b s.lists y ≡ Some u → is_kept u ≡ false → may_go s.needless y ≡ true
+    needed y u e k = elim (cases_eq y x) [
+      | inl q ↦
+          let f : Some u ≡ Some v = sym e ∙ ap (ticket_at b s.lists) q ∙ now_here in
+          let g : u ≡ v = cc in
+          let h : true ≡ false = sym can.needed ∙ ap is_kept (sym g) ∙ k in cc
+      | inr ne ↦ group.needed y u (sym (else_same y ne) ∙ e) k
+    ]
+
+    noted_at : (y : ℕ) → s.needless ≡ needless.One y → is_some (ticket_at b s.lists y) ≡ true
+    noted_at y e = elim (cases_eq y x) [
+      | inl q ↦ ap (λ z. is_some (ticket_at b s.lists z)) q ∙ ap is_some now_here
+      | inr ne ↦ ap is_some (else_same y ne) ∙ group.noted y e
+    ]
+
+    whole : IsGroupSlots b (record (counted_in v s) { taken = s.taken + 1; next = s.next + 1 })
+    whole = record {
+      numbered = group.numbered;
+      there = omega (arith, group.there, touched.count);
+      arranged = come_arranged a b s.lists x s.next v group.arranged within was can.serial touched order;
+      slots = ap (λ n. count_below n (is_owned b s.lists)) touched.slots
+          ∙ count_same (is_owned b s.lists) (is_owned a s.lists) (length a.payloads) (owned_same a b x (list_for s.lists v.state) v touched s.lists (or_first (is_on a 0 s.lists.free x) (is_live a s.lists x) on) (or_second (eqb s.lists.free (list_for s.lists v.state)) (is_live_list s.lists (list_for s.lists v.state)) (live_for s.lists v.state)))
+          ∙ group.slots;
+      few = group.few;
+      taken = omega (arith, group.taken, recount is_any);
+      busy = omega (arith, group.busy, recount is_busy);
+      queued = omega (arith, group.queued, recount is_queued);
+      in_fallback = omega (arith, group.in_fallback, recount is_in_fallback);
+      needed = needed;
+      noted = noted_at;
+    }
+
+    pub add_is : IsAdded a s v b r
+    add_is = record {
+      change = record {
+        arena = touched_arena a b x (list_for s.lists v.state) v touched arena within;
+        group = subst (IsGroupSlots b) (sym made) whole;
+        frame = touched_frame a b x (list_for s.lists v.state) v touched s.lists s.lists.free arena on (record { from = omega arith; to = omega (arith, group.numbered.settled) }) (own_for s.lists group.numbered v.state);
+        limit = touched.limit;
+        lists = ap (λ (z : GroupSlots). z.lists) made;
+        room = ap (λ (z : GroupSlots). z.room) made;
+      };
+      next = ap (λ (z : GroupSlots). z.next) made;
+      items = come_tickets a b s.lists x s.next v group.arranged within was can.serial touched;
+    }
+
+-- no list for a state is the free one
+pub not_free : (g : GroupLists) (r : TicketState) → IsNumbered g → g.free ≢ list_for g r
+not_free g r n = each_list (λ l. g.free ≢ l) g (λ e. absurd (omega (arith, e, n.queued))) (λ e. absurd (omega (arith, e, n.running))) (λ e. absurd (omega (arith, e, n.settled))) r
+
+pub not_full : (a : Slots) (s : GroupSlots) (v : Ticket) → IsArena a 0 → IsGroupSlots a s → CanAdd s v → slice_get (slots_on a 0 s.lists.free) 0 ≡ None → ⊥
+not_full a s v arena group can none = absurd (omega (arith, can.room, all_taken a s arena group none))
+
+-- the list for a state is there
+pub to_list : (a : Slots) (s : GroupSlots) (to : ℕ) (r : TicketState) → IsGroupSlots a s → to ≡ list_for s.lists r → to < length (lists_in a 0)
+to_list a s to r group is = subst (λ l. l < length (lists_in a 0)) (sym is) (each_list (λ l. l < length (lists_in a 0)) s.lists (omega (arith, group.there, group.numbered.queued, group.numbered.settled)) (omega (arith, group.there, group.numbered.running, group.numbered.settled)) group.there r)
+
+-- as the code reads it
+pub add_from : (a b : Slots) (s : GroupSlots) (x to : ℕ) (v : Ticket) → IsArena a 0 → IsGroupSlots a s → slice_get (slots_on a 0 s.lists.free) 0 ≡ Some x → CanAdd s v → to ≡ list_for s.lists v.state
+    → (s.lists.free ≢ to → b ≡ with_moved 0 x to (with_payload x v a)) → (r : GroupSlots) → r ≡ record (counted_in v s) { taken = s.taken + 1; next = s.next + 1 } → IsAdded a s v b r
+add_from a b s x to v arena group front can is moved r made =
+    add_is a b s x v arena group front can (moved (λ e. not_free s.lists v.state group.numbered (e ∙ is)) ∙ ap (λ l. with_moved 0 x l (with_payload x v a)) is) r made

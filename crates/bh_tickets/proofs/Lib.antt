@@ -1,0 +1,16 @@
+pub mod Changed
+pub mod Touched
+pub mod Own
+pub mod Others
+pub mod Puts
+pub mod Adds
+pub mod Releases
+pub mod Whole
+pub mod Finds
+pub mod Times
+pub mod Along
+pub mod Swept
+pub mod AddedGroup
+pub mod Exists
+pub mod Uncached
+pub mod InPlace

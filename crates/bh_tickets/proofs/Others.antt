@@ -1,0 +1,162 @@
+-- The other groups stay as they were.
+use Rattle.std.proofs.Common.{◌≡◌, ℕ, zero, suc, ◌≤◌, inl, inr, Bool, true, false, length, Option, None, refl, ◌∙◌, sym, ap, subst, arith}
+use Rattle.std.specs.Prelude.{◌||◌, slice_get, is_some, if◌then◌else◌}
+use Rattle.bh_base.specs.declared.ticket.Ticket.{Ticket}
+use Rattle.bh_base.specs.declared.ticket.TicketState.{TicketState}
+use Rattle.bh_base.specs.declared.ticket.TicketState.TheVariants as ticket
+use Rattle.bh_base.specs.Tickets.{is_queued, is_in_fallback}
+use Rattle.bh_cache.specs.declared.lists.GroupLists.{GroupLists}
+use Rattle.bh_tickets.specs.declared.group_slots.GroupSlots.{GroupSlots}
+use Rattle.std.proofs.lemmas.Bool.{cases_eq}
+use Rattle.bh_cache.specs.Listed.{listed, put_in}
+use Rattle.bh_tickets.specs.Whole.{group_of, slotted, slot_in}
+use Rattle.bh_slot_arena.specs.Slots.{lists_in, slots_on}
+use Rattle.bh_cache.specs.Slots.{Slots, has, is_on, is_live, is_owned, ticket_at, tickets_of, list_for, serial_in, InOrder, count_below, IsOwn, IsApart, IsFrame, IsArena, has_one, one}
+use Rattle.bh_tickets.specs.GroupSlots.{IsNumbered, IsArranged, IsGroupSlots, count_at, is_any, is_busy}
+use Rattle.bh_cache.proofs.Order.{order_same, count_same}
+
+-- what holds of the three lists holds of that for a state
+pub each_list : (P : ℕ → Type 0) (g : GroupLists) → P g.queued → P g.running → P g.settled → (s : TicketState) → P (list_for g s)
+each_list P g p q r ticket.Queued = p
+each_list P g p q r ticket.Running = q
+each_list P g p q r (ticket.NeedsFallback c) = r
+each_list P g p q r (ticket.InFallback c) = r
+each_list P g p q r (ticket.Answered c) = r
+
+pub own_for : (g : GroupLists) → IsNumbered g → (s : TicketState) → IsOwn g (list_for g s)
+own_for g n s = each_list (IsOwn g) g (record { from = omega (arith, n.queued); to = omega (arith, n.queued, n.settled) }) (record { from = omega (arith, n.running); to = omega (arith, n.running, n.settled) }) (record { from = omega (arith, n.settled); to = omega arith }) s
+
+pub frame_refl : (g : GroupLists) (a : Slots) → IsFrame g a a
+frame_refl g a = record { slots = refl; count = refl; lists = λ l out. refl; payloads = λ l x out on. refl }
+
+pub frame_trans : (g : GroupLists) (a b c : Slots) → IsFrame g a b → IsFrame g b c → IsFrame g a c
+frame_trans g a b c f h = record {
+  slots = h.slots ∙ f.slots;
+  count = h.count ∙ f.count;
+  lists = λ l out. h.lists l out ∙ f.lists l out;
+  payloads = λ l x out on. h.payloads l x out (ap (has x) (f.lists l out) ∙ on) ∙ f.payloads l x out on;
+}
+
+-- the lists of the group, and what lies on them, are as before
+pub record IsSame (g : GroupLists) (a b : Slots) : Type 0 where
+  pub slots : length a.payloads ≤ length b.payloads
+  pub count : length (lists_in a 0) ≤ length (lists_in b 0)
+  pub lists : (l : ℕ) → IsOwn g l → slots_on b 0 l ≡ slots_on a 0 l
+  pub payloads : (l x : ℕ) → IsOwn g l → is_on a 0 l x ≡ true → slice_get b.payloads x ≡ slice_get a.payloads x
+
+-- as for each group but the one that changed
+pub frame_same : (g h : GroupLists) (a b : Slots) → IsFrame g a b → IsApart g h → IsSame h a b
+frame_same g h a b frame apart = record {
+  slots = omega (arith, frame.slots);
+  count = omega (arith, frame.count);
+  lists = λ l own. frame.lists l (λ other. apart.apart l other own);
+  payloads = λ l x own on. frame.payloads l x (λ other. apart.apart l other own) on;
+}
+
+-- numbers of which none passes count for nothing
+count_past : (p : ℕ → Bool) (n m : ℕ) → n ≤ m → ((x : ℕ) → n ≤ x → p x ≡ false) → count_below m p ≡ count_below n p
+count_past p n zero le none = let e : n ≡ 0 = omega (arith, le) in sym (ap (λ z. count_below z p) e)
+count_past p n (suc m) le none = elim (cases_eq n (suc m)) [
+  | inl e ↦ sym (ap (λ z. count_below z p) e)
+  | inr ne ↦ let k : one (p m) ≡ 0 = ap one (none m (omega (arith, le, ne))) in omega (arith, k, count_past p n m (omega (arith, le, ne)) none)
+]
+
+listed_past : (at : ℕ → Option Ticket) (n m : ℕ) → n ≤ m → ((x : ℕ) → n ≤ x → at x ≡ None) → listed at m ≡ listed at n
+listed_past at n zero le none = let e : n ≡ 0 = omega (arith, le) in sym (ap (listed at) e)
+listed_past at n (suc m) le none = elim (cases_eq n (suc m)) [
+  | inl e ↦ sym (ap (listed at) e)
+  | inr ne ↦ ap (λ o. put_in o (listed at m)) (none m (omega (arith, le, ne))) ∙ listed_past at n m (omega (arith, le, ne)) none
+]
+
+slotted_past : (at : ℕ → Option Ticket) (n m : ℕ) → n ≤ m → ((x : ℕ) → n ≤ x → at x ≡ None) → slotted at m ≡ slotted at n
+slotted_past at n zero le none = let e : n ≡ 0 = omega (arith, le) in sym (ap (slotted at) e)
+slotted_past at n (suc m) le none = elim (cases_eq n (suc m)) [
+  | inl e ↦ sym (ap (slotted at) e)
+  | inr ne ↦ ap (λ o. slot_in m o (slotted at m)) (none m (omega (arith, le, ne))) ∙ slotted_past at n m (omega (arith, le, ne)) none
+]
+
+module _ (a b : Slots) (h : GroupSlots) (same : IsSame h.lists a b) (arena : IsArena a 0) (group : IsGroupSlots a h) where
+  n : IsNumbered h.lists
+  n = group.numbered
+
+  own_free : IsOwn h.lists h.lists.free
+  own_free = record { from = omega arith; to = omega (arith, n.settled) }
+
+  own_queued : IsOwn h.lists h.lists.queued
+  own_queued = record { from = omega (arith, n.queued); to = omega (arith, n.queued, n.settled) }
+
+  own_running : IsOwn h.lists h.lists.running
+  own_running = record { from = omega (arith, n.running); to = omega (arith, n.running, n.settled) }
+
+  own_settled : IsOwn h.lists h.lists.settled
+  own_settled = record { from = omega (arith, n.settled); to = omega arith }
+
+  on_same : (l x : ℕ) → IsOwn h.lists l → is_on b 0 l x ≡ is_on a 0 l x
+  on_same l x own = ap (has x) (same.lists l own)
+
+  live_same : (x : ℕ) → is_live b h.lists x ≡ is_live a h.lists x
+  live_same x = λ i. on_same h.lists.queued x own_queued i || (on_same h.lists.running x own_running i || on_same h.lists.settled x own_settled i)
+
+  owned_alike : (x : ℕ) → is_owned b h.lists x ≡ is_owned a h.lists x
+  owned_alike x = λ i. on_same h.lists.free x own_free i || live_same x i
+
+  pub at_same : (x : ℕ) → ticket_at b h.lists x ≡ ticket_at a h.lists x
+  at_same x = ap (λ c. if c then slice_get b.payloads x else None) (live_same x)
+      ∙ by (is_on a 0 h.lists.queued x) (is_on a 0 h.lists.running x) (is_on a 0 h.lists.settled x) refl refl refl
+    where
+      by : (p q r : Bool) → is_on a 0 h.lists.queued x ≡ p → is_on a 0 h.lists.running x ≡ q → is_on a 0 h.lists.settled x ≡ r → (if (p || (q || r)) then slice_get b.payloads x else None) ≡ (if (p || (q || r)) then slice_get a.payloads x else None)
+      by true q r e f k = same.payloads h.lists.queued x own_queued e
+      by false true r e f k = same.payloads h.lists.running x own_running f
+      by false false true e f k = same.payloads h.lists.settled x own_settled k
+      by false false false e f k = refl
+
+  -- past the slots that there were nothing is the group's
+  off : (l x : ℕ) → length a.payloads ≤ x → is_on a 0 l x ≡ false
+  off l x past = by (is_on a 0 l x) refl
+    where
+      by : (c : Bool) → is_on a 0 l x ≡ c → c ≡ false
+      by false e = refl
+      by true e = absurd (omega (arith, past, arena.within l x e))
+
+  none_past : (x : ℕ) → length a.payloads ≤ x → ticket_at a h.lists x ≡ None
+  none_past x past = ap (λ c. if c then slice_get a.payloads x else None) (λ i. off h.lists.queued x past i || (off h.lists.running x past i || off h.lists.settled x past i))
+
+  owned_past : (x : ℕ) → length a.payloads ≤ x → is_owned a h.lists x ≡ false
+  owned_past x past = λ i. off h.lists.free x past i || (off h.lists.queued x past i || (off h.lists.running x past i || off h.lists.settled x past i))
+
+  pub tickets_same : tickets_of b h.lists ≡ tickets_of a h.lists
+  tickets_same = (λ i. listed (λ x. at_same x i) (length b.payloads)) ∙ listed_past (ticket_at a h.lists) (length a.payloads) (length b.payloads) same.slots none_past
+
+  pub slotted_same : slotted (ticket_at b h.lists) (length b.payloads) ≡ slotted (ticket_at a h.lists) (length a.payloads)
+  slotted_same = (λ i. slotted (λ x. at_same x i) (length b.payloads)) ∙ slotted_past (ticket_at a h.lists) (length a.payloads) (length b.payloads) same.slots none_past
+
+  pub count_alike : (q : Ticket → Bool) → count_at b h.lists q ≡ count_at a h.lists q
+  count_alike q = count_same (λ x. has_one q (ticket_at b h.lists x)) (λ x. has_one q (ticket_at a h.lists x)) (length b.payloads) (λ x. ap (has_one q) (at_same x))
+      ∙ count_past (λ x. has_one q (ticket_at a h.lists x)) (length a.payloads) (length b.payloads) same.slots (λ x past. ap (has_one q) (none_past x past))
+
+  arranged_same : IsArranged b h.lists h.next
+  arranged_same = record {
+    distinct = λ x y t u p q e. group.arranged.distinct x y t u (sym (at_same x) ∙ p) (sym (at_same y) ∙ q) e;
+    below = λ x t p. group.arranged.below x t (sym (at_same x) ∙ p);
+    placed = λ x t p. on_same (list_for h.lists t.state) x (own_for h.lists n t.state) ∙ group.arranged.placed x t (sym (at_same x) ∙ p);
+    order = subst (InOrder b.payloads) (sym (same.lists h.lists.queued own_queued))
+        (order_same a.payloads b.payloads (slots_on a 0 h.lists.queued) (λ y i. ap serial_in (same.payloads h.lists.queued y own_queued i)) group.arranged.order);
+  }
+
+  pub slots_same : IsGroupSlots b h
+  slots_same = record {
+    numbered = group.numbered;
+    there = omega (arith, group.there, same.count);
+    arranged = arranged_same;
+    slots = count_same (is_owned b h.lists) (is_owned a h.lists) (length b.payloads) owned_alike ∙ count_past (is_owned a h.lists) (length a.payloads) (length b.payloads) same.slots owned_past ∙ group.slots;
+    few = group.few;
+    taken = group.taken ∙ sym (count_alike is_any);
+    busy = group.busy ∙ sym (count_alike is_busy);
+    queued = group.queued ∙ sym (count_alike is_queued);
+    in_fallback = group.in_fallback ∙ sym (count_alike is_in_fallback);
+    needed = λ x t p. group.needed x t (sym (at_same x) ∙ p);
+    noted = λ x e. ap is_some (at_same x) ∙ group.noted x e;
+  }
+
+  pub group_same : group_of b h ≡ group_of a h
+  group_same = λ i. record { items = tickets_same i; room = h.room; next = h.next; slots = slotted_same i }

@@ -1,0 +1,275 @@
+-- One ticket of a group changes.
+use Rattle.std.proofs.Common.{◌≡◌, ℕ, zero, suc, ◌+◌, ◌<◌, ◌≤◌, ◌⊎◌, inl, inr, Bool, true, false, length, Some, None, refl, ◌∙◌, sym, ap, subst, arith}
+use Rattle.std.specs.Prelude.{◌||◌, ◌≢◌, eqb, slice_get, is_some, if◌then◌else◌}
+use Rattle.std.proofs.lemmas.Bool.{cases_eq, eq-eqb}
+use Rattle.bh_base.specs.declared.ticket.Ticket.{Ticket}
+use Rattle.bh_base.specs.declared.ticket.TicketState.{TicketState}
+use Rattle.bh_base.specs.declared.ticket.TicketState.TheVariants as ticket
+use Rattle.bh_base.specs.Tickets.{is_queued, is_in_fallback, is_kept}
+use Rattle.bh_cache.specs.declared.lists.GroupLists.{GroupLists}
+use Rattle.bh_tickets.specs.declared.group_slots.GroupSlots.{GroupSlots}
+use Rattle.bh_slot_arena.specs.Slots.{lists_in, slots_on, with_payload, with_moved}
+use Rattle.bh_cache.specs.Slots.{Slots, is_on, is_live_list, is_live, is_owned, ticket_at, list_for, serial_in, InOrder, count_below, has_one, one, IsArena}
+use Rattle.bh_tickets.specs.declared.group_slots.Needless.{Needless}
+use Rattle.bh_tickets.specs.declared.group_slots.Needless.TheVariants as needless
+use Rattle.bh_tickets.specs.GroupSlots.{IsNumbered, IsGroupSlots, CanPut, IsPut, count_at, counted_in, counted_out, is_any, is_busy, may_go, noted}
+use Rattle.bh_index_lists.specs.Lists.{without}
+use Rattle.bh_tickets.specs.Changes.{queued_in}
+use Rattle.bh_cache.proofs.Order.{order_same, order_without, count_le, count_same, one_le}
+use Rattle.bh_cache.proofs.Counts.{count_point}
+use Rattle.bh_tickets.proofs.Touched.{IsTouched, touched_both, touched_set, payload_other, payload_slot, at_other, at_slot, touched_arena, touched_frame, owned_same, get_within}
+use Rattle.bh_tickets.proofs.Own.{changed_arranged, changed_tickets, live_for}
+use Rattle.bh_tickets.proofs.Others.{own_for}
+
+-- a ticket of the group lies in a slot of the group
+pub held_at : (a : Slots) (g : GroupLists) (x : ℕ) (t : Ticket) → ticket_at a g x ≡ Some t → (is_live a g x ≡ true) × (slice_get a.payloads x ≡ Some t)
+held_at a g x t e = by (is_live a g x) refl e
+  where
+    by : (b : Bool) → is_live a g x ≡ b → (if b then slice_get a.payloads x else None) ≡ Some t → (is_live a g x ≡ true) × (slice_get a.payloads x ≡ Some t)
+    by true is e = (is, e)
+    by false is e = absurd (none e)
+      where
+        none : None ≡ Some t → ⊥
+        none e = cc
+
+pub within_slots : (a : Slots) (g : GroupLists) (x : ℕ) (t : Ticket) → ticket_at a g x ≡ Some t → x < length a.payloads
+within_slots a g x t e = get_within a.payloads x t (held_at a g x t e).1
+
+pub one_few : (b : Bool) → one b ≤ 1
+one_few true = omega arith
+one_few false = omega arith
+
+pub count_has : (p : ℕ → Bool) (n x : ℕ) → x < n → one (p x) ≤ count_below n p
+count_has p zero x lt = absurd (omega (arith, lt))
+count_has p (suc n) x lt = elim (cases_eq x n) [
+  | inl e ↦ let k : one (p x) ≡ one (p n) = ap (λ z. one (p z)) e in omega (arith, k)
+  | inr ne ↦ let k : one (p x) ≤ count_below n p = count_has p n x (omega (arith, lt, ne)) in omega (arith, k)
+]
+
+-- room for one more that passes
+pub count_room : (p q : ℕ → Bool) (n x : ℕ) → x < n → ((y : ℕ) → p y ≡ true → q y ≡ true) → q x ≡ true → count_below n p + 1 ≤ count_below n q + one (p x)
+count_room p q zero x lt h yes' = absurd (omega (arith, lt))
+count_room p q (suc n) x lt h yes' = elim (cases_eq x n) [
+  | inl e ↦
+      let k : one (p x) ≡ one (p n) = ap (λ z. one (p z)) e in
+      let l : one (q n) ≡ 1 = ap (λ z. one (q z)) (sym e) ∙ ap one yes' in
+      omega (arith, k, l, count_le p q n h)
+  | inr ne ↦ omega (arith, one_le (p n) (q n) (h n), count_room p q n x (omega (arith, lt, ne)) h yes')
+]
+
+or_right : (b c : Bool) → c ≡ true → (b || c) ≡ true
+or_right true c e = refl
+or_right false c e = e
+
+pub owned_if : (a : Slots) (g : GroupLists) (q : Ticket → Bool) (x : ℕ) → has_one q (ticket_at a g x) ≡ true → is_owned a g x ≡ true
+owned_if a g q x e = by (is_live a g x) refl e
+  where
+    by : (b : Bool) → is_live a g x ≡ b → has_one q (if b then slice_get a.payloads x else None) ≡ true → is_owned a g x ≡ true
+    by true is e = or_right (is_on a 0 g.free x) (is_live a g x) is
+    by false is e = absurd cc
+
+module _ (a : Slots) (s : GroupSlots) (x : ℕ) (t : Ticket) (group : IsGroupSlots a s) (here : ticket_at a s.lists x ≡ Some t) where
+  -- what is counted of the ticket is in the count
+  pub counted_at : (q : Ticket → Bool) → one (q t) ≤ count_at a s.lists q
+  counted_at q = subst (λ o. one (has_one q o) ≤ count_at a s.lists q) here (count_has (λ y. has_one q (ticket_at a s.lists y)) (length a.payloads) x (within_slots a s.lists x t here))
+
+  -- and it may pass in place of not passing
+  pub room_at : (q : Ticket → Bool) → count_at a s.lists q + 1 ≤ s.room + one (q t)
+  room_at q =
+      let k : one (has_one q (ticket_at a s.lists x)) ≡ one (q t) = ap (λ o. one (has_one q o)) here in
+      omega (
+        arith,
+        k,
+        group.slots,
+        count_room (λ y. has_one q (ticket_at a s.lists y)) (is_owned a s.lists) (length a.payloads) x (within_slots a s.lists x t here) (owned_if a s.lists q)
+            (or_right (is_on a 0 s.lists.free x) (is_live a s.lists x) (held_at a s.lists x t here).0),
+      )
+
+-- ---- the queue
+
+pub queued_list : (g : GroupLists) (s : TicketState) → IsNumbered g → g.queued ≡ list_for g s → s ≡ ticket.Queued
+queued_list g ticket.Queued n e = refl
+queued_list g ticket.Running n e = absurd (omega (arith, n.queued, n.running, e))
+queued_list g (ticket.NeedsFallback c) n e = absurd (omega (arith, n.queued, n.settled, e))
+queued_list g (ticket.InFallback c) n e = absurd (omega (arith, n.queued, n.settled, e))
+queued_list g (ticket.Answered c) n e = absurd (omega (arith, n.queued, n.settled, e))
+
+pub queued_state : (s : TicketState) → queued_in s ≡ true → s ≡ ticket.Queued
+queued_state ticket.Queued e = refl
+queued_state ticket.Running e = absurd cc
+queued_state (ticket.NeedsFallback c) e = absurd cc
+queued_state (ticket.InFallback c) e = absurd cc
+queued_state (ticket.Answered c) e = absurd cc
+
+-- a ticket waits afterwards only if it did before
+pub still_waits : (g : GroupLists) (t v : Ticket) → IsNumbered g → (is_queued v ≡ true → is_queued t ≡ true) → (list_for g t.state ≡ list_for g v.state → ⊥) → g.queued ≡ list_for g v.state → ⊥
+still_waits g t v n waits ne e =
+    let k : v.state ≡ ticket.Queued = queued_list g v.state n e in
+    let q : is_queued t ≡ true = waits (ap queued_in k) in
+    ne (ap (list_for g) (queued_state t.state q) ∙ e)
+
+-- ---- what may be needed no more
+
+may_go-noted : (x : ℕ) (n : Needless) → may_go (noted x n) x ≡ true
+may_go-noted x needless.Nothing = eq-eqb x x refl
+may_go-noted x (needless.One y) = by (eqb y x) refl
+  where
+    by : (b : Bool) → eqb y x ≡ b → may_go (if b then needless.One y else needless.Many) x ≡ true
+    by true e = e
+    by false e = refl
+may_go-noted x needless.Many = refl
+
+may_go-more : (x y : ℕ) (n : Needless) → may_go n y ≡ true → may_go (noted x n) y ≡ true
+may_go-more x y needless.Nothing e = absurd cc
+may_go-more x y (needless.One z) e = by (eqb z x)
+  where
+    by : (b : Bool) → may_go (if b then needless.One z else needless.Many) y ≡ true
+    by true = e
+    by false = refl
+may_go-more x y needless.Many e = refl
+
+-- another slot that is noted alone was noted before
+one_noted : (x y : ℕ) (n : Needless) → (y ≡ x → ⊥) → noted x n ≡ needless.One y → n ≡ needless.One y
+one_noted x y needless.Nothing ne e = let k : x ≡ y = cc in absurd (ne (sym k))
+one_noted x y (needless.One z) ne e = by (eqb z x) refl e
+  where
+    by : (b : Bool) → eqb z x ≡ b → (if b then needless.One z else needless.Many) ≡ needless.One y → needless.One z ≡ needless.One y
+    by true i f = f
+    by false i f = cc
+one_noted x y needless.Many ne e = cc
+
+module _ (a b : Slots) (s : GroupSlots) (x : ℕ) (t v : Ticket) (arena : IsArena a 0) (group : IsGroupSlots a s) (can : CanPut a s x v) (was : can.was ≡ t)
+    (same : list_for s.lists t.state ≡ list_for s.lists v.state → b ≡ with_payload x v a)
+    (moved : list_for s.lists t.state ≢ list_for s.lists v.state → b ≡ with_moved 0 x (list_for s.lists v.state) (with_payload x v a)) where
+  here : ticket_at a s.lists x ≡ Some t
+  here = can.here ∙ ap Some was
+
+  serial : v.serial ≡ t.serial
+  serial = can.serial ∙ ap (λ (u : Ticket). u.serial) was
+
+  lies : is_on a 0 (list_for s.lists t.state) x ≡ true
+  lies = group.arranged.placed x t here
+
+  to_there : (r : TicketState) → list_for s.lists r < length (lists_in a 0)
+  to_there ticket.Queued = omega (arith, group.there, group.numbered.queued, group.numbered.settled)
+  to_there ticket.Running = omega (arith, group.there, group.numbered.running, group.numbered.settled)
+  to_there (ticket.NeedsFallback c) = group.there
+  to_there (ticket.InFallback c) = group.there
+  to_there (ticket.Answered c) = group.there
+
+  pub touched : IsTouched a b x (list_for s.lists v.state) v
+  touched = elim (cases_eq (list_for s.lists t.state) (list_for s.lists v.state)) [
+    | inl e ↦ subst (λ (z : Slots). IsTouched a z x (list_for s.lists v.state) v) (sym (same e)) (touched_set a x (list_for s.lists v.state) v arena (subst (λ l. is_on a 0 l x ≡ true) e lies))
+    | inr ne ↦ subst (λ (z : Slots). IsTouched a z x (list_for s.lists v.state) v) (sym (moved ne)) (touched_both a x (list_for s.lists v.state) v arena (within_slots a s.lists x t here) (to_there v.state))
+  ]
+
+  serial_same : (y : ℕ) → serial_in (slice_get b.payloads y) ≡ serial_in (slice_get a.payloads y)
+  serial_same y = elim (cases_eq y x) [
+    | inl e ↦ ap (λ z. serial_in (slice_get b.payloads z)) e ∙ ap serial_in (payload_slot a b x (list_for s.lists v.state) v touched) ∙ serial ∙ sym (ap serial_in (held_at a s.lists x t here).1) ∙ ap (λ z. serial_in (slice_get a.payloads z)) (sym e)
+    | inr ne ↦ ap serial_in (payload_other a b x (list_for s.lists v.state) v touched y ne)
+  ]
+
+  queue_at : slots_on b 0 s.lists.queued ≡ slots_on a 0 s.lists.queued ⊎ slots_on b 0 s.lists.queued ≡ without x (slots_on a 0 s.lists.queued)
+  queue_at = elim (cases_eq (list_for s.lists t.state) (list_for s.lists v.state)) [
+    | inl e ↦ inl (ap (λ (z : Slots). slots_on z 0 s.lists.queued) (same e))
+    | inr ne ↦ inr (touched.left s.lists.queued (still_waits s.lists t v group.numbered (λ q. ap is_queued (sym was) ∙ can.waits q) ne))
+  ]
+
+  order : InOrder b.payloads (slots_on b 0 s.lists.queued)
+  order = elim queue_at [
+    | inl e ↦ subst (InOrder b.payloads) (sym e) (order_same a.payloads b.payloads (slots_on a 0 s.lists.queued) (λ y i. serial_same y) group.arranged.order)
+    | inr e ↦ subst (InOrder b.payloads) (sym e) (order_same a.payloads b.payloads (without x (slots_on a 0 s.lists.queued)) (λ y i. serial_same y) (order_without a.payloads x (slots_on a 0 s.lists.queued) group.arranged.order))
+  ]
+
+  now_here : ticket_at b s.lists x ≡ Some v
+  now_here = at_slot a b x (list_for s.lists v.state) v touched s.lists ∙ ap (λ c. if c then Some v else None) (live_for s.lists v.state)
+
+  is_v : (u : Ticket) → ticket_at b s.lists x ≡ Some u → u ≡ v
+  is_v u e = let k : Some u ≡ Some v = sym e ∙ now_here in cc
+
+  else_same : (y : ℕ) → (y ≡ x → ⊥) → ticket_at b s.lists y ≡ ticket_at a s.lists y
+  else_same y ne = at_other a b x (list_for s.lists v.state) v touched s.lists y ne
+
+  -- the counts
+  recount : (q : Ticket → Bool) → count_at b s.lists q + one (q t) ≡ count_at a s.lists q + one (q v)
+  recount q =
+      let k : one (has_one q (ticket_at a s.lists x)) ≡ one (q t) = ap (λ o. one (has_one q o)) here in
+      let l : one (has_one q (ticket_at b s.lists x)) ≡ one (q v) = ap (λ o. one (has_one q o)) now_here in
+      let m : count_at b s.lists q ≡ count_below (length a.payloads) (λ y. has_one q (ticket_at b s.lists y)) = ap (λ n. count_below n (λ y. has_one q (ticket_at b s.lists y))) touched.slots in
+      omega (arith, k, l, m, count_point (λ y. has_one q (ticket_at a s.lists y)) (λ y. has_one q (ticket_at b s.lists y)) (length a.payloads) x (within_slots a s.lists x t here) (λ y ne. ap (has_one q) (else_same y ne)))
+
+  owned_now : count_below (length b.payloads) (is_owned b s.lists) ≡ s.room
+  owned_now = ap (λ n. count_below n (is_owned b s.lists)) touched.slots
+      ∙ count_same (is_owned b s.lists) (is_owned a s.lists) (length a.payloads) (owned_same a b x (list_for s.lists v.state) v touched s.lists (or_right (is_on a 0 s.lists.free x) (is_live a s.lists x) (held_at a s.lists x t here).0) (or_right (eqb s.lists.free (list_for s.lists v.state)) (is_live_list s.lists (list_for s.lists v.state)) (live_for s.lists v.state)))
+      ∙ group.slots
+
+  module _ (r : GroupSlots) (now : Needless) (is : r ≡ record (counted_in v (counted_out t s)) { needless = now })
+      (noting : ((is_kept v ≡ false) × (now ≡ noted x s.needless)) ⊎ ((is_kept v ≡ true) × (now ≡ s.needless))) where
+    needed : (y : ℕ) (u : Ticket) → ticket_at b s.lists y ≡ Some u → is_kept u ≡ false → may_go now y ≡ true
+    needed y u e k = elim (cases_eq y x) [
+      | inl q ↦ elim noting [
+        | inl n ↦ ap (λ m. may_go m y) n.1 ∙ ap (may_go (noted x s.needless)) q ∙ may_go-noted x s.needless
+        | inr n ↦ let f : true ≡ false = sym n.0 ∙ ap is_kept (sym (is_v u (ap (ticket_at b s.lists) (sym q) ∙ e))) ∙ k in cc
+      ]
+      | inr ne ↦
+          let had : may_go s.needless y ≡ true = group.needed y u (sym (else_same y ne) ∙ e) k in
+          elim noting [
+            | inl n ↦ ap (λ m. may_go m y) n.1 ∙ may_go-more x y s.needless had
+            | inr n ↦ ap (λ m. may_go m y) n.1 ∙ had
+          ]
+    ]
+
+    noted_at : (y : ℕ) → now ≡ needless.One y → is_some (ticket_at b s.lists y) ≡ true
+    noted_at y e = elim (cases_eq y x) [
+      | inl q ↦ ap (λ z. is_some (ticket_at b s.lists z)) q ∙ ap is_some now_here
+      | inr ne ↦ ap is_some (else_same y ne) ∙ group.noted y (elim noting [
+        | inl n ↦ one_noted x y s.needless ne (sym n.1 ∙ e)
+        | inr n ↦ sym n.1 ∙ e
+      ])
+    ]
+
+    made : IsGroupSlots b (record (counted_in v (counted_out t s)) { needless = now })
+    made = record {
+      numbered = group.numbered;
+      there = omega (arith, group.there, touched.count);
+      arranged = changed_arranged a b s.lists x s.next t v group.arranged here serial touched order;
+      slots = owned_now;
+      few = group.few;
+      taken = omega (arith, group.taken, recount is_any);
+      busy = omega (arith, group.busy, recount is_busy, counted_at a s x t group here is_busy);
+      queued = omega (arith, group.queued, recount is_queued, counted_at a s x t group here is_queued);
+      in_fallback = omega (arith, group.in_fallback, recount is_in_fallback, counted_at a s x t group here is_in_fallback);
+      needed = needed;
+      noted = noted_at;
+    }
+
+    pub put_is : IsPut a s x v b r
+    put_is = record {
+      change = record {
+        arena = touched_arena a b x (list_for s.lists v.state) v touched arena (within_slots a s.lists x t here);
+        group = subst (IsGroupSlots b) (sym is) made;
+        frame = touched_frame a b x (list_for s.lists v.state) v touched s.lists (list_for s.lists t.state) arena lies (own_for s.lists group.numbered t.state) (own_for s.lists group.numbered v.state);
+        limit = touched.limit;
+        lists = ap (λ (z : GroupSlots). z.lists) is;
+        room = ap (λ (z : GroupSlots). z.room) is;
+      };
+      next = ap (λ (z : GroupSlots). z.next) is;
+      items = changed_tickets a b s.lists x s.next t v group.arranged here serial touched;
+      counts = λ q. subst (λ o. count_at b s.lists q + one (has_one q o) ≡ count_at a s.lists q + one (q v)) (sym here) (recount q);
+      left = touched.left;
+      here = now_here;
+      others = else_same;
+    }
+
+-- the payload of the slot is the ticket
+pub was_is : (a : Slots) (g : GroupLists) (x : ℕ) (t u : Ticket) → ticket_at a g x ≡ Some t → slice_get a.payloads x ≡ Some u → ticket_at a g x ≡ Some u
+was_is a g x t u e is = let k = held_at a g x t e in ap (λ b. if b then slice_get a.payloads x else None) k.0 ∙ is
+
+-- as the code reads it
+pub put_from : (a b : Slots) (s : GroupSlots) (x : ℕ) (t v : Ticket) → IsArena a 0 → IsGroupSlots a s → CanPut a s x v → Some t ≡ slice_get a.payloads x
+    → (from to : ℕ) → from ≡ list_for s.lists t.state → to ≡ list_for s.lists v.state → (from ≡ to → b ≡ with_payload x v a) → (from ≢ to → b ≡ with_moved 0 x to (with_payload x v a))
+    → (r : GroupSlots) (now : Needless) → r ≡ record (counted_in v (counted_out t s)) { needless = now } → ((is_kept v ≡ false) × (now ≡ noted x s.needless)) ⊎ ((is_kept v ≡ true) × (now ≡ s.needless)) → IsPut a s x v b r
+put_from a b s x t v arena group can is from to f g same moved r now made noting =
+    let k : Some can.was ≡ Some t = sym (can.here) ∙ was_is a s.lists x can.was t can.here (sym is) in
+    let was : can.was ≡ t = cc in
+    put_is a b s x t v arena group can was (λ e. same (f ∙ e ∙ sym g)) (λ ne. moved (λ e. ne (sym f ∙ e ∙ g)) ∙ ap (λ l. with_moved 0 x l (with_payload x v a)) g) r now made noting

@@ -1,0 +1,133 @@
+-- A ticket goes that nobody needs.
+use Rattle.std.proofs.Common.{◌≡◌, ℕ, ◌+◌, ◌-◌, ◌<◌, inl, inr, Bool, true, false, length, Option, Some, None, refl, ◌∙◌, sym, ap, subst, arith}
+use Rattle.std.specs.Prelude.{◌||◌, eqb, slice_get, is_some, if◌then◌else◌}
+use Rattle.std.proofs.lemmas.Bool.{cases_eq, eq-eqb, ne_eqb}
+use Rattle.bh_base.specs.declared.ticket.Ticket.{Ticket}
+use Rattle.bh_base.specs.Tickets.{is_queued, is_in_fallback, is_kept}
+use Rattle.bh_index_lists.specs.Lists.{without}
+use Rattle.bh_tickets.specs.declared.group_slots.GroupSlots.{GroupSlots}
+use Rattle.bh_tickets.specs.declared.group_slots.Needless.TheVariants as needless
+use Rattle.bh_slot_arena.specs.Slots.{slots_on, with_moved}
+use Rattle.bh_cache.specs.Slots.{Slots, is_on, is_live, is_owned, ticket_at, list_for, InOrder, count_below, has_one, one, IsArena}
+use Rattle.bh_tickets.specs.GroupSlots.{IsGroupSlots, IsGroupChange, IsReleasedAt, if_kept, may_go, count_at, counted_out, is_any, is_busy}
+use Rattle.bh_cache.proofs.Order.{order_without, count_same}
+use Rattle.bh_cache.proofs.Counts.{count_point}
+use Rattle.bh_tickets.proofs.Touched.{IsTouched, touched_moved, at_other, at_slot, touched_arena, touched_frame, owned_same}
+use Rattle.bh_tickets.proofs.Own.{gone_arranged, not_live_free}
+use Rattle.bh_tickets.proofs.Others.{own_for, frame_refl}
+use Rattle.bh_tickets.proofs.Puts.{held_at, within_slots}
+
+-- what is there is read
+pub there_at : (a : Slots) (s : GroupSlots) (x : ℕ) (t : Ticket) → is_some (ticket_at a s.lists x) ≡ true → Some t ≡ slice_get a.payloads x → ticket_at a s.lists x ≡ Some t
+there_at a s x t some is = by (is_live a s.lists x) some
+  where
+    by : (b : Bool) → is_some (if b then slice_get a.payloads x else None) ≡ true → (if b then slice_get a.payloads x else None) ≡ Some t
+    by true e = sym is
+    by false e = absurd cc
+
+pub there_within : (a : Slots) (s : GroupSlots) (x : ℕ) → is_some (ticket_at a s.lists x) ≡ true → x < length a.payloads
+there_within a s x some = by (ticket_at a s.lists x) refl some
+  where
+    by : (o : Option Ticket) → ticket_at a s.lists x ≡ o → is_some o ≡ true → x < length a.payloads
+    by None e f = absurd cc
+    by (Some t) e f = within_slots a s.lists x t e
+
+pub change_none : (a : Slots) (s : GroupSlots) → IsArena a 0 → IsGroupSlots a s → IsGroupChange a s a s
+change_none a s arena group = record { arena = arena; group = group; frame = frame_refl s.lists a; limit = refl; lists = refl; room = refl }
+
+-- a ticket that somebody needs stays
+pub stays_at : (a : Slots) (s : GroupSlots) (x : ℕ) (t : Ticket) → IsArena a 0 → IsGroupSlots a s → ticket_at a s.lists x ≡ Some t → is_kept t ≡ true → IsReleasedAt a s x a s
+stays_at a s x t arena group here keeps = record {
+  change = change_none a s arena group;
+  next = refl;
+  needless = refl;
+  tickets = λ y. elim (cases_eq y x) [
+    | inl q ↦ ap (ticket_at a s.lists) q ∙ here ∙ sym (ap (λ c. if c then if_kept (ticket_at a s.lists y) else ticket_at a s.lists y) (eq-eqb y x q) ∙ ap (λ z. if_kept (ticket_at a s.lists z)) q ∙ ap if_kept here ∙ ap (λ c. if c then Some t else None) keeps)
+    | inr ne ↦ sym (ap (λ c. if c then if_kept (ticket_at a s.lists y) else ticket_at a s.lists y) (ne_eqb y x ne))
+  ];
+  walk = λ l ne. sym (ap (λ c. if c then slots_on a 0 l else without x (slots_on a 0 l)) (ap (has_one is_kept) here ∙ keeps));
+}
+
+or_second : (b c : Bool) → c ≡ true → (b || c) ≡ true
+or_second true c e = refl
+or_second false c e = e
+
+or_first : (b c : Bool) → b ≡ true → (b || c) ≡ true
+or_first b c e = ap (λ d. d || c) e
+
+module _ (a b : Slots) (s : GroupSlots) (x : ℕ) (t : Ticket) (arena : IsArena a 0) (group : IsGroupSlots a s) (many : s.needless ≡ needless.Many) (here : ticket_at a s.lists x ≡ Some t) (drops : is_kept t ≡ false)
+    (is : b ≡ with_moved 0 x s.lists.free a) where
+  payload : slice_get a.payloads x ≡ Some t
+  payload = (held_at a s.lists x t here).1
+
+  within : x < length a.payloads
+  within = within_slots a s.lists x t here
+
+  touched : IsTouched a b x s.lists.free t
+  touched = subst (λ (z : Slots). IsTouched a z x s.lists.free t) (sym is) (touched_moved a x s.lists.free t arena payload (omega (arith, group.there, group.numbered.settled)))
+
+  gone : ticket_at b s.lists x ≡ None
+  gone = at_slot a b x s.lists.free t touched s.lists ∙ ap (λ c. if c then Some t else None) (not_live_free s.lists group.numbered)
+
+  else_same : (y : ℕ) → (y ≡ x → ⊥) → ticket_at b s.lists y ≡ ticket_at a s.lists y
+  else_same y ne = at_other a b x s.lists.free t touched s.lists y ne
+
+  filtered : (y : ℕ) → ticket_at b s.lists y ≡ (if eqb y x then if_kept (ticket_at a s.lists y) else ticket_at a s.lists y)
+  filtered y = elim (cases_eq y x) [
+    | inl q ↦ ap (ticket_at b s.lists) q ∙ gone ∙ sym (ap (λ c. if c then if_kept (ticket_at a s.lists y) else ticket_at a s.lists y) (eq-eqb y x q) ∙ ap (λ z. if_kept (ticket_at a s.lists z)) q ∙ ap if_kept here ∙ ap (λ c. if c then Some t else None) drops)
+    | inr ne ↦ else_same y ne ∙ sym (ap (λ c. if c then if_kept (ticket_at a s.lists y) else ticket_at a s.lists y) (ne_eqb y x ne))
+  ]
+
+  same_payload : b.payloads ≡ a.payloads
+  same_payload = ap (λ (z : Slots). z.payloads) is
+
+  order : InOrder b.payloads (slots_on b 0 s.lists.queued)
+  order = subst (InOrder b.payloads) (sym (touched.left s.lists.queued (λ e. absurd (omega (arith, e, group.numbered.queued)))))
+      (subst (λ ps. InOrder ps (without x (slots_on a 0 s.lists.queued))) (sym same_payload) (order_without a.payloads x (slots_on a 0 s.lists.queued) group.arranged.order))
+
+  recount : (q : Ticket → Bool) → count_at b s.lists q + one (q t) ≡ count_at a s.lists q
+  recount q =
+      let k : one (has_one q (ticket_at a s.lists x)) ≡ one (q t) = ap (λ o. one (has_one q o)) here in
+      let l : one (has_one q (ticket_at b s.lists x)) ≡ 0 = ap (λ o. one (has_one q o)) gone in
+      let m : count_at b s.lists q ≡ count_below (length a.payloads) (λ y. has_one q (ticket_at b s.lists y)) = ap (λ n. count_below n (λ y. has_one q (ticket_at b s.lists y))) touched.slots in
+      omega (arith, k, l, m, count_point (λ y. has_one q (ticket_at a s.lists y)) (λ y. has_one q (ticket_at b s.lists y)) (length a.payloads) x within (λ y ne. ap (has_one q) (else_same y ne)))
+
+  lies : is_on a 0 (list_for s.lists t.state) x ≡ true
+  lies = group.arranged.placed x t here
+
+  never_one : (y : ℕ) → s.needless ≡ needless.One y → ⊥
+  never_one y e = let f : needless.Many ≡ needless.One y = sym many ∙ e in cc
+
+  module _ (r : GroupSlots) (made : r ≡ record (counted_out t s) { taken = s.taken - 1 }) where
+    whole : IsGroupSlots b (record (counted_out t s) { taken = s.taken - 1 })
+    whole = record {
+      numbered = group.numbered;
+      there = omega (arith, group.there, touched.count);
+      arranged = gone_arranged a b s.lists x s.next t t group.arranged group.numbered here touched order;
+      slots = ap (λ n. count_below n (is_owned b s.lists)) touched.slots
+          ∙ count_same (is_owned b s.lists) (is_owned a s.lists) (length a.payloads) (owned_same a b x s.lists.free t touched s.lists (or_second (is_on a 0 s.lists.free x) (is_live a s.lists x) (held_at a s.lists x t here).0) (or_first (eqb s.lists.free s.lists.free) _ (eq-eqb s.lists.free s.lists.free refl)))
+          ∙ group.slots;
+      few = group.few;
+      taken = omega (arith, group.taken, recount is_any);
+      busy = omega (arith, group.busy, recount is_busy);
+      queued = omega (arith, group.queued, recount is_queued);
+      in_fallback = omega (arith, group.in_fallback, recount is_in_fallback);
+      needed = λ y u e k. ap (λ n. may_go n y) many;
+      noted = λ y e. absurd (never_one y e);
+    }
+
+    pub gone_from : IsReleasedAt a s x b r
+    gone_from = record {
+      change = record {
+        arena = touched_arena a b x s.lists.free t touched arena within;
+        group = subst (IsGroupSlots b) (sym made) whole;
+        frame = touched_frame a b x s.lists.free t touched s.lists (list_for s.lists t.state) arena lies (own_for s.lists group.numbered t.state) (record { from = omega arith; to = omega (arith, group.numbered.settled) });
+        limit = touched.limit;
+        lists = ap (λ (z : GroupSlots). z.lists) made;
+        room = ap (λ (z : GroupSlots). z.room) made;
+      };
+      next = ap (λ (z : GroupSlots). z.next) made;
+      needless = ap (λ (z : GroupSlots). z.needless) made;
+      tickets = filtered;
+      walk = λ l ne. touched.left l ne ∙ sym (ap (λ c. if c then slots_on a 0 l else without x (slots_on a 0 l)) (ap (has_one is_kept) here ∙ drops));
+    }

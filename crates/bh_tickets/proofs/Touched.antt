@@ -1,0 +1,285 @@
+-- One slot gets another ticket, or goes to another list.
+use Rattle.std.proofs.Common.{◌≡◌, ℕ, zero, suc, ◌<◌, inl, inr, Bool, true, false, not, cond, List, [], ◌∷◌, ◌++◌, map, length, get_or, set, Some, None, refl, ◌∙◌, sym, ap, subst, arith, length-set, get_or-set_same, get_or-set_other}
+use Rattle.std.specs.Prelude.{◌||◌, eqb, slice_get, if◌then◌else◌}
+use Rattle.std.proofs.lemmas.Bool.{cases_eq, eq-eqb, ne_eqb}
+use Rattle.std.proofs.lemmas.Bool.Decides.{nat_tests}
+use Rattle.std.proofs.lemmas.List.{length-map}
+use Rattle.bh_base.specs.declared.ticket.Ticket.{Ticket}
+use Rattle.bh_index_lists.specs.Lists.{without}
+use Rattle.bh_slot_arena.specs.Lists.{moved, put_last}
+use Rattle.bh_cache.specs.declared.lists.GroupLists.{GroupLists}
+use Rattle.bh_slot_arena.specs.Slots.{lists_in, slots_on, with_payload, with_moved}
+use Rattle.bh_cache.specs.Slots.{Slots, has, is_on, is_live_list, is_owned, ticket_at, Once, IsArena, IsOwn, IsFrame}
+
+pub has_without : (x s : ℕ) (xs : List ℕ) → has x (without s xs) ≡ (if eqb x s then false else has x xs)
+has_without x s [] = by (eqb x s)
+  where
+    by : (b : Bool) → false ≡ (if b then false else false)
+    by true = refl
+    by false = refl
+has_without x s (y ∷ ys) = elim (cases_eq y s) [
+  | inl e ↦ ap (λ b. has x (cond (not b) (y ∷ without s ys) (without s ys))) (eq-eqb y s e) ∙ has_without x s ys ∙ here e
+  | inr ne ↦ ap (λ b. has x (cond (not b) (y ∷ without s ys) (without s ys))) (ne_eqb y s ne) ∙ ap (λ b. eqb y x || b) (has_without x s ys) ∙ there ne
+]
+  where
+    here : y ≡ s → (if eqb x s then false else has x ys) ≡ (if eqb x s then false else (eqb y x || has x ys))
+    here e = grind (arith, nat_tests)
+
+    there : (y ≡ s → ⊥) → (eqb y x || (if eqb x s then false else has x ys)) ≡ (if eqb x s then false else (eqb y x || has x ys))
+    there ne = grind (arith, nat_tests)
+
+pub has_append : (x : ℕ) (xs ys : List ℕ) → has x (xs ++ ys) ≡ (has x xs || has x ys)
+has_append x [] ys = refl
+has_append x (z ∷ zs) ys = ap (λ b. eqb z x || b) (has_append x zs ys) ∙ regroup (eqb z x) (has x zs) (has x ys)
+  where
+    regroup : (a b c : Bool) → (a || (b || c)) ≡ ((a || b) || c)
+    regroup true b c = refl
+    regroup false b c = refl
+
+pub without_absent : (x : ℕ) (xs : List ℕ) → has x xs ≡ false → without x xs ≡ xs
+without_absent x [] out = refl
+without_absent x (y ∷ ys) out = elim (cases_eq y x) [
+  | inl e ↦ absurd (no (ap (λ b. b || has x ys) (sym (eq-eqb y x e)) ∙ out))
+  | inr ne ↦ ap (λ b. cond (not b) (y ∷ without x ys) (without x ys)) (ne_eqb y x ne) ∙ ap (λ zs. y ∷ zs) (without_absent x ys (ap (λ b. b || has x ys) (sym (ne_eqb y x ne)) ∙ out))
+]
+  where
+    no : true ≡ false → ⊥
+    no e = cc
+
+-- ---- a slot moved to the end of a list
+
+lists_moved : (a : Slots) (x to : ℕ) → 0 < length a.families → lists_in (with_moved 0 x to a) 0 ≡ put_last (x ∷ []) to (map (without x) (lists_in a 0))
+lists_moved a x to wide = get_or-set_same a.families 0 (moved x to (lists_in a 0)) [] wide
+
+at_map : (x l : ℕ) (ls : List (List ℕ)) → get_or (map (without x) ls) l [] ≡ without x (get_or ls l [])
+at_map x l [] = refl
+at_map x zero (xs ∷ ls) = refl
+at_map x (suc l) (xs ∷ ls) = at_map x l ls
+
+pub list_to : (a : Slots) (x to : ℕ) → 0 < length a.families → to < length (lists_in a 0) → slots_on (with_moved 0 x to a) 0 to ≡ without x (slots_on a 0 to) ++ x ∷ []
+list_to a x to wide there =
+    ap (λ (ls : List (List ℕ)). get_or ls to []) (lists_moved a x to wide)
+    ∙ get_or-set_same (map (without x) (lists_in a 0)) to _ [] (omega (arith, there, length-map (lists_in a 0) (without x)))
+    ∙ ap (λ (xs : List ℕ). xs ++ x ∷ []) (at_map x to (lists_in a 0))
+
+pub list_not_to : (a : Slots) (x to l : ℕ) → 0 < length a.families → (l ≡ to → ⊥) → slots_on (with_moved 0 x to a) 0 l ≡ without x (slots_on a 0 l)
+list_not_to a x to l wide ne =
+    ap (λ (ls : List (List ℕ)). get_or ls l []) (lists_moved a x to wide)
+    ∙ get_or-set_other (map (without x) (lists_in a 0)) to l _ [] ne
+    ∙ at_map x l (lists_in a 0)
+
+pub lists_count : (a : Slots) (x to : ℕ) → 0 < length a.families → length (lists_in (with_moved 0 x to a) 0) ≡ length (lists_in a 0)
+lists_count a x to wide = ap (λ (ls : List (List ℕ)). length ls) (lists_moved a x to wide) ∙ length-set (map (without x) (lists_in a 0)) to _ ∙ length-map (lists_in a 0) (without x)
+
+pub on_moved : (a : Slots) (x to l y : ℕ) → 0 < length a.families → to < length (lists_in a 0) → is_on (with_moved 0 x to a) 0 l y ≡ (if eqb y x then eqb l to else is_on a 0 l y)
+on_moved a x to l y wide there = elim (cases_eq l to) [
+  | inl e ↦
+      ap (λ k. is_on (with_moved 0 x to a) 0 k y) e ∙ ap (has y) (list_to a x to wide there) ∙ has_append y (without x (slots_on a 0 to)) (x ∷ [])
+      ∙ ap (λ b. b || (eqb x y || false)) (has_without y x (slots_on a 0 to)) ∙ same (is_on a 0 to y) (is_on a 0 l y) (ap (λ k. is_on a 0 k y) (sym e)) (eqb l to) (eq-eqb l to e)
+  | inr ne ↦ ap (has y) (list_not_to a x to l wide ne) ∙ has_without y x (slots_on a 0 l) ∙ ap (λ b. if eqb y x then b else is_on a 0 l y) (sym (ne_eqb l to ne))
+]
+  where
+    same : (p q : Bool) → p ≡ q → (r : Bool) → r ≡ true → ((if eqb y x then false else p) || (eqb x y || false)) ≡ (if eqb y x then r else q)
+    same p q e r f = grind (arith, nat_tests)
+
+get_set_same : (xs : List Ticket) (i : ℕ) (v : Ticket) → i < length xs → slice_get (set xs i v) i ≡ Some v
+get_set_same [] i v lt = absurd (omega (arith, lt))
+get_set_same (x ∷ xs) zero v lt = refl
+get_set_same (x ∷ xs) (suc i) v lt = get_set_same xs i v (omega (arith, lt))
+
+get_set_other : (xs : List Ticket) (i j : ℕ) (v : Ticket) → (j ≡ i → ⊥) → slice_get (set xs i v) j ≡ slice_get xs j
+get_set_other [] i j v ne = refl
+get_set_other (x ∷ xs) zero zero v ne = absurd (ne refl)
+get_set_other (x ∷ xs) zero (suc j) v ne = refl
+get_set_other (x ∷ xs) (suc i) zero v ne = refl
+get_set_other (x ∷ xs) (suc i) (suc j) v ne = get_set_other xs i j v (λ e. ne (ap suc e))
+
+pub get_set : (xs : List Ticket) (i j : ℕ) (v : Ticket) → i < length xs → slice_get (set xs i v) j ≡ (if eqb j i then Some v else slice_get xs j)
+get_set xs i j v lt = elim (cases_eq j i) [
+  | inl e ↦ ap (slice_get (set xs i v)) e ∙ get_set_same xs i v lt ∙ sym (ap (λ b. if b then Some v else slice_get xs j) (eq-eqb j i e))
+  | inr ne ↦ get_set_other xs i j v ne ∙ sym (ap (λ b. if b then Some v else slice_get xs j) (ne_eqb j i ne))
+]
+
+pub get_within : (xs : List Ticket) (i : ℕ) (v : Ticket) → slice_get xs i ≡ Some v → i < length xs
+get_within [] i v e = absurd cc
+get_within (x ∷ xs) zero v e = omega arith
+get_within (x ∷ xs) (suc i) v e = let lt : i < length xs = get_within xs i v e in omega (arith, lt)
+
+-- ---- no slot comes twice
+
+pub once_without : (x : ℕ) (xs : List ℕ) → Once xs → Once (without x xs)
+once_without x [] h = tt
+once_without x (y ∷ ys) h = by (eqb y x) (once_without x ys h.1)
+  where
+    out : has y (without x ys) ≡ false
+    out = has_without y x ys ∙ ap (λ b. if eqb y x then false else b) h.0 ∙ none (eqb y x)
+      where
+        none : (b : Bool) → (if b then false else false) ≡ false
+        none true = refl
+        none false = refl
+
+    by : (b : Bool) → Once (without x ys) → Once (cond (not b) (y ∷ without x ys) (without x ys))
+    by true r = r
+    by false r = (out, r)
+
+pub once_append : (x : ℕ) (xs : List ℕ) → has x xs ≡ false → Once xs → Once (xs ++ x ∷ [])
+once_append x [] out h = (refl, tt)
+once_append x (y ∷ ys) out h = (has_append y ys (x ∷ []) ∙ ap (λ b. b || (eqb x y || false)) h.0 ∙ apart, once_append x ys (rest (eqb y x) (has x ys) out) h.1)
+  where
+    rest : (b c : Bool) → (b || c) ≡ false → c ≡ false
+    rest true c e = absurd cc
+    rest false c e = e
+
+    apart : (eqb x y || false) ≡ false
+    apart = grind (arith, nat_tests, out)
+
+-- what a walk leaves behind as it moves the slot at hand away
+pub without_at : (x : ℕ) (pre rest : List ℕ) → Once (pre ++ x ∷ rest) → without x (pre ++ x ∷ rest) ≡ pre ++ rest
+without_at x [] rest h = ap (λ b. cond (not b) (x ∷ without x rest) (without x rest)) (eq-eqb x x refl) ∙ without_absent x rest h.0
+without_at x (y ∷ pre) rest h =
+    ap (λ b. cond (not b) (y ∷ without x (pre ++ x ∷ rest)) (without x (pre ++ x ∷ rest))) (ne_eqb y x (λ e. twice e (has_append y pre (x ∷ rest) ∙ ap (λ b. has y pre || b) (found e) ∙ or_right (has y pre))))
+    ∙ ap (λ zs. y ∷ zs) (without_at x pre rest h.1)
+  where
+    or_right : (b : Bool) → (b || true) ≡ true
+    or_right true = refl
+    or_right false = refl
+
+    found : y ≡ x → has y (x ∷ rest) ≡ true
+    found e = ap (λ b. b || has y rest) (eq-eqb x y (sym e))
+
+    twice : y ≡ x → has y (pre ++ x ∷ rest) ≡ true → ⊥
+    twice e t = no_such (sym t ∙ h.0)
+      where
+        no_such : true ≡ false → ⊥
+        no_such e = cc
+
+-- the slot x has the ticket v now, and lies on the list `to`
+pub record IsTouched (a b : Slots) (x to : ℕ) (v : Ticket) : Type 0 where
+  pub slots : length b.payloads ≡ length a.payloads
+  pub wide : 0 < length b.families
+  pub limit : b.limit ≡ a.limit
+  pub count : length (lists_in b 0) ≡ length (lists_in a 0)
+  pub payload : (y : ℕ) → slice_get b.payloads y ≡ (if eqb y x then Some v else slice_get a.payloads y)
+  pub on : (l y : ℕ) → is_on b 0 l y ≡ (if eqb y x then eqb l to else is_on a 0 l y)
+  pub left : (l : ℕ) → (l ≡ to → ⊥) → slots_on b 0 l ≡ without x (slots_on a 0 l)
+  pub once : ((l : ℕ) → Once (slots_on a 0 l)) → (l : ℕ) → Once (slots_on b 0 l)
+
+once_moved : (a : Slots) (x to l : ℕ) → 0 < length a.families → to < length (lists_in a 0) → ((m : ℕ) → Once (slots_on a 0 m)) → Once (slots_on (with_moved 0 x to a) 0 l)
+once_moved a x to l wide there once = elim (cases_eq l to) [
+  | inl e ↦ subst (λ k. Once (slots_on (with_moved 0 x to a) 0 k)) (sym e) (subst Once (sym (list_to a x to wide there)) (once_append x (without x (slots_on a 0 to)) (has_without x x (slots_on a 0 to) ∙ ap (λ b. if b then false else has x (slots_on a 0 to)) (eq-eqb x x refl)) (once_without x (slots_on a 0 to) (once to))))
+  | inr ne ↦ subst Once (sym (list_not_to a x to l wide ne)) (once_without x (slots_on a 0 l) (once l))
+]
+
+-- written and moved
+pub touched_both : (a : Slots) (x to : ℕ) (v : Ticket) → IsArena a 0 → x < length a.payloads → to < length (lists_in a 0) → IsTouched a (with_moved 0 x to (with_payload x v a)) x to v
+touched_both a x to v arena within there = record {
+  slots = length-set a.payloads x v;
+  wide = omega (arith, arena.wide, length-set a.families 0 (moved x to (lists_in a 0)));
+  limit = refl;
+  count = lists_count a x to arena.wide;
+  payload = λ y. get_set a.payloads x y v within;
+  on = λ l y. on_moved a x to l y arena.wide there;
+  left = λ l ne. list_not_to a x to l arena.wide ne;
+  once = λ once l. once_moved a x to l arena.wide there once;
+}
+
+itself : (xs : List Ticket) (x y : ℕ) (v : Ticket) → slice_get xs x ≡ Some v → slice_get xs y ≡ (if eqb y x then Some v else slice_get xs y)
+itself xs x y v is = elim (cases_eq y x) [
+  | inl e ↦ ap (slice_get xs) e ∙ is ∙ sym (ap (λ b. if b then Some v else slice_get xs y) (eq-eqb y x e))
+  | inr ne ↦ sym (ap (λ b. if b then Some v else slice_get xs y) (ne_eqb y x ne))
+]
+
+-- moved as it is
+pub touched_moved : (a : Slots) (x to : ℕ) (v : Ticket) → IsArena a 0 → slice_get a.payloads x ≡ Some v → to < length (lists_in a 0) → IsTouched a (with_moved 0 x to a) x to v
+touched_moved a x to v arena is there = record {
+  slots = refl;
+  wide = omega (arith, arena.wide, length-set a.families 0 (moved x to (lists_in a 0)));
+  limit = refl;
+  count = lists_count a x to arena.wide;
+  payload = λ y. itself a.payloads x y v is;
+  on = λ l y. on_moved a x to l y arena.wide there;
+  left = λ l ne. list_not_to a x to l arena.wide ne;
+  once = λ once l. once_moved a x to l arena.wide there once;
+}
+
+pub not_on : (a : Slots) (l m x : ℕ) → IsArena a 0 → is_on a 0 l x ≡ true → (m ≡ l → ⊥) → is_on a 0 m x ≡ false
+not_on a l m x arena on ne = by (is_on a 0 m x) refl
+  where
+    by : (b : Bool) → is_on a 0 m x ≡ b → b ≡ false
+    by true e = absurd (ne (arena.apart m l x e on))
+    by false e = refl
+
+-- written alone, on its list
+pub touched_set : (a : Slots) (x to : ℕ) (v : Ticket) → IsArena a 0 → is_on a 0 to x ≡ true → IsTouched a (with_payload x v a) x to v
+touched_set a x to v arena on = record {
+  slots = length-set a.payloads x v;
+  wide = arena.wide;
+  limit = refl;
+  count = refl;
+  payload = λ y. get_set a.payloads x y v (arena.within to x on);
+  on = λ l y. elim (cases_eq y x) [
+    | inl e ↦ elim (cases_eq l to) [
+      | inl q ↦ ap (is_on a 0 l) e ∙ ap (λ k. is_on a 0 k x) q ∙ on ∙ sym (eq-eqb l to q) ∙ sym (ap (λ b. if b then eqb l to else is_on a 0 l y) (eq-eqb y x e))
+      | inr ne ↦ ap (is_on a 0 l) e ∙ not_on a to l x arena on ne ∙ sym (ne_eqb l to ne) ∙ sym (ap (λ b. if b then eqb l to else is_on a 0 l y) (eq-eqb y x e))
+    ]
+    | inr ne ↦ sym (ap (λ b. if b then eqb l to else is_on a 0 l y) (ne_eqb y x ne))
+  ];
+  left = λ l ne. sym (without_absent x (slots_on a 0 l) (not_on a to l x arena on ne));
+  once = λ once l. once l;
+}
+
+-- ---- what is seen of it
+
+module _ (a b : Slots) (x to : ℕ) (v : Ticket) (touched : IsTouched a b x to v) where
+  pub on_other : (l y : ℕ) → (y ≡ x → ⊥) → is_on b 0 l y ≡ is_on a 0 l y
+  on_other l y ne = touched.on l y ∙ ap (λ c. if c then eqb l to else is_on a 0 l y) (ne_eqb y x ne)
+
+  pub on_slot : (l : ℕ) → is_on b 0 l x ≡ eqb l to
+  on_slot l = touched.on l x ∙ ap (λ c. if c then eqb l to else is_on a 0 l x) (eq-eqb x x refl)
+
+  pub payload_other : (y : ℕ) → (y ≡ x → ⊥) → slice_get b.payloads y ≡ slice_get a.payloads y
+  payload_other y ne = touched.payload y ∙ ap (λ c. if c then Some v else slice_get a.payloads y) (ne_eqb y x ne)
+
+  pub payload_slot : slice_get b.payloads x ≡ Some v
+  payload_slot = touched.payload x ∙ ap (λ c. if c then Some v else slice_get a.payloads x) (eq-eqb x x refl)
+
+  pub at_other : (g : GroupLists) (y : ℕ) → (y ≡ x → ⊥) → ticket_at b g y ≡ ticket_at a g y
+  at_other g y ne = λ i. if (on_other g.queued y ne i || (on_other g.running y ne i || on_other g.settled y ne i)) then payload_other y ne i else None
+
+  pub at_slot : (g : GroupLists) → ticket_at b g x ≡ (if is_live_list g to then Some v else None)
+  at_slot g = λ i. if (on_slot g.queued i || (on_slot g.running i || on_slot g.settled i)) then payload_slot i else None
+
+  pub touched_arena : IsArena a 0 → x < length a.payloads → IsArena b 0
+  touched_arena arena within = record {
+    wide = touched.wide;
+    apart = λ l m y p q. elim (cases_eq y x) [
+      | inl e ↦
+          let r : eqb l to ≡ true = sym (on_slot l) ∙ ap (is_on b 0 l) (sym e) ∙ p in
+          let s : eqb m to ≡ true = sym (on_slot m) ∙ ap (is_on b 0 m) (sym e) ∙ q in
+          both l m r s
+      | inr ne ↦ arena.apart l m y (sym (on_other l y ne) ∙ p) (sym (on_other m y ne) ∙ q)
+    ];
+    within = λ l y p. elim (cases_eq y x) [
+      | inl e ↦ omega (arith, e, within, touched.slots)
+      | inr ne ↦ let lt : y < length a.payloads = arena.within l y (sym (on_other l y ne) ∙ p) in omega (arith, lt, touched.slots)
+    ];
+    once = touched.once arena.once;
+  }
+    where
+      both : (l m : ℕ) → eqb l to ≡ true → eqb m to ≡ true → l ≡ m
+      both l m r s = grind (arith, nat_tests)
+
+  pub touched_frame : (g : GroupLists) (from : ℕ) → IsArena a 0 → is_on a 0 from x ≡ true → IsOwn g from → IsOwn g to → IsFrame g a b
+  touched_frame g from arena on own own_to = record {
+    slots = touched.slots;
+    count = touched.count;
+    lists = λ l out. touched.left l (λ e. out (subst (IsOwn g) (sym e) own_to)) ∙ without_absent x (slots_on a 0 l) (not_on a from l x arena on (λ e. out (subst (IsOwn g) (sym e) own)));
+    payloads = λ l y out there. payload_other y (λ e. out (subst (IsOwn g) (sym (arena.apart l from x (ap (is_on a 0 l) (sym e) ∙ there) on)) own));
+  }
+
+  -- the group has the slots that it had
+  pub owned_same : (g : GroupLists) → is_owned a g x ≡ true → (eqb g.free to || is_live_list g to) ≡ true → (y : ℕ) → is_owned b g y ≡ is_owned a g y
+  owned_same g own own_to y = elim (cases_eq y x) [
+    | inl e ↦ ap (is_owned b g) e ∙ (λ i. on_slot g.free i || (on_slot g.queued i || (on_slot g.running i || on_slot g.settled i))) ∙ own_to ∙ sym own ∙ ap (is_owned a g) (sym e)
+    | inr ne ↦ λ i. on_other g.free y ne i || (on_other g.queued y ne i || (on_other g.running y ne i || on_other g.settled y ne i))
+  ]

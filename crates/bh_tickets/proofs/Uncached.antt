@@ -1,0 +1,187 @@
+-- The end of a request context.
+use Rattle.std.proofs.Common.{◌≡◌, ℕ, ◌+◌, ◌<◌, ◌⊎◌, inl, inr, Bool, true, false, List, [], ◌∷◌, length, Option, Some, None, refl, ◌∙◌, sym, ap, subst, arith}
+use Rattle.std.specs.Prelude.{◌||◌, count_by, slice_get, is_some, if◌then◌else◌}
+use Rattle.std.specs.Option.{option_map}
+use Rattle.bh_base.specs.declared.ticket.Ticket.{Ticket}
+use Rattle.bh_base.specs.Tickets.{is_cached_in, is_queued, is_in_fallback, is_kept}
+use Rattle.bh_slot_arena.specs.Slots.{lists_in, slots_on}
+use Rattle.bh_cache.specs.Cache.{IsDropped, uncached_in}
+use Rattle.bh_cache.specs.Slots.{Slots, is_on, is_live, is_owned, ticket_at, tickets_of, list_for, serial_in, InOrder, Once, count_below, has_one, IsArena, IsOwn, IsFrame}
+use Rattle.bh_cache.proofs.Listed.{IsIn, in_listed, count_cons}
+use Rattle.bh_cache.proofs.Order.{order_same, count_same}
+use Rattle.bh_tickets.specs.declared.group_slots.GroupSlots.{GroupSlots}
+use Rattle.bh_tickets.specs.declared.group_slots.Needless.{Needless}
+use Rattle.bh_tickets.specs.declared.group_slots.Needless.TheVariants as needless
+use Rattle.bh_tickets.specs.GroupSlots.{IsArranged, IsGroupSlots, IsUncached, count_at, is_any, is_busy, may_go}
+use Rattle.bh_tickets.proofs.Puts.{within_slots}
+use Rattle.bh_tickets.proofs.Others.{own_for}
+use Rattle.bh_cache.proofs.Walks.{on_queued}
+use Rattle.bh_base.specs.declared.ticket.TicketState.TheVariants as ticket
+
+-- what is the same of a ticket that is cached no more
+module _ (context : ℕ) (t : Ticket) where
+  same_of : {A : Type 0} (f : Ticket → A) → f (record t { cached = false }) ≡ f t → f (uncached_in context t) ≡ f t
+  same_of f e = by (is_cached_in context t)
+    where
+      by : (b : Bool) → f (if b then record t { cached = false } else t) ≡ f t
+      by true = e
+      by false = refl
+
+counted_if : (b : Bool) (n : ℕ) → (if b then 1 else 0) + n ≡ 0 → (b ≡ false) × (n ≡ 0)
+counted_if true n e = absurd (omega (arith, e))
+counted_if false n e = (refl, omega (arith, e))
+
+none_counted : (q : Ticket → Bool) (ts : List Ticket) (t : Ticket) → count_by q ts ≡ 0 → IsIn t ts → q t ≡ false
+none_counted q [] t e i = absurd i
+none_counted q (u ∷ us) t e (inl h) = ap q (sym h) ∙ (counted_if (q u) (count_by q us) (sym (count_cons q u us) ∙ e)).0
+none_counted q (u ∷ us) t e (inr h) = none_counted q us t (counted_if (q u) (count_by q us) (sym (count_cons q u us) ∙ e)).1 h
+
+module _ (a b : Slots) (s : GroupSlots) (context n : ℕ) (arena : IsArena a 0) (group : IsGroupSlots a s) (dropped : IsDropped context s.lists a b n) where
+  lists_same : lists_in b 0 ≡ lists_in a 0
+  lists_same = ap (λ (fs : List (List (List ℕ))). list_of fs) dropped.families
+    where
+      list_of : List (List (List ℕ)) → List (List ℕ)
+      list_of fs = lists_in (record a { families = fs }) 0
+
+  on_same : (l x : ℕ) → is_on b 0 l x ≡ is_on a 0 l x
+  on_same l x = ap (λ (fs : List (List (List ℕ))). is_on (record a { families = fs }) 0 l x) dropped.families
+
+  slots_same_on : (l : ℕ) → slots_on b 0 l ≡ slots_on a 0 l
+  slots_same_on l = ap (λ (fs : List (List (List ℕ))). slots_on (record a { families = fs }) 0 l) dropped.families
+
+  owned_same : (x : ℕ) → is_owned b s.lists x ≡ is_owned a s.lists x
+  owned_same x = λ i. on_same s.lists.free x i || (on_same s.lists.queued x i || (on_same s.lists.running x i || on_same s.lists.settled x i))
+
+  arena_kept : IsArena b 0
+  arena_kept = record {
+    wide = omega (arith, arena.wide, ap (λ (fs : List (List (List ℕ))). length fs) dropped.families);
+    apart = λ l m x p q. arena.apart l m x (sym (on_same l x) ∙ p) (sym (on_same m x) ∙ q);
+    within = λ l x p. let lt : x < length a.payloads = arena.within l x (sym (on_same l x) ∙ p) in omega (arith, lt, dropped.slots);
+    once = λ l. subst Once (sym (slots_same_on l)) (arena.once l);
+  }
+
+  live_same : (x : ℕ) → is_live b s.lists x ≡ is_live a s.lists x
+  live_same x = λ i. on_same s.lists.queued x i || (on_same s.lists.running x i || on_same s.lists.settled x i)
+
+  -- what lies on another group's list is no ticket of this one
+  not_live : (l x : ℕ) → (IsOwn s.lists l → ⊥) → is_on a 0 l x ≡ true → is_live a s.lists x ≡ false
+  not_live l x out on = by (is_on a 0 s.lists.queued x) (is_on a 0 s.lists.running x) (is_on a 0 s.lists.settled x) refl refl refl
+    where
+      by : (p q r : Bool) → is_on a 0 s.lists.queued x ≡ p → is_on a 0 s.lists.running x ≡ q → is_on a 0 s.lists.settled x ≡ r → (p || (q || r)) ≡ false
+      by true q r e f k = absurd (out (subst (IsOwn s.lists) (arena.apart s.lists.queued l x e on) (own_for s.lists group.numbered ticket.Queued)))
+      by false true r e f k = absurd (out (subst (IsOwn s.lists) (arena.apart s.lists.running l x f on) (own_for s.lists group.numbered ticket.Running)))
+      by false false true e f k = absurd (out (subst (IsOwn s.lists) (arena.apart s.lists.settled l x k on) (record { from = omega (arith, group.numbered.settled); to = omega arith })))
+      by false false false e f k = refl
+
+  frame : IsFrame s.lists a b
+  frame = record {
+    slots = dropped.slots;
+    count = ap (λ (ls : List (List ℕ)). length ls) lists_same;
+    lists = λ l out. slots_same_on l;
+    payloads = λ l x out on. dropped.others x (not_live l x out on);
+  }
+
+  -- each ticket was there
+  before : (x : ℕ) (t : Ticket) → ticket_at b s.lists x ≡ Some t → (w : Ticket) × (ticket_at a s.lists x ≡ Some w) × (uncached_in context w ≡ t)
+  before x t e = by (ticket_at a s.lists x) refl
+    where
+      by : (o : Option Ticket) → ticket_at a s.lists x ≡ o → (w : Ticket) × (ticket_at a s.lists x ≡ Some w) × (uncached_in context w ≡ t)
+      by None k = let f : None ≡ Some t = ap (option_map (uncached_in context)) (sym k) ∙ sym (dropped.here x) ∙ e in absurd (no_some f)
+        where
+          no_some : None ≡ Some t → ⊥
+          no_some f = cc
+      by (Some w) k = (w, k, some_same (ap (option_map (uncached_in context)) (sym k) ∙ sym (dropped.here x) ∙ e))
+        where
+          some_same : Some (uncached_in context w) ≡ Some t → uncached_in context w ≡ t
+          some_same f = cc
+
+  same_by : {A : Type 0} (f : Ticket → A) (w t : Ticket) → uncached_in context w ≡ t → f (record w { cached = false }) ≡ f w → f w ≡ f t
+  same_by f w t e k = sym (same_of context w f k) ∙ ap f e
+
+  payload_at : (y : ℕ) → is_live a s.lists y ≡ true → slice_get b.payloads y ≡ option_map (uncached_in context) (slice_get a.payloads y)
+  payload_at y live = sym (ap (λ c. if c then slice_get b.payloads y else None) (live_same y ∙ live)) ∙ dropped.here y ∙ ap (λ c. option_map (uncached_in context) (if c then slice_get a.payloads y else None)) live
+
+  serial_of : (o : Option Ticket) → serial_in (option_map (uncached_in context) o) ≡ serial_in o
+  serial_of None = refl
+  serial_of (Some t) = same_of context t (λ (u : Ticket). u.serial) refl
+
+  order : InOrder b.payloads (slots_on b 0 s.lists.queued)
+  order = subst (InOrder b.payloads) (sym (slots_same_on s.lists.queued))
+      (order_same a.payloads b.payloads (slots_on a 0 s.lists.queued) (λ y i. ap serial_in (payload_at y (on_queued a s.lists y i)) ∙ serial_of (slice_get a.payloads y)) group.arranged.order)
+
+  arranged : IsArranged b s.lists s.next
+  arranged = record {
+    distinct = λ x y t u p q e.
+        let h = before x t p in
+        let k = before y u q in
+        group.arranged.distinct x y h.0 k.0 h.1 k.1 (same_by (λ (u : Ticket). u.serial) h.0 t h.2 refl ∙ e ∙ sym (same_by (λ (u : Ticket). u.serial) k.0 u k.2 refl));
+    below = λ x t p. let h = before x t p in subst (λ n. n < s.next) (same_by (λ (u : Ticket). u.serial) h.0 t h.2 refl) (group.arranged.below x h.0 h.1);
+    placed = λ x t p.
+        let h = before x t p in
+        on_same (list_for s.lists t.state) x ∙ ap (λ l. is_on a 0 l x) (sym (same_by (λ (u : Ticket). list_for s.lists u.state) h.0 t h.2 refl)) ∙ group.arranged.placed x h.0 h.1;
+    order = order;
+  }
+
+  has_same : (q : Ticket → Bool) → ((t : Ticket) → q (record t { cached = false }) ≡ q t) → (o : Option Ticket) → has_one q (option_map (uncached_in context) o) ≡ has_one q o
+  has_same q same None = refl
+  has_same q same (Some t) = same_of context t q (same t)
+
+  recount : (q : Ticket → Bool) → ((t : Ticket) → q (record t { cached = false }) ≡ q t) → count_at b s.lists q ≡ count_at a s.lists q
+  recount q same = ap (λ m. count_below m (λ x. has_one q (ticket_at b s.lists x))) dropped.slots
+      ∙ count_same (λ x. has_one q (ticket_at b s.lists x)) (λ x. has_one q (ticket_at a s.lists x)) (length a.payloads) (λ x. ap (has_one q) (dropped.here x) ∙ has_same q same (ticket_at a s.lists x))
+
+  -- where none was cached in the context, all are as they were
+  untouched : n ≡ 0 → (w t : Ticket) (x : ℕ) → ticket_at a s.lists x ≡ Some w → uncached_in context w ≡ t → w ≡ t
+  untouched none w t x here e =
+      let off : is_cached_in context w ≡ false = none_counted (is_cached_in context) (tickets_of a s.lists) w (sym dropped.count ∙ none) (in_listed (ticket_at a s.lists) (length a.payloads) x w (within_slots a s.lists x w here) here) in
+      sym (ap (λ c. if c then record w { cached = false } else w) off) ∙ e
+
+  module _ (r : GroupSlots) (now : Needless) (made : r ≡ record s { needless = now }) (noting : (now ≡ needless.Many) ⊎ ((now ≡ s.needless) × (n ≡ 0))) where
+    needed : (x : ℕ) (t : Ticket) → ticket_at b s.lists x ≡ Some t → is_kept t ≡ false → may_go now x ≡ true
+    needed x t e k = elim noting [
+      | inl m ↦ ap (λ z. may_go z x) m
+      | inr m ↦ let h = before x t e in ap (λ z. may_go z x) m.0 ∙ group.needed x h.0 h.1 (ap is_kept (untouched m.1 h.0 t x h.1 h.2) ∙ k)
+    ]
+
+    some_same : (o : Option Ticket) → is_some (option_map (uncached_in context) o) ≡ is_some o
+    some_same None = refl
+    some_same (Some t) = refl
+
+    noted_at : (x : ℕ) → now ≡ needless.One x → is_some (ticket_at b s.lists x) ≡ true
+    noted_at x e = elim noting [
+      | inl m ↦ absurd (many (sym m ∙ e))
+      | inr m ↦ ap is_some (dropped.here x) ∙ some_same (ticket_at a s.lists x) ∙ group.noted x (sym m.0 ∙ e)
+    ]
+      where
+        many : needless.Many ≡ needless.One x → ⊥
+        many f = cc
+
+    whole : IsGroupSlots b (record s { needless = now })
+    whole = record {
+      numbered = group.numbered;
+      there = omega (arith, group.there, ap (λ (ls : List (List ℕ)). length ls) lists_same);
+      arranged = arranged;
+      slots = ap (λ m. count_below m (is_owned b s.lists)) dropped.slots ∙ count_same (is_owned b s.lists) (is_owned a s.lists) (length a.payloads) owned_same ∙ group.slots;
+      few = group.few;
+      taken = group.taken ∙ sym (recount is_any (λ t. refl));
+      busy = group.busy ∙ sym (recount is_busy (λ t. refl));
+      queued = group.queued ∙ sym (recount is_queued (λ t. refl));
+      in_fallback = group.in_fallback ∙ sym (recount is_in_fallback (λ t. refl));
+      needed = needed;
+      noted = noted_at;
+    }
+
+    pub uncached_is : IsUncached a s context n b r
+    uncached_is = record {
+      change = record {
+        arena = arena_kept;
+        group = subst (IsGroupSlots b) (sym made) whole;
+        frame = frame;
+        limit = dropped.limit;
+        lists = ap (λ (z : GroupSlots). z.lists) made;
+        room = ap (λ (z : GroupSlots). z.room) made;
+      };
+      next = ap (λ (z : GroupSlots). z.next) made;
+      items = dropped.tickets;
+      count = dropped.count;
+    }

@@ -1,0 +1,44 @@
+use Rattle.std.proofs.Common.{sym, ap, ◌∙◌, arith, ◌-◌}
+use Rattle.bh_base.specs.Tickets.{is_queued, is_in_fallback}
+use Rattle.bh_tickets.specs.declared.group_slots.GroupSlots.{GroupSlots}
+use Rattle.bh_slot_arena.specs.Slots.{with_moved}
+use Rattle.bh_tickets.specs.GroupSlots.{is_busy, is_any}
+use Rattle.bh_tickets.proofs.Puts.{counted_at}
+use Rattle.bh_tickets.proofs.Releases.{there_at, there_within, stays_at, gone_from}
+use Rattle.bh_tickets.proofs.group_slots.release_at.Goals as goal
+
+pub get-was-requires : goal.get-was-requires
+get-was-requires c = (omega arith, there_within c.args.arena.now c.args.group.now c.args.slot c.requires.there)
+
+pub returns-then-is_kept : goal.returns-then-is_kept
+returns-then-is_kept c =
+    let here = there_at c.args.arena.now c.args.group.now c.args.slot c.get-was.result.now c.requires.there c.get-was.ensures in
+    stays_at c.args.arena.now c.args.group.now c.args.slot c.get-was.result.now c.requires.arena c.requires.group here (sym c.is_kept.ensures ∙ c.if-is_kept.true)
+
+pub count_out-requires-clause-busy : goal.count_out-requires-clause-busy
+count_out-requires-clause-busy c =
+    let here = there_at c.args.arena.now c.args.group.now c.args.slot c.get-was.result.now c.requires.there c.get-was.ensures in
+    omega (arith, c.requires.group.busy, counted_at c.args.arena.now c.args.group.now c.args.slot c.get-was.result.now c.requires.group here is_busy)
+
+pub count_out-requires-clause-queued : goal.count_out-requires-clause-queued
+count_out-requires-clause-queued c =
+    let here = there_at c.args.arena.now c.args.group.now c.args.slot c.get-was.result.now c.requires.there c.get-was.ensures in
+    omega (arith, c.requires.group.queued, counted_at c.args.arena.now c.args.group.now c.args.slot c.get-was.result.now c.requires.group here is_queued)
+
+pub count_out-requires-clause-in_fallback : goal.count_out-requires-clause-in_fallback
+count_out-requires-clause-in_fallback c =
+    let here = there_at c.args.arena.now c.args.group.now c.args.slot c.get-was.result.now c.requires.there c.get-was.ensures in
+    omega (arith, c.requires.group.in_fallback, counted_at c.args.arena.now c.args.group.now c.args.slot c.get-was.result.now c.requires.group here is_in_fallback)
+
+pub overflow_sub-group : goal.overflow_sub-group
+overflow_sub-group c =
+    let here = there_at c.args.arena.now c.args.group.now c.args.slot c.get-was.result.now c.requires.there c.get-was.ensures in
+    let out = ap (λ (s : GroupSlots). s.taken) c.count_out.ensures in
+    omega (arith, out, c.requires.group.taken, counted_at c.args.arena.now c.args.group.now c.args.slot c.get-was.result.now c.requires.group here is_any)
+
+pub returns : goal.returns
+returns c =
+    let here = there_at c.args.arena.now c.args.group.now c.args.slot c.get-was.result.now c.requires.there c.get-was.ensures in
+    gone_from c.args.arena.now c.move_to_back.new.self c.args.group.now c.args.slot c.get-was.result.now c.requires.arena c.requires.group c.requires.many here (sym c.is_kept.ensures ∙ c.if-is_kept.false)
+    (c.move_to_back.ensures.moved ∙ ap (λ l. with_moved 0 c.args.slot l c.args.arena.now) (ap (λ (s : GroupSlots). s.lists.free) c.count_out.ensures)) _
+    (ap (λ (s : GroupSlots). record s { taken = s.taken - 1 }) c.count_out.ensures)

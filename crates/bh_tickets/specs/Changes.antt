@@ -1,0 +1,73 @@
+-- What an operation changes of a ticket.
+use Rattle.std.specs.Prelude.{◌≡◌, ◌+◌, ◌-◌, ◌<◌, ◌^◌, Bool, true, false, ◌&&◌, ◌||◌, nat_le, if◌then◌else◌}
+use Rattle.bh_base.specs.declared.ticket.Ticket.{Ticket}
+use Rattle.bh_base.specs.declared.ticket.TicketState.{TicketState}
+use Rattle.bh_base.specs.declared.ticket.TicketState.TheVariants as ticket
+use Rattle.bh_base.specs.declared.reply.Answer.{Answer}
+use Rattle.bh_base.specs.declared.reply.Cause.{Cause}
+use Rattle.bh_base.specs.declared.reply.Cause.TheVariants as cause
+use Rattle.bh_base.specs.Tickets.{in_state, is_queued, is_running}
+use Rattle.bh_tickets.specs.declared.changes.TicketChange.{TicketChange}
+use Rattle.bh_tickets.specs.declared.changes.TicketChange.TheVariants as change
+use Rattle.bh_tickets.specs.declared.states.DueRule.{DueRule}
+use Rattle.bh_base.specs.Machine.{released_by_one}
+
+-- a worker begins with its run
+abbrev pub run_started : Ticket → Ticket
+run_started t = record t { state = ticket.Running; busy = true }
+
+-- its run ended, and it goes on to the state
+abbrev pub run_ended : TicketState → Ticket → Ticket
+run_ended state t = record t { state = state; busy = false }
+
+-- its run ended too late
+abbrev pub run_stopped : Ticket → Ticket
+run_stopped t = record t { busy = false }
+
+-- it is answered, and one holder has collected that
+abbrev pub answered : Answer → Ticket → Ticket
+answered a t = released_by_one (in_state (ticket.Answered a) t)
+
+-- a holder runs its fallback
+abbrev pub fallback_started : Cause → Ticket → Ticket
+fallback_started cause t = in_state (ticket.InFallback cause) t
+
+-- one more holder waits for its answer
+abbrev pub joined : Ticket → Ticket
+joined t = record t { holders = t.holders + 1 }
+
+-- the ticket has timed out by the rule: it is queued or running, and was submitted so long before the moment
+abbrev pub is_due_by : DueRule → Ticket → Bool
+is_due_by due t = due.timeout_on && (is_queued t || is_running t) && nat_le due.timeout_ms (due.moment - t.submitted)
+
+-- as it is once it timed out, where it has
+abbrev pub timed_out_by : DueRule → Ticket → Ticket
+timed_out_by due t = if is_due_by due t then in_state (ticket.NeedsFallback cause.Timeout) t else t
+
+-- a holder that collects gets no answer yet: the ticket waits, or its run or its fallback is under way
+abbrev pub is_unanswered : Ticket → Bool
+is_unanswered t = elim t.state [ ticket.Queued ↦ true | ticket.Running ↦ true | ticket.InFallback _ ↦ true | _ ↦ false ]
+
+-- whether a ticket in the state waits
+abbrev pub queued_in : TicketState → Bool
+queued_in s = elim s [ ticket.Queued ↦ true | _ ↦ false ]
+
+-- what a change makes of a ticket
+abbrev pub changed_by : TicketChange → Ticket → Ticket
+changed_by change.StartRun t = run_started t
+changed_by (change.EndRun state) t = run_ended state.now t
+changed_by change.StopRun t = run_stopped t
+changed_by change.ReleaseHolder t = released_by_one t
+changed_by (change.AnswerHolder a) t = answered a.now t
+changed_by (change.Answer a) t = in_state (ticket.Answered a.now) t
+changed_by (change.StartFallback c) t = fallback_started c t
+changed_by change.AddHolder t = joined t
+changed_by change.TimeOut t = in_state (ticket.NeedsFallback cause.Timeout) t
+
+-- a run that ended does not wait for a worker, a holder that goes was there, and there are not too many
+abbrev pub IsAllowed : TicketChange → Ticket → Type 0
+IsAllowed (change.EndRun state) t = queued_in state.now ≡ false
+IsAllowed change.ReleaseHolder t = 0 < t.holders
+IsAllowed (change.AnswerHolder a) t = 0 < t.holders
+IsAllowed change.AddHolder t = t.holders < 2 ^ 64 - 1
+IsAllowed _ t = Unit {0}

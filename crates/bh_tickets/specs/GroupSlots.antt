@@ -1,0 +1,163 @@
+-- What a group keeps of its tickets beside their slots, and what its calls do.
+use Rattle.std.specs.Prelude.{eqb, if◌then◌else◌, ◌≡◌, ℕ, ◌+◌, ◌-◌, ◌<◌, ◌^◌, [], ◌∷◌, ◌++◌, filter, map, Bool, true, false, length, is_some, slice_get, Option, Some, None, List, count_by}
+use Rattle.std.specs.List.{list_any}
+use Rattle.bh_base.specs.declared.ticket.Ticket.{Ticket}
+use Rattle.bh_base.specs.Tickets.{is_queued, is_in_fallback, is_kept}
+use Rattle.bh_index_lists.specs.Lists.{without}
+use Rattle.bh_tickets.specs.declared.states.DueRule.{DueRule}
+use Rattle.bh_tickets.specs.declared.group_slots.Needless.{Needless}
+use Rattle.bh_tickets.specs.declared.group_slots.Needless.TheVariants as needless
+use Rattle.bh_tickets.specs.declared.changes.TicketChange.{TicketChange}
+use Rattle.bh_tickets.specs.Changes.{IsAllowed, is_due_by, timed_out_by}
+use Rattle.std.specs.Option.{option_map}
+use Rattle.bh_cache.specs.declared.lists.GroupLists.{GroupLists}
+use Rattle.bh_tickets.specs.declared.group_slots.GroupSlots.{GroupSlots}
+use Rattle.bh_base.specs.Tickets.{is_cached_in}
+use Rattle.bh_cache.specs.Cache.{uncached_in}
+use Rattle.bh_cache.specs.Listed.{now_is}
+use Rattle.bh_slot_arena.specs.Slots.{lists_in, slots_on}
+use Rattle.bh_cache.specs.Slots.{Slots, is_on, is_owned, ticket_at, tickets_of, list_for, count_below, has_one, one, InOrder, IsArena, IsFrame}
+
+-- the four lists of a group follow on one another
+pub record IsNumbered (g : GroupLists) : Type 0 where
+  pub queued : g.queued ≡ g.free + 1
+  pub running : g.running ≡ g.free + 2
+  pub settled : g.settled ≡ g.free + 3
+
+-- the tickets in the slots
+pub record IsArranged (a : Slots) (g : GroupLists) (serial : ℕ) : Type 0 where
+  pub distinct : (x y : ℕ) (t u : Ticket) → ticket_at a g x ≡ Some t → ticket_at a g y ≡ Some u → t.serial ≡ u.serial → x ≡ y
+  pub below : (x : ℕ) (t : Ticket) → ticket_at a g x ≡ Some t → t.serial < serial
+  pub placed : (x : ℕ) (t : Ticket) → ticket_at a g x ≡ Some t → is_on a 0 (list_for g t.state) x ≡ true
+  pub order : InOrder a.payloads (slots_on a 0 g.queued)
+
+-- how many of the group's tickets pass
+abbrev pub count_at : Slots → GroupLists → (Ticket → Bool) → ℕ
+count_at a g q = count_below (length a.payloads) (λ x. has_one q (ticket_at a g x))
+
+abbrev pub is_busy : Ticket → Bool
+is_busy t = t.busy
+
+abbrev pub is_any : Ticket → Bool
+is_any t = true
+
+-- a ticket of the slots passes
+abbrev pub any_at : (Ticket → Bool) → List Ticket → List ℕ → Bool
+any_at q payloads slots = list_any (λ x. has_one q (slice_get payloads x)) slots
+
+-- the ticket in the slot may be needed no more
+abbrev pub may_go : Needless → ℕ → Bool
+may_go needless.Nothing x = false
+may_go (needless.One y) x = eqb y x
+may_go needless.Many x = true
+
+-- and with one slot more
+abbrev pub noted : ℕ → Needless → Needless
+noted x needless.Nothing = needless.One x
+noted x (needless.One y) = if eqb y x then needless.One y else needless.Many
+noted x needless.Many = needless.Many
+
+-- so many slots, none of which has a ticket
+abbrev pub no_slot_taken : GroupLists → ℕ → GroupSlots
+no_slot_taken lists room = record { lists = lists; room = room; next = 1; taken = 0; busy = 0; queued = 0; in_fallback = 0; needless = needless.Nothing }
+
+-- what a group keeps fits its tickets in the arena
+pub record IsGroupSlots (a : Slots) (s : GroupSlots) : Type 0 where
+  pub numbered : IsNumbered s.lists
+  pub there : s.lists.settled < length (lists_in a 0)
+  pub arranged : IsArranged a s.lists s.next
+  pub slots : count_below (length a.payloads) (is_owned a s.lists) ≡ s.room
+  pub few : s.room < 2 ^ 63
+  pub taken : s.taken ≡ count_at a s.lists is_any
+  pub busy : s.busy ≡ count_at a s.lists is_busy
+  pub queued : s.queued ≡ count_at a s.lists is_queued
+  pub in_fallback : s.in_fallback ≡ count_at a s.lists is_in_fallback
+  -- a ticket that nobody needs was noted, and a slot that was noted alone has a ticket
+  pub needed : (x : ℕ) (t : Ticket) → ticket_at a s.lists x ≡ Some t → is_kept t ≡ false → may_go s.needless x ≡ true
+  pub noted : (x : ℕ) → s.needless ≡ needless.One x → is_some (ticket_at a s.lists x) ≡ true
+
+-- one group has changed: what it keeps fits its tickets again, and other groups are as they were
+pub record IsGroupChange (a : Slots) (s : GroupSlots) (b : Slots) (r : GroupSlots) : Type 0 where
+  pub arena : IsArena b 0
+  pub group : IsGroupSlots b r
+  pub frame : IsFrame s.lists a b
+  pub limit : b.limit ≡ a.limit
+  pub lists : r.lists ≡ s.lists
+  pub room : r.room ≡ s.room
+
+-- the counts without a ticket, and with one
+abbrev pub counted_out : Ticket → GroupSlots → GroupSlots
+counted_out t s = record s { busy = s.busy - one t.busy; queued = s.queued - one (is_queued t); in_fallback = s.in_fallback - one (is_in_fallback t) }
+
+abbrev pub counted_in : Ticket → GroupSlots → GroupSlots
+counted_in t s = record s { busy = s.busy + one t.busy; queued = s.queued + one (is_queued t); in_fallback = s.in_fallback + one (is_in_fallback t) }
+
+-- the slot has a ticket of this serial, which waits if this one does
+pub record CanPut (a : Slots) (s : GroupSlots) (x : ℕ) (v : Ticket) : Type 0 where
+  pub was : Ticket
+  pub here : ticket_at a s.lists x ≡ Some was
+  pub serial : v.serial ≡ was.serial
+  pub waits : is_queued v ≡ true → is_queued was ≡ true
+
+-- the slot has a ticket to which that may happen
+pub record CanBe (a : Slots) (s : GroupSlots) (x : ℕ) (change : TicketChange) : Type 0 where
+  pub was : Ticket
+  pub here : ticket_at a s.lists x ≡ Some was
+  pub allowed : IsAllowed change was
+
+-- the slot has the ticket now, all else of the group's tickets is as it was, and so are other groups
+pub record IsPut (a : Slots) (s : GroupSlots) (x : ℕ) (v : Ticket) (b : Slots) (r : GroupSlots) : Type 0 where
+  pub change : IsGroupChange a s b r
+  pub next : r.next ≡ s.next
+  pub items : tickets_of b s.lists ≡ map (now_is v) (tickets_of a s.lists)
+  pub counts : (q : Ticket → Bool) → count_at b s.lists q + one (has_one q (ticket_at a s.lists x)) ≡ count_at a s.lists q + one (q v)
+  pub left : (l : ℕ) → (l ≡ list_for s.lists v.state → ⊥) → slots_on b 0 l ≡ without x (slots_on a 0 l)
+  pub here : ticket_at b s.lists x ≡ Some v
+  pub others : (y : ℕ) → (y ≡ x → ⊥) → ticket_at b s.lists y ≡ ticket_at a s.lists y
+
+-- a ticket of the next serial that somebody needs, where a slot is free
+pub record CanAdd (s : GroupSlots) (v : Ticket) : Type 0 where
+  pub room : s.taken < s.room
+  pub serial : v.serial ≡ s.next
+  pub few : s.next < 2 ^ 63
+  pub needed : is_kept v ≡ true
+
+-- the ticket is behind the others, and other groups are as they were
+pub record IsAdded (a : Slots) (s : GroupSlots) (v : Ticket) (b : Slots) (r : GroupSlots) : Type 0 where
+  pub change : IsGroupChange a s b r
+  pub next : r.next ≡ s.next + 1
+  pub items : tickets_of b s.lists ≡ tickets_of a s.lists ++ v ∷ []
+
+-- a ticket, where somebody needs it
+abbrev pub if_kept : Option Ticket → Option Ticket
+if_kept None = None
+if_kept (Some t) = if is_kept t then Some t else None
+
+-- the ticket in the slot is gone, where nobody needs it; each other list than that of free slots has lost it then
+pub record IsReleasedAt (a : Slots) (s : GroupSlots) (x : ℕ) (b : Slots) (r : GroupSlots) : Type 0 where
+  pub change : IsGroupChange a s b r
+  pub next : r.next ≡ s.next
+  pub needless : r.needless ≡ s.needless
+  pub tickets : (y : ℕ) → ticket_at b s.lists y ≡ (if eqb y x then if_kept (ticket_at a s.lists y) else ticket_at a s.lists y)
+  pub walk : (l : ℕ) → (l ≡ s.lists.free → ⊥) → slots_on b 0 l ≡ (if has_one is_kept (ticket_at a s.lists x) then slots_on a 0 l else without x (slots_on a 0 l))
+
+-- tickets that nobody needs are gone, and other groups are as they were
+pub record IsReleased (a : Slots) (s : GroupSlots) (b : Slots) (r : GroupSlots) : Type 0 where
+  pub change : IsGroupChange a s b r
+  pub next : r.next ≡ s.next
+  pub items : tickets_of b s.lists ≡ filter is_kept (tickets_of a s.lists)
+
+-- the ticket in the slot has timed out, where it was due; each other list than that of settled tickets has lost it then
+pub record IsTimed (a : Slots) (s : GroupSlots) (x : ℕ) (due : DueRule) (n : ℕ) (b : Slots) (r : GroupSlots) : Type 0 where
+  pub change : IsGroupChange a s b r
+  pub next : r.next ≡ s.next
+  pub tickets : (y : ℕ) → ticket_at b s.lists y ≡ option_map (λ t. if eqb y x then timed_out_by due t else t) (ticket_at a s.lists y)
+  pub count : n + count_at b s.lists (is_due_by due) ≡ count_at a s.lists (is_due_by due)
+  pub walk : (l : ℕ) → (l ≡ s.lists.settled → ⊥) → slots_on b 0 l ≡ (if has_one (is_due_by due) (ticket_at a s.lists x) then without x (slots_on a 0 l) else slots_on a 0 l)
+
+-- the group's tickets are cached in the context no more
+pub record IsUncached (a : Slots) (s : GroupSlots) (context n : ℕ) (b : Slots) (r : GroupSlots) : Type 0 where
+  pub change : IsGroupChange a s b r
+  pub next : r.next ≡ s.next
+  pub items : tickets_of b s.lists ≡ map (uncached_in context) (tickets_of a s.lists)
+  pub count : n ≡ count_by (is_cached_in context) (tickets_of a s.lists)

@@ -1,0 +1,48 @@
+-- The tickets of all groups, by the number of the group.
+use Rattle.std.specs.Prelude.{◌≡◌, ◌≢◌, ℕ, Bool, zero, suc, List, [], ◌∷◌, map, length, Option, Some, None, slice_get, sum_by}
+use Rattle.bh_base.specs.declared.ticket.Ticket.{Ticket}
+use Rattle.bh_base.specs.Tickets.{changed_first}
+use Rattle.bh_tickets.specs.declared.group_slots.GroupSlots.{GroupSlots}
+use Rattle.bh_cache.specs.Slots.{Slots, ticket_at, tickets_of, IsArena, IsApart}
+use Rattle.bh_tickets.specs.GroupSlots.{IsGroupSlots}
+use Rattle.bh_tickets.specs.declared.changes.TicketChange.{TicketChange}
+use Rattle.bh_tickets.specs.Changes.{IsAllowed, changed_by}
+use Rattle.bh_tickets.specs.TicketsView.{TicketsView, GroupTickets, ChangesOnly, group_at, in_slot, IsFirstAt}
+
+-- the places below n that have a ticket, with the tickets
+abbrev pub slot_in : ℕ → Option Ticket → List (ℕ × Ticket) → List (ℕ × Ticket)
+slot_in n None xs = xs
+slot_in n (Some t) xs = (n, t) ∷ xs
+
+abbrev pub slotted : (ℕ → Option Ticket) → ℕ → List (ℕ × Ticket)
+slotted at zero = []
+slotted at (suc n) = slot_in n (at n) (slotted at n)
+
+-- what contracts see of a group
+abbrev pub group_of : Slots → GroupSlots → GroupTickets
+group_of a s = record { items = tickets_of a s.lists; room = s.room; next = s.next; slots = slotted (ticket_at a s.lists) (length a.payloads) }
+
+abbrev pub groups_of : Slots → List GroupSlots → List GroupTickets
+groups_of a ss = map (group_of a) ss
+
+-- what contracts see of all groups
+abbrev pub view_of : Slots → List GroupSlots → TicketsView
+view_of a ss = record { limit = a.limit; groups = groups_of a ss }
+
+-- each group's part is as it should be, and no two groups have a list in common
+pub record IsWhole (a : Slots) (ss : List GroupSlots) : Type 0 where
+  pub arena : IsArena a 0
+  pub each : (i : ℕ) (s : GroupSlots) → slice_get ss i ≡ Some s → IsGroupSlots a s
+  pub apart : (i j : ℕ) (s r : GroupSlots) → slice_get ss i ≡ Some s → slice_get ss j ≡ Some r → i ≢ j → IsApart s.lists r.lists
+  pub slots : length a.payloads ≡ sum_by (λ (s : GroupSlots). s.room) ss
+
+-- the slot has a ticket to which that may happen
+pub record CanChange (g : GroupTickets) (slot : ℕ) (change : TicketChange) : Type 0 where
+  pub ticket : Ticket
+  pub here : in_slot g slot ≡ Some ticket
+  pub allowed : IsAllowed change ticket
+
+-- that has happened to the ticket in the slot: for the list this is a change of whatever first ticket the slot has
+pub record IsChanged (group slot : ℕ) (change : TicketChange) (old new : TicketsView) : Type 0 where
+  pub items : (p : Ticket → Bool) → IsFirstAt p (group_at old group) slot → (group_at new group).items ≡ changed_first p (changed_by change) (group_at old group).items
+  pub left : ChangesOnly group old new

@@ -1,0 +1,69 @@
+//! How the arena grows by a group.
+
+ghost use Rattle.std.specs.Prelude.{◌≡◌, ℕ, ◌+◌, ◌≤◌, ◌^◌, [], ◌∷◌, length, IfOk, OnErr, OnOk};
+ghost use Rattle.bh_base.specs.declared.ticket.Ticket.{Ticket};
+ghost use Rattle.bh_slot_arena.specs.Slots.{lists_in};
+ghost use Rattle.bh_tickets.specs.Growth.{HasNewLists, IsGrown, IsReadyFor, lists_from};
+
+use bh_base::{Text, Ticket, TicketState};
+use bh_cache::GroupLists;
+use bh_slot_arena::Arena;
+use std::alloc::{AllocError, Global};
+
+/// An arena without slots.
+pub fn new_arena(alloc: Global, limit: u32) -> Arena<Ticket, 1>
+    ensures { result ≡ record { limit = limit; payloads = []; families = [] ∷ [] } }
+{
+    Arena::new(alloc, limit)
+}
+
+/// The lists of a new group, which are empty. Refused, nothing has changed.
+pub fn add_lists(arena: &mut Arena<Ticket, 1>) -> Result<GroupLists, AllocError>
+    ensures lists { IfOk result (λ lists. lists ≡ lists_from (length (lists_in arena.old 0))) }
+    ensures ok { OnOk result (HasNewLists arena.old arena.new) }
+    ensures err { OnErr result (arena.new ≡ arena.old) }
+{
+    let free = arena.add_lists(0, 4)?;
+    arena.partition(0);
+    Ok(GroupLists {
+        free,
+        queued: free + 1,
+        running: free + 2,
+        settled: free + 3,
+    })
+}
+
+/// So many free slots for a group. Refused, nothing has changed.
+pub fn add_slots(
+    arena: &mut Arena<Ticket, 1>,
+    lists: &GroupLists,
+    count: u32,
+) -> Result<(), AllocError>
+    requires { IsReadyFor lists.now count arena.old }
+    ensures ok { OnOk result (IsGrown lists.now count arena.old arena.new) }
+    ensures err { OnErr result (arena.new ≡ arena.old) }
+{
+    if arena
+        .add_slots(count, [lists.free], blank_ticket())
+        .is_err()
+    {
+        return Err(AllocError);
+    }
+    arena.partition(0);
+    Ok(())
+}
+
+/// What lies in a slot that never had a ticket.
+fn blank_ticket() -> Ticket {
+    Ticket {
+        serial: 0,
+        arg: Text::new("").unwrap(),
+        cache: None,
+        submitted: 0,
+        state: TicketState::Queued,
+        busy: false,
+        holders: 0,
+        cached: false,
+        test: false,
+    }
+}

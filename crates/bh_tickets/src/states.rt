@@ -1,0 +1,70 @@
+//! What is asked of one ticket.
+
+ghost use Rattle.std.specs.Prelude.{◌≡◌, ℕ, ◌-◌, ◌<◌, nat_lt};
+ghost use Rattle.bh_base.specs.Tickets.{is_in_fallback, is_kept, is_queued, is_running};
+ghost use Rattle.bh_tickets.specs.Changes.{is_due_by, is_unanswered};
+
+use bh_base::{Moment, Ticket, TicketState};
+
+/// Which tickets are due to time out.
+#[derive(Clone, Copy, Debug)]
+pub struct DueRule {
+    pub timeout_on: bool,
+    /// Milliseconds from the submit.
+    pub timeout_ms: u64,
+    pub moment: Moment,
+}
+
+/// Whether the ticket waits for a worker.
+pub fn is_queued(ticket: &Ticket) -> bool
+    ensures { result ≡ is_queued ticket.now }
+{
+    matches!(ticket.state, TicketState::Queued)
+}
+
+/// Whether the ticket's run is under way and has not timed out.
+pub fn is_running(ticket: &Ticket) -> bool
+    ensures { result ≡ is_running ticket.now }
+{
+    matches!(ticket.state, TicketState::Running)
+}
+
+/// Whether a holder runs the ticket's fallback.
+pub fn is_in_fallback(ticket: &Ticket) -> bool
+    ensures { result ≡ is_in_fallback ticket.now }
+{
+    matches!(ticket.state, TicketState::InFallback(_))
+}
+
+/// Whether a holder that collects gets no answer yet, and no fallback to run.
+pub fn is_unanswered(ticket: &Ticket) -> bool
+    ensures { result ≡ is_unanswered ticket.now }
+{
+    matches!(
+        ticket.state,
+        TicketState::Queued | TicketState::Running | TicketState::InFallback(_)
+    )
+}
+
+/// Whether a holder is to collect the ticket's answer.
+pub fn is_held(ticket: &Ticket) -> bool
+    ensures { result ≡ nat_lt 0 ticket.now.holders }
+{
+    0 < ticket.holders
+}
+
+/// Whether somebody needs the ticket.
+pub fn is_kept(ticket: &Ticket) -> bool
+    ensures { result ≡ is_kept ticket.now }
+{
+    ticket.busy || 0 < ticket.holders || ticket.cached
+}
+
+/// Whether the ticket is to time out.
+pub fn is_due(ticket: &Ticket, due: &DueRule) -> bool
+    ensures { result ≡ is_due_by due.now ticket.now }
+{
+    let open = matches!(ticket.state, TicketState::Queued)
+        || matches!(ticket.state, TicketState::Running);
+    due.timeout_on && open && due.moment.saturating_sub(ticket.submitted) >= due.timeout_ms
+}

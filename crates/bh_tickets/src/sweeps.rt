@@ -1,0 +1,110 @@
+//! Walks along all of a group's tickets, which may move the ticket at hand to another list.
+
+ghost use Rattle.std.specs.Prelude.{◌≡◌, ◌≢◌, true};
+ghost use Rattle.bh_slot_arena.specs.Slots.{slots_on};
+ghost use Rattle.bh_cache.specs.Slots.{IsArena, is_live_list};
+ghost use Rattle.bh_tickets.specs.GroupSlots.{IsGroupSlots, IsReleased};
+ghost use Rattle.bh_tickets.specs.Sweeps.{IsReleasedFrom, IsTimedFrom, IsTimedOut};
+
+use crate::group_slots::{GroupSlots, Needless, release_at, time_out_at};
+use crate::states::DueRule;
+use bh_base::Ticket;
+use bh_slot_arena::Arena;
+
+/// Each of the group's tickets that is due has timed out. How many did.
+pub fn time_out(arena: &mut Arena<Ticket, 1>, group: &mut GroupSlots, due: &DueRule) -> u64
+    requires arena { IsArena arena.old 0 }
+    requires group { IsGroupSlots arena.old group.old }
+    ensures { IsTimedOut arena.old group.old due.now result arena.new group.new }
+{
+    arena.partition(0);
+    let lists = group.lists;
+    let queued = time_out_on(arena, group, lists.queued, due);
+    let running = time_out_on(arena, group, lists.running, due);
+    queued + running
+}
+
+/// Each of the group's tickets that nobody needs goes. It takes no walk where at most one was noted.
+pub fn release(arena: &mut Arena<Ticket, 1>, group: &mut GroupSlots)
+    requires arena { IsArena arena.old 0 }
+    requires group { IsGroupSlots arena.old group.old }
+    ensures { IsReleased arena.old group.old arena.new group.new }
+{
+    match group.needless {
+        Needless::Nothing => {}
+        Needless::One(slot) => release_one(arena, group, slot),
+        Needless::Many => release_all(arena, group),
+    }
+}
+
+/// The ticket that was noted goes, where nobody needs it.
+fn release_one(arena: &mut Arena<Ticket, 1>, group: &mut GroupSlots, slot: u32)
+    requires arena { IsArena arena.old 0 }
+    requires group { IsGroupSlots arena.old group.old }
+    requires noted { group.old.needless ≡ Needless.One slot }
+    ensures { IsReleased arena.old group.old arena.new group.new }
+{
+    group.needless = Needless::Many;
+    release_at(arena, group, slot);
+    group.needless = Needless::Nothing;
+}
+
+/// Each of the group's tickets that nobody needs goes, by a walk along all its lists.
+fn release_all(arena: &mut Arena<Ticket, 1>, group: &mut GroupSlots)
+    requires arena { IsArena arena.old 0 }
+    requires group { IsGroupSlots arena.old group.old }
+    requires many { group.old.needless ≡ Needless.Many }
+    ensures { IsReleased arena.old group.old arena.new group.new }
+{
+    let lists = group.lists;
+    release_on(arena, group, lists.queued);
+    release_on(arena, group, lists.running);
+    release_on(arena, group, lists.settled);
+    group.needless = Needless::Nothing;
+}
+
+/// The tickets of a list have timed out, where they are due. How many did.
+fn time_out_on(
+    arena: &mut Arena<Ticket, 1>,
+    group: &mut GroupSlots,
+    list: usize,
+    due: &DueRule,
+) -> u64
+    requires arena { IsArena arena.old 0 }
+    requires group { IsGroupSlots arena.old group.old }
+    requires live { is_live_list group.old.lists list ≡ true }
+    requires open { list ≢ group.old.lists.settled }
+    ensures { IsTimedFrom (slots_on arena.old 0 list) arena.old group.old due.now result arena.new group.new }
+{
+    arena.partition(0);
+    let mut number = 0;
+    let mut place = arena.front(0, list);
+    for _ in 0..arena.len_of(0, list) {
+        let Some(slot) = place else {
+            return number;
+        };
+        // Before the slot moves.
+        place = arena.next(0, slot);
+        number += time_out_at(arena, group, slot, due);
+    }
+    number
+}
+
+/// The tickets of a list go, where nobody needs them.
+fn release_on(arena: &mut Arena<Ticket, 1>, group: &mut GroupSlots, list: usize)
+    requires arena { IsArena arena.old 0 }
+    requires group { IsGroupSlots arena.old group.old }
+    requires many { group.old.needless ≡ Needless.Many }
+    requires live { is_live_list group.old.lists list ≡ true }
+    ensures { IsReleasedFrom (slots_on arena.old 0 list) arena.old group.old arena.new group.new }
+{
+    let mut place = arena.front(0, list);
+    for _ in 0..arena.len_of(0, list) {
+        let Some(slot) = place else {
+            return;
+        };
+        // Before the slot moves.
+        place = arena.next(0, slot);
+        release_at(arena, group, slot);
+    }
+}

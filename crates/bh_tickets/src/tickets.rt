@@ -1,0 +1,362 @@
+//! The tickets of all groups.
+
+ghost use Rattle.std.specs.List.{list_any};
+ghost use Rattle.std.specs.Prelude.{◌≡◌, ◌≢◌, ℕ, ◌+◌, ◌-◌, ◌^◌, ◌<◌, ◌≤◌, ◌==◌, Bool, [], ◌∷◌, ◌++◌, count_by, filter, find, false, length, map, nat_le, slice_get, IfSome, None, OnErr, OnOk, Some};
+ghost use Rattle.bh_base.specs.declared.ticket.Ticket.{Ticket};
+ghost use Rattle.bh_base.specs.declared.ticket.TicketState.TheVariants as ticket;
+ghost use Rattle.bh_base.specs.Machine.{released_by_one};
+ghost use Rattle.bh_base.specs.Tickets.{changed_first, in_state, is_busy_at, is_cached_as, is_cached_in, is_held_at, is_in_fallback, is_in_fallback_at, is_kept, is_queued};
+ghost use Rattle.bh_cache.specs.Cache.{uncached_in};
+ghost use Rattle.bh_tickets.specs.Changes.{answered, fallback_started, is_due_by, joined, queued_in, run_ended, run_started, run_stopped, timed_out_by};
+ghost use Rattle.bh_tickets.specs.TicketsView.{CanPush, ChangesOnly, IsFirstAt, IsThere, group_at, in_slot, no_tickets_in, slots_of};
+ghost use Rattle.bh_tickets.specs.Whole.{CanChange, IsChanged};
+
+use crate::changes::TicketChange;
+use crate::due::any_due_on;
+use crate::group_slots::{self, GroupSlots, add, drop_cached};
+use crate::growth::{add_lists, add_slots, new_arena};
+use crate::states::{DueRule, is_due, is_held, is_in_fallback};
+use crate::sweeps::{release, time_out};
+use bh_base::{Answer, Cause, Serial, Text, Ticket, TicketState};
+use bh_cache::find_serial;
+use bh_slot_arena::Arena;
+use std::alloc::{AllocError, Global};
+use std::marker::Model;
+
+/// The tickets of all groups, by the numbers of the groups.
+#[derive(Drop)]
+pub struct Tickets {
+    arena: Arena<Ticket, 1>,
+    groups: Vec<GroupSlots>,
+}
+
+impl Model for Tickets {
+    ghost use Rattle.bh_tickets.specs.TicketsView.{TicketsView};
+    ghost use Rattle.bh_tickets.specs.Whole.{view_of, IsWhole};
+
+    ghost Value = { TicketsView };
+
+    ghost view = { λ ts. view_of ts.arena ts.groups.items };
+
+    ghost invariant = { λ ts. IsWhole ts.arena ts.groups.items };
+}
+
+impl Tickets {
+    /// No group. There may be so many slots in all.
+    pub fn new(alloc: Global, limit: u32) -> Self
+        ensures { result ≡ record { limit = limit; groups = [] } }
+    {
+        Tickets {
+            arena: new_arena(alloc, limit),
+            groups: Vec::new(alloc),
+        }
+    }
+
+    /// Whether so many slots more are within the limit.
+    pub fn has_slots_for(&self, slots: u64) -> bool
+        requires { slots ≤ 4096 }
+        ensures { result ≡ nat_le (slots_of self.now + slots) self.now.limit }
+    {
+        self.arena.has_room_for(slots as u32)
+    }
+
+    /// A group more, with so many slots and no ticket. It takes all the memory that the group's tickets will need.
+    /// Refused, nothing has changed.
+    pub fn add_group(&mut self, slots: u64) -> Result<(), AllocError>
+        requires few { slots ≤ 4096 }
+        requires within { slots_of self.old + slots ≤ self.old.limit }
+        ensures ok { OnOk result (self.new ≡ record self.old { groups = self.old.groups ++ no_tickets_in slots ∷ [] }) }
+        ensures err { OnErr result (self.new ≡ self.old) }
+    {
+        self.groups.reserve(1)?;
+        let lists = add_lists(&mut self.arena)?;
+        add_slots(&mut self.arena, &lists, slots as u32)?;
+        self.groups.push_reserved(GroupSlots::new(lists, slots));
+        Ok(())
+    }
+
+    /// How many tickets a group has.
+    pub fn len(&self, group: usize) -> u64
+        requires { group < length self.now.groups }
+        ensures { result ≡ length (group_at self.now group).items }
+    {
+        self.groups[group].taken
+    }
+
+    /// How many runs of a group are under way, timed out ones included.
+    pub fn busy_count(&self, group: usize) -> u64
+        requires { group < length self.now.groups }
+        ensures { result ≡ count_by (λ t. t.busy) (group_at self.now group).items }
+    {
+        self.groups[group].busy
+    }
+
+    /// How many wait for a worker.
+    pub fn queued_count(&self, group: usize) -> u64
+        requires { group < length self.now.groups }
+        ensures { result ≡ count_by is_queued (group_at self.now group).items }
+    {
+        self.groups[group].queued
+    }
+
+    /// How many have their fallback running.
+    pub fn in_fallback_count(&self, group: usize) -> u64
+        requires { group < length self.now.groups }
+        ensures { result ≡ count_by is_in_fallback (group_at self.now group).items }
+    {
+        self.groups[group].in_fallback
+    }
+
+    /// The next ticket's serial.
+    pub fn next_serial(&self, group: usize) -> Serial
+        requires { group < length self.now.groups }
+        ensures { result ≡ (group_at self.now group).next }
+    {
+        self.groups[group].next
+    }
+
+    /// The slot of the queued ticket of least serial.
+    pub fn first_queued(&self, group: usize) -> Option<u32>
+        requires { group < length self.now.groups }
+        ensures found { IfSome result (λ slot. IsFirstAt is_queued (group_at self.now group) slot) }
+        ensures none { result ≡ None → find is_queued (group_at self.now group).items ≡ None }
+    {
+        let entry = &self.groups[group];
+        self.arena.front(0, entry.lists.queued)
+    }
+
+    /// The slot of the ticket of the serial, where its run is under way.
+    pub fn find_busy(&self, group: usize, serial: Serial) -> Option<u32>
+        requires { group < length self.now.groups }
+        ensures found { IfSome result (λ slot. IsFirstAt (is_busy_at serial) (group_at self.now group) slot) }
+        ensures none { result ≡ None → find (is_busy_at serial) (group_at self.now group).items ≡ None }
+    {
+        let entry = &self.groups[group];
+        let slot = find_serial(&self.arena, &entry.lists, serial)?;
+        if !self.arena.get(slot).busy {
+            return None;
+        }
+        Some(slot)
+    }
+
+    /// The slot of the ticket of the serial, where someone holds it.
+    pub fn find_held(&self, group: usize, serial: Serial) -> Option<u32>
+        requires { group < length self.now.groups }
+        ensures found { IfSome result (λ slot. IsFirstAt (is_held_at serial) (group_at self.now group) slot) }
+        ensures none { result ≡ None → find (is_held_at serial) (group_at self.now group).items ≡ None }
+    {
+        let entry = &self.groups[group];
+        let slot = find_serial(&self.arena, &entry.lists, serial)?;
+        if !is_held(self.arena.get(slot)) {
+            return None;
+        }
+        Some(slot)
+    }
+
+    /// The slot of the ticket of the serial, where a holder runs its fallback.
+    pub fn find_in_fallback(&self, group: usize, serial: Serial) -> Option<u32>
+        requires { group < length self.now.groups }
+        ensures found { IfSome result (λ slot. IsFirstAt (is_in_fallback_at serial) (group_at self.now group) slot) }
+        ensures none { result ≡ None → find (is_in_fallback_at serial) (group_at self.now group).items ≡ None }
+    {
+        let entry = &self.groups[group];
+        let slot = find_serial(&self.arena, &entry.lists, serial)?;
+        if !is_in_fallback(self.arena.get(slot)) {
+            return None;
+        }
+        Some(slot)
+    }
+
+    /// The slot of the ticket that is cached under the context and the key.
+    pub fn find_cached(&self, group: usize, context: u64, key: &Text<32>) -> Option<u32>
+        requires { group < length self.now.groups }
+        ensures found { IfSome result (λ slot. IsFirstAt (is_cached_as (context, key.now)) (group_at self.now group) slot) }
+        ensures none { result ≡ None → find (is_cached_as (context, key.now)) (group_at self.now group).items ≡ None }
+    {
+        let entry = &self.groups[group];
+        bh_cache::find(&self.arena, &entry.lists, context, key)
+    }
+
+    /// Whether a ticket waits for a worker.
+    pub fn any_queued(&self, group: usize) -> bool
+        requires { group < length self.now.groups }
+        ensures { result ≡ list_any is_queued (group_at self.now group).items }
+    {
+        let entry = &self.groups[group];
+        self.arena.front(0, entry.lists.queued).is_some()
+    }
+
+    /// Whether the ticket of the serial has timed out: it is queued or running, and was submitted so many
+    /// milliseconds before the moment.
+    pub fn is_due(&self, group: usize, serial: Serial, due: &DueRule) -> bool
+        requires { group < length self.now.groups }
+        ensures { result ≡ list_any (λ t. t.serial == serial) (filter (is_due_by due.now) (group_at self.now group).items) }
+    {
+        let entry = &self.groups[group];
+        let Some(slot) = find_serial(&self.arena, &entry.lists, serial) else {
+            return false;
+        };
+        is_due(self.arena.get(slot), due)
+    }
+
+    /// Whether a ticket has timed out.
+    pub fn any_due(&self, group: usize, due: &DueRule) -> bool
+        requires { group < length self.now.groups }
+        ensures { result ≡ list_any (is_due_by due.now) (group_at self.now group).items }
+    {
+        let entry = &self.groups[group];
+        any_due_on(&self.arena, entry.lists.queued, due)
+            || any_due_on(&self.arena, entry.lists.running, due)
+    }
+
+    /// The ticket in the slot.
+    pub fn get(&self, group: usize, slot: u32) -> &Ticket
+        requires group { group < length self.now.groups }
+        requires there { IsThere (group_at self.now group) slot }
+        ensures { in_slot (group_at self.now group) slot ≡ Some result.now }
+    {
+        self.arena.get(slot)
+    }
+
+    /// That happens to the ticket in the slot.
+    fn change(&mut self, group: usize, slot: u32, change: &TicketChange)
+        requires group { group < length self.old.groups }
+        requires allowed { CanChange (group_at self.old group) slot change.now }
+        ensures { IsChanged group slot change.now self.old self.new }
+    {
+        let entry = &mut self.groups[group];
+        group_slots::change(&mut self.arena, entry, slot, change);
+    }
+
+    /// A worker begins with the run of the ticket, the first that is queued.
+    pub fn start_run(&mut self, group: usize, slot: u32)
+        requires group { group < length self.old.groups }
+        requires first { IsFirstAt is_queued (group_at self.old group) slot }
+        ensures items { (p : Ticket → Bool) → IsFirstAt p (group_at self.old group) slot → (group_at self.new group).items ≡ changed_first p run_started (group_at self.old group).items }
+        ensures left { ChangesOnly group self.old self.new }
+    {
+        self.change(group, slot, &TicketChange::StartRun);
+    }
+
+    /// The run of the ticket has ended in time.
+    pub fn end_run(&mut self, group: usize, slot: u32, state: &TicketState)
+        requires group { group < length self.old.groups }
+        requires there { IsThere (group_at self.old group) slot }
+        requires ended { queued_in state.now ≡ false }
+        ensures items { (p : Ticket → Bool) → IsFirstAt p (group_at self.old group) slot → (group_at self.new group).items ≡ changed_first p (run_ended state.now) (group_at self.old group).items }
+        ensures left { ChangesOnly group self.old self.new }
+    {
+        self.change(group, slot, &TicketChange::EndRun(state));
+    }
+
+    /// The run of the ticket has ended, too late.
+    pub fn stop_run(&mut self, group: usize, slot: u32)
+        requires group { group < length self.old.groups }
+        requires there { IsThere (group_at self.old group) slot }
+        ensures items { (p : Ticket → Bool) → IsFirstAt p (group_at self.old group) slot → (group_at self.new group).items ≡ changed_first p run_stopped (group_at self.old group).items }
+        ensures left { ChangesOnly group self.old self.new }
+    {
+        self.change(group, slot, &TicketChange::StopRun);
+    }
+
+    /// One holder has collected the answer.
+    pub fn release_holder(&mut self, group: usize, slot: u32)
+        requires group { group < length self.old.groups }
+        requires there { IsThere (group_at self.old group) slot }
+        requires held { (t : Ticket) → in_slot (group_at self.old group) slot ≡ Some t → 0 < t.holders }
+        ensures items { (p : Ticket → Bool) → IsFirstAt p (group_at self.old group) slot → (group_at self.new group).items ≡ changed_first p released_by_one (group_at self.old group).items }
+        ensures left { ChangesOnly group self.old self.new }
+    {
+        self.change(group, slot, &TicketChange::ReleaseHolder);
+    }
+
+    /// The ticket is answered, and one holder has collected that.
+    pub fn answer_holder(&mut self, group: usize, slot: u32, answer: &Answer)
+        requires group { group < length self.old.groups }
+        requires there { IsThere (group_at self.old group) slot }
+        requires held { (t : Ticket) → in_slot (group_at self.old group) slot ≡ Some t → 0 < t.holders }
+        ensures items { (p : Ticket → Bool) → IsFirstAt p (group_at self.old group) slot → (group_at self.new group).items ≡ changed_first p (answered answer.now) (group_at self.old group).items }
+        ensures left { ChangesOnly group self.old self.new }
+    {
+        self.change(group, slot, &TicketChange::AnswerHolder(answer));
+    }
+
+    /// The ticket is answered.
+    pub fn answer(&mut self, group: usize, slot: u32, answer: &Answer)
+        requires group { group < length self.old.groups }
+        requires there { IsThere (group_at self.old group) slot }
+        ensures items { (p : Ticket → Bool) → IsFirstAt p (group_at self.old group) slot → (group_at self.new group).items ≡ changed_first p (in_state (ticket.Answered answer.now)) (group_at self.old group).items }
+        ensures left { ChangesOnly group self.old self.new }
+    {
+        self.change(group, slot, &TicketChange::Answer(answer));
+    }
+
+    /// A holder begins with the fallback of the ticket.
+    pub fn start_fallback(&mut self, group: usize, slot: u32, cause: Cause)
+        requires group { group < length self.old.groups }
+        requires there { IsThere (group_at self.old group) slot }
+        ensures items { (p : Ticket → Bool) → IsFirstAt p (group_at self.old group) slot → (group_at self.new group).items ≡ changed_first p (fallback_started cause) (group_at self.old group).items }
+        ensures left { ChangesOnly group self.old self.new }
+    {
+        self.change(group, slot, &TicketChange::StartFallback(cause));
+    }
+
+    /// One more holder waits for the answer of the ticket.
+    pub fn add_holder(&mut self, group: usize, slot: u32)
+        requires group { group < length self.old.groups }
+        requires there { IsThere (group_at self.old group) slot }
+        requires few { (t : Ticket) → in_slot (group_at self.old group) slot ≡ Some t → t.holders < 2 ^ 64 - 1 }
+        ensures items { (p : Ticket → Bool) → IsFirstAt p (group_at self.old group) slot → (group_at self.new group).items ≡ changed_first p joined (group_at self.old group).items }
+        ensures left { ChangesOnly group self.old self.new }
+    {
+        self.change(group, slot, &TicketChange::AddHolder);
+    }
+
+    /// A ticket of the next serial, behind the others.
+    pub fn push(&mut self, group: usize, ticket: &Ticket)
+        requires group { group < length self.old.groups }
+        requires ticket { CanPush (group_at self.old group) ticket.now }
+        ensures items { (group_at self.new group).items ≡ (group_at self.old group).items ++ ticket.now ∷ [] }
+        ensures next { (group_at self.new group).next ≡ (group_at self.old group).next + 1 }
+        ensures room { (group_at self.new group).room ≡ (group_at self.old group).room }
+        ensures others { (g : ℕ) → g ≢ group → slice_get self.new.groups g ≡ slice_get self.old.groups g }
+        ensures count { length self.new.groups ≡ length self.old.groups }
+        ensures limit { self.new.limit ≡ self.old.limit }
+    {
+        let entry = &mut self.groups[group];
+        add(&mut self.arena, entry, ticket);
+    }
+
+    /// No ticket of the context is cached any more; answers how many were.
+    pub fn close(&mut self, group: usize, context: u64) -> u64
+        requires group { group < length self.old.groups }
+        ensures items { (group_at self.new group).items ≡ map (uncached_in context) (group_at self.old group).items }
+        ensures count { result ≡ count_by (is_cached_in context) (group_at self.old group).items }
+        ensures left { ChangesOnly group self.old self.new }
+    {
+        let entry = &mut self.groups[group];
+        drop_cached(&mut self.arena, entry, context)
+    }
+
+    /// Each ticket that is due has timed out; answers how many did.
+    pub fn time_out(&mut self, group: usize, due: &DueRule) -> u64
+        requires group { group < length self.old.groups }
+        ensures items { (group_at self.new group).items ≡ map (timed_out_by due.now) (group_at self.old group).items }
+        ensures count { result ≡ length (filter (is_due_by due.now) (group_at self.old group).items) }
+        ensures left { ChangesOnly group self.old self.new }
+    {
+        let entry = &mut self.groups[group];
+        time_out(&mut self.arena, entry, due)
+    }
+
+    /// Leaves the tickets out that nobody needs. It takes no walk where one call at most made a ticket needless.
+    pub fn release(&mut self, group: usize)
+        requires group { group < length self.old.groups }
+        ensures items { (group_at self.new group).items ≡ filter is_kept (group_at self.old group).items }
+        ensures few { length (group_at self.new group).items ≤ (group_at self.new group).room }
+        ensures left { ChangesOnly group self.old self.new }
+    {
+        let entry = &mut self.groups[group];
+        release(&mut self.arena, entry);
+    }
+}
