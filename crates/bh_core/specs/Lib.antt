@@ -4,8 +4,6 @@ pub mod Looks
 pub mod HistoryView
 pub mod History
 pub mod Counted
-pub mod TicketsView
-pub mod Changes
 pub mod Stepping
 pub mod Group
 pub mod Runs

@@ -5,6 +5,5 @@ mod group;
 mod history;
 pub mod laws;
 pub mod service;
-mod tickets;
 
 pub use service::{Core, RegisterError};

@@ -11,18 +11,17 @@ mod looks;
 
 use crate::group::Group;
 use bh_base::{GroupId, GroupProps, Reply, Step, push_within};
+use bh_tickets::Tickets;
 use std::alloc::{AllocError, Global};
 use std::marker::Model;
 use thiserror::Error;
 
-/// All groups, by their numbers.
+/// All groups, by their numbers, and the tickets of them all.
 #[derive(Drop)]
 pub struct Core {
     alloc: Global,
     groups: Vec<Group>,
-    slot_limit: u32,
-    /// The slots of all groups.
-    slots: u64,
+    tickets: Tickets,
 }
 
 /// Why a group was not registered.
@@ -38,11 +37,11 @@ pub enum RegisterError {
 
 impl Model for Core {
     ghost use Rattle.bh_core.specs.Groups.{Groups};
-    ghost use Rattle.bh_core.specs.Whole.{IsWhole};
+    ghost use Rattle.bh_core.specs.Whole.{IsWhole, groups_view};
 
     ghost Value = { Groups };
 
-    ghost view = { λ c. record { slot_limit = c.slot_limit; views = c.groups.items } };
+    ghost view = { groups_view };
 
     ghost invariant = { IsWhole };
 }
@@ -55,8 +54,7 @@ impl Core {
         Core {
             alloc,
             groups: Vec::new(alloc),
-            slot_limit,
-            slots: 0,
+            tickets: Tickets::new(alloc, slot_limit),
         }
     }
 
@@ -73,18 +71,21 @@ impl Core {
         ensures room { (result ≡ Err RegisterError.TooManySlots) ↔ (self.old.slot_limit < slots_in self.old.views + props.slots) }
         ensures err { OnErr result (self.new ≡ self.old) }
     {
-        if u64::from(self.slot_limit) - self.slots < props.slots {
+        if !self.tickets.has_slots_for(props.slots) {
             return Err(RegisterError::TooManySlots);
         }
-        let number = self.groups.len() as u64;
-        let Ok(group) = Group::new(self.alloc, props, step_limit) else {
+        let number = self.groups.len();
+        let Ok(group) = Group::new(self.alloc, number, props, step_limit) else {
             return Err(RegisterError::Memory);
         };
-        if self.groups.push(group).is_err() {
+        if self.groups.reserve(1).is_err() {
             return Err(RegisterError::Memory);
         }
-        self.slots += props.slots;
-        Ok(GroupId(number))
+        if self.tickets.add_group(props.slots).is_err() {
+            return Err(RegisterError::Memory);
+        }
+        self.groups.push_reserved(group);
+        Ok(GroupId(number as u64))
     }
 
     /// One step of its group: the reply is that of the one-group machine, whatever other groups did.
@@ -98,7 +99,7 @@ impl Core {
             return Reply::NoGroup;
         }
         let group = &mut self.groups[place as usize];
-        group.apply(&step.op, step.now)
+        group.apply(&mut self.tickets, &step.op, step.now)
     }
 
     /// Steps of all groups in any interleaving, with one reply for each.
