@@ -1,6 +1,6 @@
 //! A run of a script: lines are answered as they come, each by the line of the reply to its step or of its fault.
 
-ghost use Rattle.std.specs.Prelude.{◌≡◌, ◌<◌, ◌≤◌, ◌+◌, ◌^◌, ◌⊎◌, ◌++◌, ◌∷◌, ℕ, List, [], length, true, false, Some, Err, OnOk, OnErr, IfErr, IfSome};
+ghost use Rattle.std.specs.Prelude.{◌≡◌, ◌<◌, ◌⊎◌, ◌++◌, ◌∷◌, ℕ, List, [], length, true, false, Some, Err, OnOk, OnErr, IfErr};
 ghost use Rattle.bh_base.specs.declared.step.Step.{Step};
 ghost use Rattle.bh_props.specs.SettingsView.{settings_seen};
 ghost use Rattle.bh_props.specs.Settings.{GroupSettings};
@@ -8,27 +8,20 @@ ghost use Rattle.bh_lines.specs.Lines.{cut, has_line};
 ghost use Rattle.bh_lines.specs.Taken.{IsMemoryOrLine};
 ghost use Rattle.bh_lines.specs.FaultLine.{fault_line};
 ghost use Rattle.bh_lines.specs.ReplyLine.{reply_line};
-ghost use Rattle.bh_streams.specs.Watched.{reader_of, reads_of, bytes_left, HasRead, OneFailed, NoneFailed, writer_of, bytes_held, OneRefused, NoneRefused};
+ghost use Rattle.bh_streams.specs.Watched.{writer_of, bytes_held, OneRefused, NoneRefused};
 ghost use Rattle.bh_port.specs.Text.{reply_to};
-ghost use Rattle.bh_port.specs.Script.{GroupsShow, AnswersLine, ScriptAnswered, ScriptHasAnswered, ScriptOutcome, IsNotRead};
+ghost use Rattle.bh_port.specs.Script.{GroupsShow, AnswersLine, ScriptAnswered, ScriptOutcome, IsNotRead};
 
-use crate::reader::fill;
 use crate::steps::line_step;
 use bh_base::Step;
 use bh_core::Core;
 use bh_lines::{Fault, PortError, fault_line, last_line, next_line, reply_line};
 use bh_props::Settings;
-use bh_streams::{WatchedReader, WatchedWriter, write};
+use bh_streams::{WatchedWriter, write};
 use bytes::BytesMut;
 use json::Scratch;
 use std::alloc::{AllocError, Global};
-use std::io::{Read, Write};
-
-/// So many bytes are asked of the reader at a time.
-const READ_SIZE: usize = 16_384;
-
-/// So many reads are made at most.
-const MOST_READS: u64 = 1 << 40;
+use std::io::Write;
 
 /// A run of a script: the groups, the bytes whose line has not ended, and the answers that are to be written at once.
 #[derive(Drop)]
@@ -40,39 +33,8 @@ pub struct Run {
 }
 
 impl Run {
-    /// Answers all lines of the reader.
-    pub fn answer_all<R: Read, W: Write>(
-        &mut self,
-        settings: &Settings,
-        reader: &mut WatchedReader<'_, R>,
-        writer: &mut WatchedWriter<'_, W>,
-    ) -> Result<(), PortError>
-        requires agrees { GroupsShow (settings_seen settings.now) self.old.core [] }
-        requires empty { self.old.buffer.items ≡ [] }
-        ensures same_reader { (reader_of reader.new).ghost_name ≡ (reader_of reader.old).ghost_name }
-        ensures same_writer { (writer_of writer.new).ghost_name ≡ (writer_of writer.old).ghost_name }
-        ensures read { result ≡ Err PortError.Read → OneFailed reader.old reader.new ⊎ HasRead (2 ^ 40) reader.old reader.new }
-        ensures not_failed { (result ≡ Err PortError.Read) ⊎ NoneFailed reader.old reader.new }
-        ensures answered { result ≡ Err PortError.Read → HasRead (2 ^ 40) reader.old reader.new ⊎ ScriptHasAnswered (bytes_left R.remaining reader.old) (bytes_left R.remaining reader.new)
-            (bytes_held W.contents writer.old) (bytes_held W.contents writer.new) (settings_seen settings.now) }
-        ensures reads { reads_of reader.new ≤ reads_of reader.old + 2 ^ 40 }
-        ensures write { result ≡ Err PortError.Write → OneRefused writer.old writer.new }
-        ensures not_refused { (result ≡ Err PortError.Write) ⊎ NoneRefused writer.old writer.new }
-        ensures text { IfSome (bytes_left R.remaining reader.old) (λ input.
-            ScriptOutcome (bytes_held W.contents writer.old) (bytes_held W.contents writer.new) (settings_seen settings.now) [] (cut input) result) }
-    {
-        let mut piece = [0u8; READ_SIZE];
-        for _ in 0..MOST_READS {
-            self.write_answers(settings, writer)?;
-            if !fill(reader, &mut piece, &mut self.buffer)? {
-                return self.write_last(settings, writer);
-            }
-        }
-        Err(PortError::Read)
-    }
-
     /// Answers each line that has ended, and writes the answers at once; also where the next line is refused.
-    fn write_answers<W: Write>(
+    pub fn write_answers<W: Write>(
         &mut self,
         settings: &Settings,
         writer: &mut WatchedWriter<'_, W>,
@@ -94,7 +56,7 @@ impl Run {
     }
 
     /// Answers the line at the end of the input that no line feed ended, if any, and writes the answer.
-    fn write_last<W: Write>(
+    pub fn write_last<W: Write>(
         &mut self,
         settings: &Settings,
         writer: &mut WatchedWriter<'_, W>,

@@ -8,6 +8,7 @@ ghost use Rattle.bh_lines.specs.Lines.{cut, has_line};
 ghost use Rattle.bh_streams.specs.Watched.{reader_of, reads_of, bytes_left, HasRead, OneFailed, NoneFailed, writer_of, bytes_held, OneRefused, NoneRefused};
 ghost use Rattle.bh_port.specs.Script.{GroupsShow, ScriptAnswered, ScriptHasAnswered, ScriptOutcome, IsNotRead, IsMemoryOrRead};
 
+use crate::reader::fill;
 use crate::run::Run;
 use bh_core::Core;
 use bh_lines::PortError;
@@ -19,6 +20,12 @@ use std::io::{Read, Write};
 
 /// The most steps that a group may do, where an audit allows no fewer; a further one is answered as worn.
 pub const MOST_STEPS: u64 = 1 << 40;
+
+/// So many bytes are asked of the reader at a time.
+const READ_SIZE: usize = 16_384;
+
+/// So many reads are made at most.
+const MOST_READS: u64 = 1 << 40;
 
 /// Answers each line of the reader by one line to the writer, in order, for the groups of the settings, all new.
 ///
@@ -57,7 +64,14 @@ pub fn script<R: Read, W: Write>(
         buffer: BytesMut::new(alloc),
         out: Vec::new(alloc),
     };
-    run.answer_all(settings, reader, writer)
+    let mut piece = [0u8; READ_SIZE];
+    for _ in 0..MOST_READS {
+        run.write_answers(settings, writer)?;
+        if !fill(reader, &mut piece, &mut run.buffer)? {
+            return run.write_last(settings, writer);
+        }
+    }
+    Err(PortError::Read)
 }
 
 /// The groups of the settings, all new, each with its own properties and the steps that it may do.
