@@ -4,7 +4,6 @@ ghost use Rattle.std.specs.Prelude.{◌≡◌, ◌⊎◌, ◌-◌, ◌^◌, ◌+
 ghost use Rattle.bh_lines.specs.Lines.{cut};
 ghost use Rattle.bh_streams.specs.Watched.{reader_of, bytes_left, HasRead, OneFailed, NoneFailed, writer_of, bytes_held, OneRefused, NoneRefused};
 ghost use Rattle.bh_control.specs.AnswerLine.{responder};
-ghost use Rattle.bh_control.specs.Pieces.{AnsweredUpTo};
 ghost use Rattle.bh_control.specs.Session.{PieceOutcome, LastOutcome, SessionOutcome, HasAnswered};
 
 use crate::control::Control;

@@ -1,6 +1,6 @@
 //! A run of a script: lines are answered as they come, each by the line of the reply to its step or of its fault.
 
-ghost use Rattle.std.specs.Prelude.{◌≡◌, ◌<◌, ◌⊎◌, ◌++◌, ◌∷◌, ℕ, List, [], length, true, false, Some, Err, OnOk, OnErr, IfErr};
+ghost use Rattle.std.specs.Prelude.{◌≡◌, ◌<◌, ◌⊎◌, ◌++◌, ◌∷◌, ℕ, List, [], length, false, Some, Err, OnOk, OnErr, IfErr};
 ghost use Rattle.bh_base.specs.declared.step.Step.{Step};
 ghost use Rattle.bh_props.specs.SettingsView.{settings_seen};
 ghost use Rattle.bh_props.specs.Settings.{GroupSettings};

@@ -1,12 +1,11 @@
 //! A script: each line of a reader is answered by a line to a writer, as the lines come.
 
-ghost use Rattle.std.specs.Prelude.{◌≡◌, ◌<◌, ◌≤◌, ◌+◌, ◌^◌, ◌⊎◌, ◌++◌, ℕ, List, [], false, Err, OnOk, IfErr, IfOk, IfSome};
-ghost use Rattle.bh_base.specs.declared.step.Step.{Step};
+ghost use Rattle.std.specs.Prelude.{◌≡◌, ◌≤◌, ◌+◌, ◌^◌, ◌⊎◌, [], Err, IfErr, IfOk, IfSome};
 ghost use Rattle.bh_props.specs.SettingsView.{settings_seen};
 ghost use Rattle.bh_port.specs.Text.{step_limit};
-ghost use Rattle.bh_lines.specs.Lines.{cut, has_line};
+ghost use Rattle.bh_lines.specs.Lines.{cut};
 ghost use Rattle.bh_streams.specs.Watched.{reader_of, reads_of, bytes_left, HasRead, OneFailed, NoneFailed, writer_of, bytes_held, OneRefused, NoneRefused};
-ghost use Rattle.bh_port.specs.Script.{GroupsShow, ScriptAnswered, ScriptHasAnswered, ScriptOutcome, IsNotRead, IsMemoryOrRead};
+ghost use Rattle.bh_port.specs.Script.{GroupsShow, ScriptHasAnswered, ScriptOutcome};
 
 use crate::reader::fill;
 use crate::run::Run;
