@@ -12,7 +12,7 @@ use Rattle.bh_lines.proofs.LinesThen.{lines_then-append}
 use Rattle.bh_streams.proofs.Fronts.{front-after}
 use Rattle.bh_control.specs.ConversationView.{ConversationView}
 use Rattle.bh_control.specs.Pieces.{AnswersEach, Fed}
-use Rattle.bh_control.specs.Session.{Wrote, WroteFront, Conversed, HasAnswered, GoesOn, BreaksOff, PieceOutcome, LastOutcome}
+use Rattle.bh_control.specs.Session.{Wrote, WroteFront, SessionOutcome, HasAnswered, GoesOn, BreaksOff, PieceOutcome, LastOutcome}
 
 -- what was written for `all` while `left` and what is kept are left of it
 pub record Underway (all left : List ℕ) (who : Responder) (w0 w1 : Option (List ℕ)) (kept : List ℕ) : Type 0 where
@@ -97,7 +97,7 @@ progress-piece (Some all) (Some left) (Some after) w0 w1 w2 who rest piece conve
 -- a piece after which the conversation does not go on
 pub progress-stops : (all now next w0 w1 w2 : Option (List ℕ)) (who : Responder) (rest piece : List ℕ) (conversation : ConversationView) (e : PortError)
     → Progress all now who w0 w1 rest → Consumes now next piece → PieceOutcome who w1 w2 (rest ++ piece) (Err e) conversation
-    → IfSome all (λ input. Conversed who w0 w2 (cut input) (Err e))
+    → IfSome all (λ input. SessionOutcome who w0 w2 (cut input) (Err e))
 progress-stops None now next w0 w1 w2 who rest piece conversation e p r g = tt
 progress-stops (Some all) None next w0 w1 w2 who rest piece conversation e p r g = absurd p
 progress-stops (Some all) (Some left) None w0 w1 w2 who rest piece conversation e p r g = absurd r
@@ -111,14 +111,14 @@ progress-stops (Some all) (Some left) (Some after) w0 w1 w2 who rest piece conve
     (ap cut (joined rest piece after left r) ∙ (g.cut_is after).1)
 
 at-end : (all now w0 w1 w2 : Option (List ℕ)) (who : Responder) (rest : List ℕ) (result : Result (Unit {0}) PortError)
-    → Progress all now who w0 w1 rest → IsAtEnd now → LastOutcome who w1 w2 rest result → IfSome all (λ input. Conversed who w0 w2 (cut input) result)
+    → Progress all now who w0 w1 rest → IsAtEnd now → LastOutcome who w1 w2 rest result → IfSome all (λ input. SessionOutcome who w0 w2 (cut input) result)
 at-end None now w0 w1 w2 who rest result p e g = tt
 at-end (Some all) None w0 w1 w2 who rest result p e g = absurd p
 at-end (Some all) (Some left) w0 w1 w2 who rest result p e g =
     let none : cut (rest ++ left) ≡ cut rest = ap (λ ys. cut (rest ++ ys)) e ∙ ap cut (append-nil rest) in
     last result g none (wrote-all all left who w0 w1 rest p)
   where
-    last : (result : Result (Unit {0}) PortError) → LastOutcome who w1 w2 rest result → cut (rest ++ left) ≡ cut rest → Wrote who w0 w1 (cut all) (cut (rest ++ left)) → Conversed who w0 w2 (cut all) result
+    last : (result : Result (Unit {0}) PortError) → LastOutcome who w1 w2 rest result → cut (rest ++ left) ≡ cut rest → Wrote who w0 w1 (cut all) (cut (rest ++ left)) → SessionOutcome who w0 w2 (cut all) result
     last (Ok x) g none w = wrote-more who w0 w1 w2 _ _ _ g.1.lines g.0 w g.1.each g.2 (none ∙ g.1.cut_is)
     last (Err Line) g none w = wrote-more who w0 w1 w2 _ _ _ [] [] w refl g.1 (none ∙ g.0)
     last (Err Memory) g none w = record { rest = cut (rest ++ left); some = wrote-same who w0 w1 w2 _ _ w g }
@@ -128,7 +128,7 @@ at-end (Some all) (Some left) w0 w1 w2 who rest result p e g =
 -- the end of the input
 pub progress-ends : (all now next w0 w1 w2 : Option (List ℕ)) (who : Responder) (rest piece : List ℕ) (result : Result (Unit {0}) PortError)
     → Progress all now who w0 w1 rest → Consumes now next piece → piece ≡ [] → IsAtEnd next → LastOutcome who w1 w2 rest result
-    → IfSome all (λ input. Conversed who w0 w2 (cut input) result)
+    → IfSome all (λ input. SessionOutcome who w0 w2 (cut input) result)
 progress-ends None now next w0 w1 w2 who rest piece result p r none e g = tt
 progress-ends (Some all) None next w0 w1 w2 who rest piece result p r none e g = absurd p
 progress-ends (Some all) (Some left) None w0 w1 w2 who rest piece result p r none e g = absurd r
@@ -137,7 +137,7 @@ progress-ends (Some all) (Some left) (Some after) w0 w1 w2 who rest piece result
     at-end (Some all) (Some left) w0 w1 w2 who rest result p nothing g
 
 -- a reader that fails
-pub progress-fails : (all now w0 w1 : Option (List ℕ)) (who : Responder) (rest : List ℕ) → Progress all now who w0 w1 rest → IfSome all (λ input. Conversed who w0 w1 (cut input) (Err Read))
+pub progress-fails : (all now w0 w1 : Option (List ℕ)) (who : Responder) (rest : List ℕ) → Progress all now who w0 w1 rest → IfSome all (λ input. SessionOutcome who w0 w1 (cut input) (Err Read))
 progress-fails None now w0 w1 who rest p = tt
 progress-fails (Some all) None w0 w1 who rest p = absurd p
 progress-fails (Some all) (Some left) w0 w1 who rest p = record { rest = cut (rest ++ left); some = wrote-all all left who w0 w1 rest p }

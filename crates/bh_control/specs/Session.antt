@@ -33,12 +33,12 @@ pub record WroteFront (who : Responder) (w0 w1 : Option (List ℕ)) (all : Cut) 
 
 -- what was written for an input that is cut so: all answers, or those to the lines before one that is refused, or those to
 -- some first lines, or a front of those
-abbrev pub Conversed : Responder → Option (List ℕ) → Option (List ℕ) → Cut → Result (Unit {0}) PortError → Type 0
-Conversed who w0 w1 all (Ok x) = Wrote who w0 w1 all ended
-Conversed who w0 w1 all (Err Line) = Wrote who w0 w1 all stopped
-Conversed who w0 w1 all (Err Memory) = WroteSome who w0 w1 all
-Conversed who w0 w1 all (Err Read) = WroteSome who w0 w1 all
-Conversed who w0 w1 all (Err Write) = WroteFront who w0 w1 all
+abbrev pub SessionOutcome : Responder → Option (List ℕ) → Option (List ℕ) → Cut → Result (Unit {0}) PortError → Type 0
+SessionOutcome who w0 w1 all (Ok x) = Wrote who w0 w1 all ended
+SessionOutcome who w0 w1 all (Err Line) = Wrote who w0 w1 all stopped
+SessionOutcome who w0 w1 all (Err Memory) = WroteSome who w0 w1 all
+SessionOutcome who w0 w1 all (Err Read) = WroteSome who w0 w1 all
+SessionOutcome who w0 w1 all (Err Write) = WroteFront who w0 w1 all
 
 -- Every line that had ended in what was read of `input` was answered: `left` was not read, and `kept` is of a line that had
 -- not ended.

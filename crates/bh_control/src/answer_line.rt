@@ -3,7 +3,6 @@
 ghost use Rattle.std.specs.Prelude.{◌≡◌, length, map, ◌++◌, ◌∷◌, [], IfOk, OnOk, Ok, string_bytes};
 ghost use Rattle.serde_json.specs.Data.{array, string};
 ghost use Rattle.serde_json.specs.View.{view};
-ghost use Rattle.bh_lines.specs.ReplyLine.{json_line};
 ghost use Rattle.bh_control.specs.ControlLine.{IsOfGroups};
 ghost use Rattle.bh_control.specs.AnswerLine.{responder, texts_data, groups_data, groups_line, answer_line, Answers, IsAnswer};
 

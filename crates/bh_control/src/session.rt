@@ -4,8 +4,7 @@ ghost use Rattle.std.specs.Prelude.{◌≡◌, ◌⊎◌, ◌-◌, ◌^◌, ◌+
 ghost use Rattle.bh_lines.specs.Lines.{cut};
 ghost use Rattle.bh_streams.specs.Watched.{reader_of, bytes_left, HasRead, OneFailed, NoneFailed, writer_of, bytes_held, OneRefused, NoneRefused};
 ghost use Rattle.bh_control.specs.AnswerLine.{responder};
-ghost use Rattle.bh_control.specs.Pieces.{AnsweredUpTo};
-ghost use Rattle.bh_control.specs.Session.{PieceOutcome, LastOutcome, Conversed, HasAnswered};
+ghost use Rattle.bh_control.specs.Session.{PieceOutcome, LastOutcome, SessionOutcome, HasAnswered};
 
 use crate::control::Control;
 use crate::conversation::Conversation;
@@ -39,7 +38,7 @@ pub fn converse<R: Read, W: Write, C: Control>(
     ensures write { result ≡ Err PortError.Write → OneRefused writer.old writer.new }
     ensures not_refused { (result ≡ Err PortError.Write) ⊎ NoneRefused writer.old writer.new }
     ensures answers { IfSome (bytes_left R.remaining reader.old) (λ input.
-        Conversed (responder (C.names control.old) C.may_show C.may_answer C.may_close) (bytes_held W.contents writer.old) (bytes_held W.contents writer.new) (cut input) result) }
+        SessionOutcome (responder (C.names control.old) C.may_show C.may_answer C.may_close) (bytes_held W.contents writer.old) (bytes_held W.contents writer.new) (cut input) result) }
 {
     let mut piece = [0u8; READ_SIZE];
     let mut conversation = Conversation::new(alloc);

@@ -1,12 +1,10 @@
 //! Replies, each printed as a line of compact JSON with its members in the order of their names.
 
-ghost use Rattle.std.specs.Prelude.{◌≡◌, ◌++◌, ◌∷◌, [], ℕ, List, false, map, length, IfOk, OnOk, string_bytes};
+ghost use Rattle.std.specs.Prelude.{◌≡◌, ◌++◌, ◌∷◌, [], false, map, length, IfOk, OnOk, string_bytes};
 ghost use Rattle.json.specs.Print.{print};
-ghost use Rattle.json.specs.Token.{end_object};
-ghost use Rattle.json.specs.Tree.{members_tokens};
 ghost use Rattle.serde_json.specs.View.{view};
-ghost use Rattle.serde_json.specs.Written.{has_float, members_outline};
-ghost use Rattle.bh_lines.specs.ReplyLine.{cause_word, fallback_word, circuit_word, kind_names, named, numbered, fallback_due_data, assigned_data, expired_data, run_fallback_data, closed_data, value_data, fallback_value_data, error_answer_data, events_data, metrics_data, answer_data, reply_data, json_line, reply_line};
+ghost use Rattle.serde_json.specs.Written.{has_float};
+ghost use Rattle.bh_lines.specs.ReplyLine.{cause_word, fallback_word, circuit_word, named, numbered, fallback_due_data, assigned_data, expired_data, run_fallback_data, closed_data, value_data, fallback_value_data, error_answer_data, events_data, metrics_data, answer_data, reply_data, json_line, reply_line};
 ghost use Rattle.bh_lines.specs.FaultLine.{error_data};
 ghost use Rattle.bh_lines.specs.Sent.{Sends, data_tokens, counts_tokens};
 

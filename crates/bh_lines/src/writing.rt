@@ -1,6 +1,6 @@
 //! Objects of a few members, written without a value being built of them.
 
-ghost use Rattle.std.specs.Prelude.{◌≡◌, ◌∷◌, ◌++◌, [], ℕ, List, OnOk, decimal};
+ghost use Rattle.std.specs.Prelude.{◌∷◌, ◌++◌, [], OnOk, decimal};
 ghost use Rattle.json.specs.Token.{begin_object, end_object, key, string, number};
 ghost use Rattle.bh_lines.specs.Sent.{Sends, member_tokens};
 

@@ -1,7 +1,7 @@
 //! A script over any reader and writer: each line is answered by a line, by the groups of a service.
 #![tactic(auto)]
 
-mod answers;
 pub mod reader;
+mod run;
 pub mod script;
 mod steps;

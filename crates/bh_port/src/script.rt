@@ -1,19 +1,18 @@
 //! A script: each line of a reader is answered by a line to a writer, as the lines come.
 
-ghost use Rattle.std.specs.Prelude.{◌≡◌, ◌<◌, ◌≤◌, ◌+◌, ◌^◌, ◌⊎◌, ◌++◌, ℕ, List, [], false, Err, OnOk, IfErr, IfOk, IfSome};
-ghost use Rattle.bh_base.specs.declared.step.Step.{Step};
+ghost use Rattle.std.specs.Prelude.{◌≡◌, ◌≤◌, ◌+◌, ◌^◌, ◌⊎◌, [], Err, IfErr, IfOk, IfSome};
 ghost use Rattle.bh_props.specs.SettingsView.{settings_seen};
 ghost use Rattle.bh_port.specs.Text.{step_limit};
-ghost use Rattle.bh_lines.specs.Lines.{cut, has_line};
+ghost use Rattle.bh_lines.specs.Lines.{cut};
 ghost use Rattle.bh_streams.specs.Watched.{reader_of, reads_of, bytes_left, HasRead, OneFailed, NoneFailed, writer_of, bytes_held, OneRefused, NoneRefused};
-ghost use Rattle.bh_port.specs.Script.{GroupsShow, ScriptAnswered, ScriptHasAnswered, ScriptOutcome, IsNotRead, IsMemoryOrRead};
+ghost use Rattle.bh_port.specs.Script.{GroupsShow, ScriptHasAnswered, ScriptOutcome};
 
-use crate::answers::{answer_last, answer_lines};
 use crate::reader::fill;
+use crate::run::Run;
 use bh_core::Core;
 use bh_lines::PortError;
 use bh_props::Settings;
-use bh_streams::{WatchedReader, WatchedWriter, write};
+use bh_streams::{WatchedReader, WatchedWriter};
 use bytes::BytesMut;
 use std::alloc::Global;
 use std::io::{Read, Write};
@@ -57,8 +56,21 @@ pub fn script<R: Read, W: Write>(
     ensures text { IfSome (bytes_left R.remaining reader.old) (λ input.
         ScriptOutcome (bytes_held W.contents writer.old) (bytes_held W.contents writer.new) (settings_seen settings.now) [] (cut input) result) }
 {
-    let mut core = open(alloc, settings)?;
-    answer_all(alloc, settings, &mut core, reader, writer)
+    let core = open(alloc, settings)?;
+    let mut run = Run {
+        alloc,
+        core,
+        buffer: BytesMut::new(alloc),
+        out: Vec::new(alloc),
+    };
+    let mut piece = [0u8; READ_SIZE];
+    for _ in 0..MOST_READS {
+        run.write_answers(settings, writer)?;
+        if !fill(reader, &mut piece, &mut run.buffer)? {
+            return run.write_last(settings, writer);
+        }
+    }
+    Err(PortError::Read)
 }
 
 /// The groups of the settings, all new, each with its own properties and the steps that it may do.
@@ -87,85 +99,4 @@ fn step_limit(audit_steps: Option<u64>) -> u64
         Some(steps) => steps.min(MOST_STEPS),
         None => MOST_STEPS,
     }
-}
-
-/// Answers all lines of the reader.
-fn answer_all<R: Read, W: Write>(
-    alloc: Global,
-    settings: &Settings,
-    core: &mut Core,
-    reader: &mut WatchedReader<'_, R>,
-    writer: &mut WatchedWriter<'_, W>,
-) -> Result<(), PortError>
-    requires { GroupsShow (settings_seen settings.now) core.old [] }
-    ensures same_reader { (reader_of reader.new).ghost_name ≡ (reader_of reader.old).ghost_name }
-    ensures same_writer { (writer_of writer.new).ghost_name ≡ (writer_of writer.old).ghost_name }
-    ensures read { result ≡ Err PortError.Read → OneFailed reader.old reader.new ⊎ HasRead (2 ^ 40) reader.old reader.new }
-    ensures not_failed { (result ≡ Err PortError.Read) ⊎ NoneFailed reader.old reader.new }
-    ensures answered { result ≡ Err PortError.Read → HasRead (2 ^ 40) reader.old reader.new ⊎ ScriptHasAnswered (bytes_left R.remaining reader.old) (bytes_left R.remaining reader.new)
-        (bytes_held W.contents writer.old) (bytes_held W.contents writer.new) (settings_seen settings.now) }
-    ensures reads { reads_of reader.new ≤ reads_of reader.old + 2 ^ 40 }
-    ensures write { result ≡ Err PortError.Write → OneRefused writer.old writer.new }
-    ensures not_refused { (result ≡ Err PortError.Write) ⊎ NoneRefused writer.old writer.new }
-    ensures text { IfSome (bytes_left R.remaining reader.old) (λ input.
-        ScriptOutcome (bytes_held W.contents writer.old) (bytes_held W.contents writer.new) (settings_seen settings.now) [] (cut input) result) }
-{
-    let mut piece = [0u8; READ_SIZE];
-    let mut buffer = BytesMut::new(alloc);
-    let mut out = Vec::new(alloc);
-    for _ in 0..MOST_READS {
-        write_answers(alloc, settings, core, &mut buffer, &mut out, writer)?;
-        if !fill(reader, &mut piece, &mut buffer)? {
-            return write_last(alloc, settings, core, &mut buffer, &mut out, writer);
-        }
-    }
-    Err(PortError::Read)
-}
-
-/// Answers each line that has ended, and writes the answers at once, by way of `out`; also where the next line is refused.
-fn write_answers<W: Write>(
-    alloc: Global,
-    settings: &Settings,
-    core: &mut Core,
-    buffer: &mut BytesMut,
-    out: &mut Vec<u8>,
-    writer: &mut WatchedWriter<'_, W>,
-) -> Result<(), PortError>
-    ensures answered { OnOk result ((before : List Step) → GroupsShow (settings_seen settings.now) core.old before →
-        ScriptAnswered (bytes_held W.contents writer.old) (bytes_held W.contents writer.new) (settings_seen settings.now) before core.new buffer.old.items buffer.new.items) }
-    ensures none_left { OnOk result (has_line buffer.new.items ≡ false) }
-    ensures no_read { IfErr result IsNotRead }
-    ensures same_writer { (writer_of writer.new).ghost_name ≡ (writer_of writer.old).ghost_name }
-    ensures refused { result ≡ Err PortError.Write → OneRefused writer.old writer.new }
-    ensures not_refused { (result ≡ Err PortError.Write) ⊎ NoneRefused writer.old writer.new }
-    ensures stopped { IfErr result (λ e. (before : List Step) (more : List ℕ) → GroupsShow (settings_seen settings.now) core.old before →
-        ScriptOutcome (bytes_held W.contents writer.old) (bytes_held W.contents writer.new) (settings_seen settings.now) before (cut (buffer.old.items ++ more)) (Err e)) }
-{
-    out.clear();
-    let answered = answer_lines(alloc, settings, core, buffer, out);
-    write(writer, out.as_slice())?;
-    answered
-}
-
-/// Answers the line at the end of the input that no line feed ended, and writes the answer, by way of `out`.
-fn write_last<W: Write>(
-    alloc: Global,
-    settings: &Settings,
-    core: &mut Core,
-    buffer: &mut BytesMut,
-    out: &mut Vec<u8>,
-    writer: &mut WatchedWriter<'_, W>,
-) -> Result<(), PortError>
-    requires { has_line buffer.old.items ≡ false }
-    ensures no_read { IfErr result IsNotRead }
-    ensures same_writer { (writer_of writer.new).ghost_name ≡ (writer_of writer.old).ghost_name }
-    ensures refused { result ≡ Err PortError.Write → OneRefused writer.old writer.new }
-    ensures not_refused { (result ≡ Err PortError.Write) ⊎ NoneRefused writer.old writer.new }
-    ensures outcome { (before : List Step) → GroupsShow (settings_seen settings.now) core.old before →
-        ScriptOutcome (bytes_held W.contents writer.old) (bytes_held W.contents writer.new) (settings_seen settings.now) before (cut buffer.old.items) result }
-{
-    out.clear();
-    let answered = answer_last(alloc, settings, core, buffer, out);
-    write(writer, out.as_slice())?;
-    answered
 }

@@ -10,6 +10,7 @@ mod streams;
 use crate::run::run_file;
 use std::process::Abort;
 
+/// The settings of a service of the one group a.
 const ONE_GROUP: &str = "service.groups = [\"a\"]\n";
 
 /// Runs the input under the settings, and asserts what comes of it.
@@ -36,10 +37,12 @@ fn assert_run<R: Abort + AllocGlobal>(
     assert_bytes(rt, &reported, errors, "the errors");
 }
 
+/// Asserts the exit status.
 fn assert_end<R: Abort>(rt: &R, answered: u8, status: u8) {
     assert_eq!(rt; answered, status);
 }
 
+/// Asserts the bytes that were written; what they are is told where they differ.
 fn assert_bytes<R: Abort>(rt: &R, written: &Vec<u8>, want: &str, what: &str) {
     assert_eq!(rt; written.as_slice(), want.as_bytes(), "{what}");
 }
@@ -49,6 +52,7 @@ fn assert_answers<R: Abort + AllocGlobal>(rt: &R, settings: &str, input: &str, o
     assert_run(rt, settings.as_bytes(), input.as_bytes(), 0, output, "");
 }
 
+/// Two lines, of which one ends by a carriage return and a line feed, and one with the input.
 const TWO_LINES: &str = "{\"op\":\"start\",\"group\":\"a\",\"now\":0}\r
 {\"op\":\"start\",\"group\":\"a\",\"now\":0}";
 

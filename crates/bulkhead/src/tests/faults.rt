@@ -3,14 +3,19 @@
 use super::{ONE_GROUP, assert_answers, assert_run};
 use std::process::Abort;
 
+/// A step that an empty group answers by idle.
 const LINE: &str = r#"{"op":"start","group":"a","now":0}"#;
 
+/// Its answer.
 const IDLE: &str = "{\"reply\":\"idle\"}\n";
 
+/// Two such answers.
 const TWO_IDLE: &str = "{\"reply\":\"idle\"}\n{\"reply\":\"idle\"}\n";
 
+/// The answer to a line that is no JSON.
 const SYNTAX: &str = "{\"error\":\"syntax\"}\n";
 
+/// What is told of a line that ends the run.
 const LONG_LINE: &str = "fault: line\n";
 
 /// Runs the input for the group a, and asserts that a line ends the run.
@@ -72,6 +77,7 @@ fn assert_fault<R: Abort + AllocGlobal>(rt: &R, text: &str, fault: &str) {
     assert_answers(rt, ONE_GROUP, input.as_str(), output.as_str());
 }
 
+/// The first word and the rest.
 fn split(words: &str) -> (&str, &str) {
     words.split_once(' ').unwrap_or((words, ""))
 }
@@ -177,8 +183,10 @@ fn assert_too_long<R: Abort + AllocGlobal>(
     assert_ended(rt, input.as_str().as_bytes(), output);
 }
 
+/// A step that a new group answers by a ticket.
 const SUBMIT: &str = "{\"op\":\"submit\",\"group\":\"a\",\"now\":0,\"arg\":\"x\"}\n";
 
+/// Its answer.
 const QUEUED: &str = "{\"reply\":\"queued\",\"ticket\":1}\n";
 
 #[test]

@@ -15,6 +15,7 @@ pub struct Script<'a> {
     pub lines: &'a str,
 }
 
+/// The script of a text.
 pub fn script_of(text: &str) -> Script<'_> {
     let (head, lines) = text.split_once("\n\n").unwrap_or((text, ""));
     let (shows, settings) = head.split_once('\n').unwrap_or((head, ""));
@@ -32,6 +33,7 @@ pub struct Texts {
     pub output: String,
 }
 
+/// The lines and the answers, each with a line feed.
 pub fn texts_of<R: Abort + AllocGlobal>(rt: &R, lines: &str) -> Texts {
     let mut input = String::new(rt.alloc());
     let mut output = String::new(rt.alloc());
@@ -43,6 +45,7 @@ pub fn texts_of<R: Abort + AllocGlobal>(rt: &R, lines: &str) -> Texts {
     Texts { input, output }
 }
 
+/// Puts a line behind a text.
 fn push_line<R: Abort>(rt: &R, text: &mut String, line: &str) {
     text.push_str(line).expect(rt, "memory");
     text.push_str("\n").expect(rt, "memory");
@@ -66,6 +69,7 @@ fn assert_script<R: Abort + AllocGlobal>(rt: &R, script: Script<'_>) {
     assert_end(rt, answered, 0);
 }
 
+/// The same of each of some scripts.
 fn assert_scripts<R: Abort + AllocGlobal>(rt: &R, scripts: &str) {
     for text in scripts.split("\n\n\n") {
         assert_script(rt, script_of(text));

@@ -11,16 +11,20 @@ use std::sync::{Mutex, Wait};
 use std::thread;
 use std::thread::Threads;
 
+/// The settings of a service of two groups.
 const TWO_GROUPS: &str = r#"
 service.groups = ["a", "b"]
 hystrix.command.a.execution.isolation.thread.timeoutInMilliseconds = 300
 hystrix.command.b.execution.isolation.strategy = "SEMAPHORE"
 "#;
 
+/// The settings of a service of eight groups.
 const EIGHT_GROUPS: &str = r#"service.groups = ["g0", "g1", "g2", "g3", "g4", "g5", "g6", "g7"]"#;
 
+/// How many connections call at once.
 const CONNECTIONS: usize = 64;
 
+/// How many calls each of them makes.
 const ROUNDS: usize = 10;
 
 /// Serves so many connections under the settings, and answers the status.
@@ -37,10 +41,12 @@ fn serve<R: Threads + Wait + Clock + AllocGlobal + Sync>(
     }
 }
 
+/// A listener on a free port of this machine.
 fn listen<R: Net<Listener = TcpListener, Stream = TcpStream> + Abort>(rt: &R) -> TcpListener {
     TcpListener::bind(rt, "127.0.0.1:0").expect(rt, "a port is free")
 }
 
+/// A connection to the listener.
 fn connect<R: Net<Listener = TcpListener, Stream = TcpStream> + Abort>(
     rt: &R,
     addr: SocketAddr,
@@ -48,6 +54,7 @@ fn connect<R: Net<Listener = TcpListener, Stream = TcpStream> + Abort>(
     TcpStream::connect(rt, addr).expect(rt, "the service listens")
 }
 
+/// Writes the bytes to the connection.
 fn say(rt: &impl Abort, mut stream: &TcpStream, bytes: &[u8]) {
     stream.write_all(bytes).expect(rt, "the service reads");
 }

@@ -1,7 +1,7 @@
 use Rattle.std.proofs.Common.{rules}
 use Rattle.std.proofs.lemmas.Result.{err_from_is_err_and}
 use Rattle.bh_port.proofs.Answering.{last-found, last-none, last-refused}
-use Rattle.bh_port.proofs.answers.answer_last.Goals as goal
+use Rattle.bh_port.proofs.run.Run.answer_last.Goals as goal
 
 pub returns-in_default-clause-outcome : goal.returns-in_default-clause-outcome
 returns-in_default-clause-outcome c = λ before agrees. last-none _ _ before _ _ tt (search rules) c.in_ok-line.ensures

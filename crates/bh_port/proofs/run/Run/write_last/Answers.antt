@@ -1,6 +1,6 @@
 use Rattle.std.proofs.lemmas.Result.{err_from_is_err_and}
 use Rattle.bh_port.proofs.AtOnce.{at_once-ended, at_once-ended_unwritten}
-use Rattle.bh_port.proofs.script.write_last.Goals as goal
+use Rattle.bh_port.proofs.run.Run.write_last.Goals as goal
 
 pub returns-clause-outcome : goal.returns-clause-outcome
 returns-clause-outcome g c = λ before agrees.

@@ -1,6 +1,6 @@
 use Rattle.std.proofs.lemmas.Result.{err_from_is_err_and}
 use Rattle.bh_port.proofs.AtOnce.{at_once-answered, at_once-stopped, at_once-unwritten}
-use Rattle.bh_port.proofs.script.write_answers.Goals as goal
+use Rattle.bh_port.proofs.run.Run.write_answers.Goals as goal
 
 pub returns-clause-answered : goal.returns-clause-answered
 returns-clause-answered g c =

@@ -6,29 +6,29 @@ use Rattle.bh_lines.proofs.PortErrors.{unless-ok}
 use Rattle.bh_streams.specs.Watched.{bytes_left, bytes_held}
 use Rattle.bh_port.specs.Script.{IsNotRead}
 use Rattle.bh_port.proofs.Running.{progress-start, progress-lines, progress-read, progress-stops, progress-ends, progress-front, progress-failed}
-use Rattle.bh_port.proofs.script.answer_all.Goals as goal
+use Rattle.bh_port.proofs.script.script.Goals as goal
 
 pub returns-in_err-write_answers-clause-text : goal.returns-in_err-write_answers-clause-text
 returns-in_err-write_answers-clause-text g c =
-    let p = err_from_is_err_and c.from_residual.result c.from_residual.ensures.1 in
+    let p = err_from_is_err_and c.from_residual-in_err-write_answers.result c.from_residual-in_err-write_answers.ensures.1 in
     rw (p.1, p.2) (progress-stops _ _ _ _ (bytes_held g.W.Write.contents c.write_answers.new.writer) _ _ _ (Err c.in_err-write_answers.field-0.0) c.loop.invariant.progress c.in_err-write_answers.ensures.stopped)
 
 pub returns-in_err-fill-clause-text : goal.returns-in_err-fill-clause-text
 returns-in_err-fill-clause-text g c =
     let p = err_from_is_err_and c.from_residual-in_err-fill.result c.from_residual-in_err-fill.ensures.1 in
-    let now = progress-lines _ _ _ _ _ _ _ c.write_answers.new.core _ _ c.loop.invariant.progress c.in_ok-write_answers.ensures.answered in
+    let now = progress-lines _ _ _ _ _ _ _ c.write_answers.new.self.core _ _ c.loop.invariant.progress c.in_ok-write_answers.ensures.answered in
     rw (p.1, p.2) (progress-front _ _ _ _ _ _ _ _ now c.in_err-fill.ensures.err)
 
 pub returns-then-not-branch-clause-text : goal.returns-then-not-branch-clause-text
 returns-then-not-branch-clause-text g c =
-    let now = progress-lines _ _ _ _ _ _ _ c.write_answers.new.core _ _ c.loop.invariant.progress c.in_ok-write_answers.ensures.answered in
+    let now = progress-lines _ _ _ _ _ _ _ c.write_answers.new.self.core _ _ c.loop.invariant.progress c.in_ok-write_answers.ensures.answered in
     let piece = c.in_ok-fill.ensures.more in
     let ended = c.in_ok-fill.ensures.end (search rules) in
     progress-ends _ _ _ _ _ _ _ _ _ (progress-read _ _ _ _ _ _ _ _ _ _ now piece.1 piece.2) ended.0 c.write_last.ensures.outcome
 
 pub loop-preserved : goal.loop-preserved
 loop-preserved g c =
-    let now = progress-lines _ _ _ _ _ _ _ c.write_answers.new.core _ _ c.loop.invariant.progress c.in_ok-write_answers.ensures.answered in
+    let now = progress-lines _ _ _ _ _ _ _ c.write_answers.new.self.core _ _ c.loop.invariant.progress c.in_ok-write_answers.ensures.answered in
     let piece = c.in_ok-fill.ensures.more in
     record {
       same_reader = c.in_ok-fill.ensures.same_reader ∙ c.loop.invariant.same_reader;
@@ -52,8 +52,8 @@ not-read r Memory is h same = let k : Memory ≡ Read = cc in cc
 
 pub returns-in_err-write_answers-clause-read : goal.returns-in_err-write_answers-clause-read
 returns-in_err-write_answers-clause-read g c =
-    let p = err_from_is_err_and c.from_residual.result c.from_residual.ensures.1 in
-    let is : c.from_residual.result ≡ Err c.in_err-write_answers.field-0.0 = rw (p.1, p.2) refl in
+    let p = err_from_is_err_and c.from_residual-in_err-write_answers.result c.from_residual-in_err-write_answers.ensures.1 in
+    let is : c.from_residual-in_err-write_answers.result ≡ Err c.in_err-write_answers.field-0.0 = rw (p.1, p.2) refl in
     λ same. absurd (not-read _ _ is c.in_err-write_answers.ensures.no_read same)
 
 if-not-read : (r : Result (Unit {0}) PortError) → IfErr r IsNotRead → ¬ (r ≡ Err Read)
@@ -65,8 +65,8 @@ returns-then-not-branch-clause-read g c = λ same. absurd (if-not-read _ c.write
 
 pub returns-in_err-write_answers-clause-answered : goal.returns-in_err-write_answers-clause-answered
 returns-in_err-write_answers-clause-answered g c =
-    let p = err_from_is_err_and c.from_residual.result c.from_residual.ensures.1 in
-    let is : c.from_residual.result ≡ Err c.in_err-write_answers.field-0.0 = rw (p.1, p.2) refl in
+    let p = err_from_is_err_and c.from_residual-in_err-write_answers.result c.from_residual-in_err-write_answers.ensures.1 in
+    let is : c.from_residual-in_err-write_answers.result ≡ Err c.in_err-write_answers.field-0.0 = rw (p.1, p.2) refl in
     λ same. absurd (not-read _ _ is c.in_err-write_answers.ensures.no_read same)
 
 pub returns-then-not-branch-clause-answered : goal.returns-then-not-branch-clause-answered
@@ -78,7 +78,7 @@ error-is r x e k made is same = cc
 pub returns-in_err-fill-clause-answered : goal.returns-in_err-fill-clause-answered
 returns-in_err-fill-clause-answered g c = λ same.
     let p = err_from_is_err_and c.from_residual-in_err-fill.result c.from_residual-in_err-fill.ensures.1 in
-    let now = progress-lines _ _ _ _ _ _ _ c.write_answers.new.core _ _ c.loop.invariant.progress c.in_ok-write_answers.ensures.answered in
+    let now = progress-lines _ _ _ _ _ _ _ c.write_answers.new.self.core _ _ c.loop.invariant.progress c.in_ok-write_answers.ensures.answered in
     let kept = c.in_err-fill.ensures.kept (ap Err (error-is _ _ _ _ p.1 p.2 same)) in
     inr (progress-failed _ _ _ _ _ _ _ _ now kept.0 c.in_ok-write_answers.ensures.none_left)
 
@@ -91,5 +91,5 @@ loop-init g c = record {
   none_failed = refl;
   none_refused = refl;
   piece = search rules;
-  progress = rw c.new-buffer.ensures.items (progress-start (bytes_left g.R.Read.remaining c.args.reader.now) (bytes_held g.W.Write.contents c.args.writer.now) _ _ c.requires);
+  progress = rw c.new.ensures.items (progress-start (bytes_left g.R.Read.remaining c.args.reader.now) (bytes_held g.W.Write.contents c.args.writer.now) _ _ c.in_ok-core.ensures.agrees);
 }

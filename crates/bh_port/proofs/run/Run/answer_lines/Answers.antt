@@ -1,6 +1,6 @@
 use Rattle.std.proofs.lemmas.Result.{err_from_is_err_and}
 use Rattle.bh_port.proofs.Answering.{answered-none, answered-found, refused-next, unanswered}
-use Rattle.bh_port.proofs.answers.answer_lines.Goals as goal
+use Rattle.bh_port.proofs.run.Run.answer_lines.Goals as goal
 
 pub returns-in_err-line-clause-stopped : goal.returns-in_err-line-clause-stopped
 returns-in_err-line-clause-stopped c =
@@ -14,7 +14,8 @@ returns-in_err-answer_line-clause-stopped c =
 
 pub loop-scratch-preserved : goal.loop-scratch-preserved
 loop-scratch-preserved c = λ before agrees.
-    answered-found _ _ _ _ before _ _ _ _ _ _ _ _ (c.loop-scratch.invariant before agrees) c.in-Some.is c.in_ok-line.ensures c.as_str.ensures.value c.in_ok-answer_line.ensures.answers
+    rw c.answer_line.ensures.left
+    (answered-found _ _ _ _ before _ _ _ _ _ _ _ _ (c.loop-scratch.invariant before agrees) c.in-Some.is c.in_ok-line.ensures c.as_str.ensures.value c.in_ok-answer_line.ensures.answers)
 
 pub loop-scratch-init : goal.loop-scratch-init
 loop-scratch-init c = λ before agrees. answered-none _ _ before _ _ agrees

@@ -1,0 +1,154 @@
+//! A run of a script: lines are answered as they come, each by the line of the reply to its step or of its fault.
+
+ghost use Rattle.std.specs.Prelude.{◌≡◌, ◌<◌, ◌⊎◌, ◌++◌, ◌∷◌, ℕ, List, [], length, false, Some, Err, OnOk, OnErr, IfErr};
+ghost use Rattle.bh_base.specs.declared.step.Step.{Step};
+ghost use Rattle.bh_props.specs.SettingsView.{settings_seen};
+ghost use Rattle.bh_props.specs.Settings.{GroupSettings};
+ghost use Rattle.bh_lines.specs.Lines.{cut, has_line};
+ghost use Rattle.bh_lines.specs.Taken.{IsMemoryOrLine};
+ghost use Rattle.bh_lines.specs.FaultLine.{fault_line};
+ghost use Rattle.bh_lines.specs.ReplyLine.{reply_line};
+ghost use Rattle.bh_streams.specs.Watched.{writer_of, bytes_held, OneRefused, NoneRefused};
+ghost use Rattle.bh_port.specs.Text.{reply_to};
+ghost use Rattle.bh_port.specs.Script.{GroupsShow, AnswersLine, ScriptAnswered, ScriptOutcome, IsNotRead};
+
+use crate::steps::line_step;
+use bh_base::Step;
+use bh_core::Core;
+use bh_lines::{Fault, PortError, fault_line, last_line, next_line, reply_line};
+use bh_props::Settings;
+use bh_streams::{WatchedWriter, write};
+use bytes::BytesMut;
+use json::Scratch;
+use std::alloc::{AllocError, Global};
+use std::io::Write;
+
+/// A run of a script: the groups, the bytes whose line has not ended, and the answers that are to be written at once.
+#[derive(Drop)]
+pub struct Run {
+    pub alloc: Global,
+    pub core: Core,
+    pub buffer: BytesMut,
+    pub out: Vec<u8>,
+}
+
+impl Run {
+    /// Answers each line that has ended, and writes the answers at once; also where the next line is refused.
+    pub fn write_answers<W: Write>(
+        &mut self,
+        settings: &Settings,
+        writer: &mut WatchedWriter<'_, W>,
+    ) -> Result<(), PortError>
+        ensures answered { OnOk result ((before : List Step) → GroupsShow (settings_seen settings.now) self.old.core before →
+            ScriptAnswered (bytes_held W.contents writer.old) (bytes_held W.contents writer.new) (settings_seen settings.now) before self.new.core self.old.buffer.items self.new.buffer.items) }
+        ensures none_left { OnOk result (has_line self.new.buffer.items ≡ false) }
+        ensures no_read { IfErr result IsNotRead }
+        ensures same_writer { (writer_of writer.new).ghost_name ≡ (writer_of writer.old).ghost_name }
+        ensures refused { result ≡ Err PortError.Write → OneRefused writer.old writer.new }
+        ensures not_refused { (result ≡ Err PortError.Write) ⊎ NoneRefused writer.old writer.new }
+        ensures stopped { IfErr result (λ e. (before : List Step) (more : List ℕ) → GroupsShow (settings_seen settings.now) self.old.core before →
+            ScriptOutcome (bytes_held W.contents writer.old) (bytes_held W.contents writer.new) (settings_seen settings.now) before (cut (self.old.buffer.items ++ more)) (Err e)) }
+    {
+        self.out.clear();
+        let answered = self.answer_lines(settings);
+        write(writer, self.out.as_slice())?;
+        answered
+    }
+
+    /// Answers the line at the end of the input that no line feed ended, if any, and writes the answer.
+    pub fn write_last<W: Write>(
+        &mut self,
+        settings: &Settings,
+        writer: &mut WatchedWriter<'_, W>,
+    ) -> Result<(), PortError>
+        requires { has_line self.old.buffer.items ≡ false }
+        ensures no_read { IfErr result IsNotRead }
+        ensures same_writer { (writer_of writer.new).ghost_name ≡ (writer_of writer.old).ghost_name }
+        ensures refused { result ≡ Err PortError.Write → OneRefused writer.old writer.new }
+        ensures not_refused { (result ≡ Err PortError.Write) ⊎ NoneRefused writer.old writer.new }
+        ensures outcome { (before : List Step) → GroupsShow (settings_seen settings.now) self.old.core before →
+            ScriptOutcome (bytes_held W.contents writer.old) (bytes_held W.contents writer.new) (settings_seen settings.now) before (cut self.old.buffer.items) result }
+    {
+        self.out.clear();
+        let answered = self.answer_last(settings);
+        write(writer, self.out.as_slice())?;
+        answered
+    }
+
+    /// Answers each line that has ended, behind what is to be written, and keeps the bytes that follow the last of them.
+    fn answer_lines(&mut self, settings: &Settings) -> Result<(), PortError>
+        ensures answered { OnOk result ((before : List Step) → GroupsShow (settings_seen settings.now) self.old.core before →
+            ScriptAnswered (Some self.old.out.items) (Some self.new.out.items) (settings_seen settings.now) before self.new.core self.old.buffer.items self.new.buffer.items) }
+        ensures none_left { OnOk result (has_line self.new.buffer.items ≡ false) }
+        ensures kinds { IfErr result IsMemoryOrLine }
+        ensures stopped { IfErr result (λ e. (before : List Step) (more : List ℕ) → GroupsShow (settings_seen settings.now) self.old.core before →
+            ScriptOutcome (Some self.old.out.items) (Some self.new.out.items) (settings_seen settings.now) before (cut (self.old.buffer.items ++ more)) (Err e)) }
+    {
+        let mut scratch = Scratch::new(self.alloc);
+        while let Some(line) = next_line(&mut self.buffer)? {
+            self.answer_line(settings, &mut scratch, line.as_str())?;
+        }
+        Ok(())
+    }
+
+    /// Answers the line at the end of the input that no line feed ended, if any.
+    fn answer_last(&mut self, settings: &Settings) -> Result<(), PortError>
+        requires { has_line self.old.buffer.items ≡ false }
+        ensures kinds { IfErr result IsMemoryOrLine }
+        ensures outcome { (before : List Step) → GroupsShow (settings_seen settings.now) self.old.core before →
+            ScriptOutcome (Some self.old.out.items) (Some self.new.out.items) (settings_seen settings.now) before (cut self.old.buffer.items) result }
+    {
+        let Some(line) = last_line(&mut self.buffer)? else {
+            return Ok(());
+        };
+        let mut scratch = Scratch::new(self.alloc);
+        self.answer_line(settings, &mut scratch, line.as_str())?;
+        Ok(())
+    }
+
+    /// Answers a line, behind what is to be written.
+    fn answer_line(
+        &mut self,
+        settings: &Settings,
+        scratch: &mut Scratch,
+        line: &str,
+    ) -> Result<(), AllocError>
+        ensures answers { OnOk result ((before : List Step) → GroupsShow (settings_seen settings.now) self.old.core before →
+            AnswersLine (settings_seen settings.now) before line.now self.new.core self.old.out.items self.new.out.items) }
+        ensures kept { OnErr result (self.new.out.items ≡ self.old.out.items) }
+        ensures left { self.new.buffer ≡ self.old.buffer }
+    {
+        match line_step(self.alloc, settings, scratch, line) {
+            Ok(Ok(step)) => self.answer_step(step),
+            Ok(Err(fault)) => self.answer_fault(fault),
+            Err(error) => Err(error),
+        }
+    }
+
+    /// Does a step, and puts the line of its reply behind what is to be written.
+    fn answer_step(&mut self, step: Step) -> Result<(), AllocError>
+        ensures wrote { OnOk result ((service : GroupSettings) (before : List Step) → step.group.0 < length service.groups → GroupsShow service self.old.core before →
+            self.new.out.items ≡ self.old.out.items ++ reply_line (reply_to service before step)) }
+        ensures agrees { OnOk result ((service : GroupSettings) (before : List Step) → GroupsShow service self.old.core before →
+            GroupsShow service self.new.core (before ++ step ∷ [])) }
+        ensures kept { OnErr result (self.new.out.items ≡ self.old.out.items) }
+        ensures left { self.new.buffer ≡ self.old.buffer }
+    {
+        let reply = self.core.apply(step);
+        let line = reply_line(self.alloc, &reply)?;
+        self.out.extend_from_slice(line.as_str().as_bytes())?;
+        Ok(())
+    }
+
+    /// Puts the line of a fault behind what is to be written.
+    fn answer_fault(&mut self, fault: Fault) -> Result<(), AllocError>
+        ensures wrote { OnOk result (self.new.out.items ≡ self.old.out.items ++ fault_line fault) }
+        ensures same { self.new.core ≡ self.old.core }
+        ensures kept { OnErr result (self.new.out.items ≡ self.old.out.items) }
+        ensures left { self.new.buffer ≡ self.old.buffer }
+    {
+        let line = fault_line(self.alloc, fault)?;
+        self.out.extend_from_slice(line.as_str().as_bytes())?;
+        Ok(())
+    }
+}
