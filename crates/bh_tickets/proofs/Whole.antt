@@ -10,16 +10,16 @@ use Rattle.bh_base.specs.declared.ticket.Ticket.{Ticket}
 use Rattle.bh_base.specs.Tickets.{changed_first}
 use Rattle.bh_cache.specs.declared.lists.GroupLists.{GroupLists}
 use Rattle.bh_tickets.specs.declared.group_slots.GroupSlots.{GroupSlots}
-use Rattle.bh_cache.specs.Slots.{Slots, is_live, ticket_at, tickets_of, has_one, IsArena, IsApart}
+use Rattle.bh_cache.specs.Slots.{Slots, is_live, is_owned, ticket_at, tickets_of, has_one, IsArena, IsApart}
 use Rattle.bh_tickets.specs.GroupSlots.{IsGroupSlots, IsGroupChange, IsPut, CanPut, CanAdd, count_at, is_any}
 use Rattle.bh_tickets.specs.TicketsView.{TicketsView, GroupTickets, ChangesOnly, CanPush, at_in, in_slot, group_at}
 use Rattle.bh_tickets.specs.Whole.{group_of, groups_of, view_of, slotted, slot_in, IsWhole, IsChanged, CanChange}
 use Rattle.bh_cache.proofs.Listed.{changed_is_map}
-use Rattle.bh_cache.proofs.Order.{length_listed}
+use Rattle.bh_cache.proofs.Order.{count_le, length_listed}
 use Rattle.bh_cache.proofs.Counts.{count_listed}
 use Rattle.bh_tickets.proofs.Own.{tickets_rising}
 use Rattle.bh_tickets.proofs.Others.{frame_same, group_same, slots_same}
-use Rattle.bh_tickets.proofs.Puts.{within_slots, held_at}
+use Rattle.bh_tickets.proofs.Puts.{owned_if, within_slots, held_at}
 use Rattle.bh_tickets.proofs.Adds.{any_is, live_within}
 
 pub set_same : (ss : List GroupSlots) (i : ℕ) (x : GroupSlots) → i < length ss → slice_get (set ss i x) i ≡ Some x
@@ -226,6 +226,9 @@ can_add_at a ss i s v whole is can =
 pub len_is : (a : Slots) (ss : List GroupSlots) (i : ℕ) (s : GroupSlots) → IsWhole a ss → slice_get ss i ≡ Some s → s.taken ≡ length (group_at (view_of a ss) i).items
 len_is a ss i s whole is = taken_is a s (whole.each i s is) ∙ ap (λ (z : GroupTickets). length z.items) (sym (group_is a ss i s is))
 
+pub shown_length : (a : Slots) (ss : List GroupSlots) (i : ℕ) (s : GroupSlots) → slice_get ss i ≡ Some s → (f : List Ticket → List Ticket) → length (f (group_at (view_of a ss) i).items) ≡ length (f (tickets_of a s.lists))
+shown_length a ss i s is f = ap (λ (z : GroupTickets). length (f z.items)) (group_is a ss i s is)
+
 pub shown_count : (a : Slots) (ss : List GroupSlots) (i : ℕ) (s : GroupSlots) → slice_get ss i ≡ Some s → (q : Ticket → Bool) → count_by q (group_at (view_of a ss) i).items ≡ count_by q (tickets_of a s.lists)
 shown_count a ss i s is q = ap (λ (z : GroupTickets). count_by q z.items) (group_is a ss i s is)
 
@@ -250,3 +253,11 @@ pub some_part : (a : Slots) (ss : List GroupSlots) (i x : ℕ) (t u : Ticket) �
 some_part a ss i x t u whole lt e is =
     let r = some_group ss i (within_groups a ss i lt) in
     e ∙ sym (held_at a r.0.lists x t (there_is a ss i x r.0 t whole r.1 e)).1 ∙ sym is
+
+-- no more tickets than slots
+pub items_few : (a : Slots) (ss : List GroupSlots) (i : ℕ) (s : GroupSlots) → IsWhole a ss → slice_get ss i ≡ Some s → length (group_at (view_of a ss) i).items ≤ (group_at (view_of a ss) i).room
+items_few a ss i s whole is =
+    let group = whole.each i s is in
+    let taken : s.taken ≤ s.room = omega (arith, group.taken, group.slots, count_le (λ x. has_one is_any (ticket_at a s.lists x)) (is_owned a s.lists) (length a.payloads) (owned_if a s.lists is_any)) in
+    let shown = group_is a ss i s is in
+    omega (arith, taken, taken_is a s group, ap (λ (z : GroupTickets). length z.items) shown, ap (λ (z : GroupTickets). z.room) shown)

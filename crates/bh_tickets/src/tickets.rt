@@ -5,9 +5,9 @@ ghost use Rattle.std.specs.Prelude.{◌≡◌, ◌≢◌, ℕ, ◌+◌, ◌-◌,
 ghost use Rattle.bh_base.specs.declared.ticket.Ticket.{Ticket};
 ghost use Rattle.bh_base.specs.declared.ticket.TicketState.TheVariants as ticket;
 ghost use Rattle.bh_base.specs.Machine.{released_by_one};
-ghost use Rattle.bh_base.specs.Tickets.{changed_first, in_state, is_busy_at, is_cached_as, is_cached_in, is_held_at, is_in_fallback, is_in_fallback_at, is_queued};
+ghost use Rattle.bh_base.specs.Tickets.{changed_first, in_state, is_busy_at, is_cached_as, is_cached_in, is_held_at, is_in_fallback, is_in_fallback_at, is_kept, is_queued};
 ghost use Rattle.bh_cache.specs.Cache.{uncached_in};
-ghost use Rattle.bh_tickets.specs.Changes.{answered, fallback_started, is_due_by, joined, queued_in, run_ended, run_started, run_stopped};
+ghost use Rattle.bh_tickets.specs.Changes.{answered, fallback_started, is_due_by, joined, queued_in, run_ended, run_started, run_stopped, timed_out_by};
 ghost use Rattle.bh_tickets.specs.TicketsView.{CanPush, ChangesOnly, IsFirstAt, IsThere, group_at, in_slot, no_tickets_in, slots_of};
 ghost use Rattle.bh_tickets.specs.Whole.{CanChange, IsChanged};
 
@@ -15,6 +15,7 @@ use crate::due::any_due_on;
 use crate::group_slots::{GroupSlots, add, drop_cached, put};
 use crate::growth::{add_lists, add_slots, new_arena};
 use crate::states::{DueRule, is_due, is_held, is_in_fallback};
+use crate::sweeps::{release, time_out};
 use bh_base::{Answer, Cause, Serial, Text, Ticket, TicketState};
 use bh_cache::find_serial;
 use bh_slot_arena::Arena;
@@ -353,5 +354,27 @@ impl Tickets {
     {
         let entry = &mut self.groups[group];
         drop_cached(&mut self.arena, entry, context)
+    }
+
+    /// Each ticket that is due has timed out; answers how many did.
+    pub fn time_out(&mut self, group: usize, due: &DueRule) -> u64
+        requires group { group < length self.old.groups }
+        ensures items { (group_at self.new group).items ≡ map (timed_out_by due.now) (group_at self.old group).items }
+        ensures count { result ≡ length (filter (is_due_by due.now) (group_at self.old group).items) }
+        ensures left { ChangesOnly group self.old self.new }
+    {
+        let entry = &mut self.groups[group];
+        time_out(&mut self.arena, entry, due)
+    }
+
+    /// Leaves the tickets out that nobody needs. It takes no walk where one call at most made a ticket needless.
+    pub fn release(&mut self, group: usize)
+        requires group { group < length self.old.groups }
+        ensures items { (group_at self.new group).items ≡ filter is_kept (group_at self.old group).items }
+        ensures few { length (group_at self.new group).items ≤ (group_at self.new group).room }
+        ensures left { ChangesOnly group self.old self.new }
+    {
+        let entry = &mut self.groups[group];
+        release(&mut self.arena, entry);
     }
 }
