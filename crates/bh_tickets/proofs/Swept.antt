@@ -335,9 +335,6 @@ module _ (a : Slots) (s : GroupSlots) (b : Slots) (r : GroupSlots) (c : Slots) (
   lists_u : u.lists ≡ s.lists
   lists_u = second.swept.change.lists ∙ lists_r
 
-  lists_w : w.lists ≡ s.lists
-  lists_w = third.swept.change.lists ∙ lists_u
-
   not_needless : (y : ℕ) (t : Ticket) → ticket_at d s.lists y ≡ Some t → is_kept t ≡ false → ⊥
   not_needless y t e drops = by t.state refl
     where
