@@ -4,6 +4,8 @@ ghost use Rattle.std.specs.Prelude.{◌≡◌, ℕ, ◌+◌, ◌<◌, ◌≤◌,
 ghost use Rattle.bh_slot_arena.specs.Lists.{IsPartition};
 ghost use Rattle.bh_slot_arena.specs.Slots.{lists_in, slots_on, with_moved, with_new_lists, with_new_slots, with_payload};
 ghost use Rattle.bh_slot_arena.specs.Family.{AddsSlots, IsReady, but_room, family_at, no_lists};
+ghost use Rattle.std.specs.Borrow.{Lends, sem};
+ghost use Rattle.bh_slot_arena.specs.contracts.arena.Arena.{the_row};
 
 use crate::family::Family;
 use std::alloc::{AllocError, Global};
@@ -153,6 +155,15 @@ impl<T: Copy, const K: usize> Arena<T, K> {
         ensures { Some result.now ≡ slice_get self.now.payloads slot }
     {
         &self.payloads[slot as usize]
+    }
+
+    /// The payload of a slot, to be changed in place.
+    pub fn get_mut(&mut self, slot: u32) -> &mut T
+        requires { slot < length self.old.payloads }
+        ensures* writes_back { sem 𝓛 (Lends (the_row T.row K.row) T.row self.entry result (λ payload. with_payload slot payload self.old)) }
+        ensures value { Some result.now ≡ slice_get self.old.payloads slot }
+    {
+        &mut self.payloads[slot as usize]
     }
 
     /// Gives a slot another payload.

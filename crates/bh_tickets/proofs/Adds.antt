@@ -194,6 +194,10 @@ not_free g r n = each_list (λ l. g.free ≢ l) g (λ e. absurd (omega (arith, e
 pub not_full : (a : Slots) (s : GroupSlots) (v : Ticket) → IsArena a 0 → IsGroupSlots a s → CanAdd s v → slice_get (slots_on a 0 s.lists.free) 0 ≡ None → ⊥
 not_full a s v arena group can none = absurd (omega (arith, can.room, all_taken a s arena group none))
 
+-- the list for a state is there
+pub to_list : (a : Slots) (s : GroupSlots) (to : ℕ) (r : TicketState) → IsGroupSlots a s → to ≡ list_for s.lists r → to < length (lists_in a 0)
+to_list a s to r group is = subst (λ l. l < length (lists_in a 0)) (sym is) (each_list (λ l. l < length (lists_in a 0)) s.lists (omega (arith, group.there, group.numbered.queued, group.numbered.settled)) (omega (arith, group.there, group.numbered.running, group.numbered.settled)) group.there r)
+
 -- as the code reads it
 pub add_from : (a b : Slots) (s : GroupSlots) (x to : ℕ) (v : Ticket) → IsArena a 0 → IsGroupSlots a s → slice_get (slots_on a 0 s.lists.free) 0 ≡ Some x → CanAdd s v → to ≡ list_for s.lists v.state
     → (s.lists.free ≢ to → b ≡ with_moved 0 x to (with_payload x v a)) → (r : GroupSlots) → r ≡ record (counted_in v s) { taken = s.taken + 1; next = s.next + 1 } → IsAdded a s v b r

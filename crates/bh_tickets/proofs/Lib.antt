@@ -1,3 +1,4 @@
+pub mod Changed
 pub mod Touched
 pub mod Own
 pub mod Others
@@ -13,3 +14,4 @@ pub mod ReleasedAll
 pub mod AddedGroup
 pub mod Exists
 pub mod Uncached
+pub mod InPlace

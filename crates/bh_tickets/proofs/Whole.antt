@@ -11,7 +11,9 @@ use Rattle.bh_base.specs.Tickets.{changed_first}
 use Rattle.bh_cache.specs.declared.lists.GroupLists.{GroupLists}
 use Rattle.bh_tickets.specs.declared.group_slots.GroupSlots.{GroupSlots}
 use Rattle.bh_cache.specs.Slots.{Slots, is_live, is_owned, ticket_at, tickets_of, has_one, IsArena, IsApart}
-use Rattle.bh_tickets.specs.GroupSlots.{IsGroupSlots, IsGroupChange, IsPut, CanPut, CanAdd, count_at, is_any}
+use Rattle.bh_tickets.specs.GroupSlots.{IsGroupSlots, IsGroupChange, IsPut, CanBe, CanAdd, count_at, is_any}
+use Rattle.bh_tickets.specs.declared.changes.TicketChange.{TicketChange}
+use Rattle.bh_tickets.specs.Changes.{changed_by}
 use Rattle.bh_tickets.specs.TicketsView.{TicketsView, GroupTickets, ChangesOnly, CanPush, at_in, in_slot, group_at}
 use Rattle.bh_tickets.specs.Whole.{group_of, groups_of, view_of, slotted, slot_in, IsWhole, IsChanged, CanChange}
 use Rattle.bh_cache.proofs.Listed.{changed_is_map}
@@ -19,6 +21,7 @@ use Rattle.bh_cache.proofs.Order.{count_le, length_listed}
 use Rattle.bh_cache.proofs.Counts.{count_listed}
 use Rattle.bh_tickets.proofs.Own.{tickets_rising}
 use Rattle.bh_tickets.proofs.Others.{frame_same, group_same, slots_same}
+use Rattle.bh_tickets.proofs.Changed.{serial_kept}
 use Rattle.bh_tickets.proofs.Puts.{owned_if, within_slots, held_at}
 use Rattle.bh_tickets.proofs.Adds.{any_is, live_within}
 
@@ -153,8 +156,8 @@ module _ (a : Slots) (s : GroupSlots) (group : IsGroupSlots a s) where
   pub count_is : (q : Ticket → Bool) → count_at a s.lists q ≡ count_by q (tickets_of a s.lists)
   count_is q = sym (count_listed q (ticket_at a s.lists) (length a.payloads))
 
-  pub can_put : (x : ℕ) (v : Ticket) → IsArena a 0 → CanChange (group_of a s) x v → CanPut a s x v
-  can_put x v arena can = record { was = can.ticket; here = sym (shows a s x arena) ∙ can.here; serial = can.serial; waits = can.waits }
+  pub can_be : (x : ℕ) (change : TicketChange) → IsArena a 0 → CanChange (group_of a s) x change → CanBe a s x change
+  can_be x change arena can = record { was = can.ticket; here = sym (shows a s x arena) ∙ can.here; allowed = can.allowed }
 
 -- what a ticket that was put does to the list, whatever test found it
 pub put_items : (a b : Slots) (s r : GroupSlots) (x : ℕ) (t v : Ticket) → IsGroupSlots a s → IsPut a s x v b r → v.serial ≡ t.serial
@@ -188,19 +191,6 @@ module _ (a b : Slots) (ss : List GroupSlots) (i : ℕ) (s r : GroupSlots) (whol
   pub room_now : (group_at (view_of b (set ss i r)) i).room ≡ (group_at (view_of a ss) i).room
   room_now = ap (λ (z : GroupTickets). z.room) (now_group a b ss i s r whole is change) ∙ change.room ∙ sym (ap (λ (z : GroupTickets). z.room) (group_is a ss i s is))
 
--- a ticket of one group was put
-pub changed_is : (a b : Slots) (ss : List GroupSlots) (i x : ℕ) (s r : GroupSlots) (v : Ticket) → IsWhole a ss → slice_get ss i ≡ Some s → CanChange (group_at (view_of a ss) i) x v → IsPut a s x v b r
-    → IsChanged i x v (view_of a ss) (view_of b (set ss i r))
-changed_is a b ss i x s r v whole is can done = record {
-  items = λ p f t here found same.
-      let store = group_is a ss i s is in
-      let k : Some can.ticket ≡ Some t = sym can.here ∙ here in
-      let q : can.ticket ≡ t = cc in
-      items_now a b ss i s r whole is done.change (changed_first p f)
-      (put_items a b s r x t v (whole.each i s is) done (can.serial ∙ ap (λ (u : Ticket). u.serial) q) p f (ap (λ (z : GroupTickets). find p z.items) (sym store) ∙ found) same);
-  left = else_is a b ss i s r whole is done.change done.next;
-}
-
 -- the group's part, as the code reads it
 pub part_is : (a : Slots) (ss : List GroupSlots) (view : TicketsView) (i : ℕ) (s : GroupSlots) → view_of a ss ≡ view → i < length view.groups → s ≡ get_or ss i s → slice_get ss i ≡ Some s
 part_is a ss view i s e lt is = get_is ss i s (let n : length (groups_of a ss) ≡ length view.groups = ap (λ (v : TicketsView). length v.groups) e in omega (arith, n, lt, length-map ss (group_of a))) is
@@ -209,8 +199,20 @@ part_is a ss view i s e lt is = get_is ss i s (let n : length (groups_of a ss) �
 pub there_is : (a : Slots) (ss : List GroupSlots) (i x : ℕ) (s : GroupSlots) (t : Ticket) → IsWhole a ss → slice_get ss i ≡ Some s → in_slot (group_at (view_of a ss) i) x ≡ Some t → ticket_at a s.lists x ≡ Some t
 there_is a ss i x s t whole is e = sym (shows a s x whole.arena) ∙ ap (λ (z : GroupTickets). in_slot z x) (sym (group_is a ss i s is)) ∙ e
 
-pub can_put_at : (a : Slots) (ss : List GroupSlots) (i x : ℕ) (s : GroupSlots) (v : Ticket) → IsWhole a ss → slice_get ss i ≡ Some s → CanChange (group_at (view_of a ss) i) x v → CanPut a s x v
-can_put_at a ss i x s v whole is can = can_put a s (whole.each i s is) x v whole.arena (subst (λ (z : GroupTickets). CanChange z x v) (group_is a ss i s is) can)
+pub can_be_at : (a : Slots) (ss : List GroupSlots) (i x : ℕ) (s : GroupSlots) (change : TicketChange) → IsWhole a ss → slice_get ss i ≡ Some s → CanChange (group_at (view_of a ss) i) x change → CanBe a s x change
+can_be_at a ss i x s change whole is can = can_be a s (whole.each i s is) x change whole.arena (subst (λ (z : GroupTickets). CanChange z x change) (group_is a ss i s is) can)
+
+-- a ticket of one group has changed
+pub changed_is : (a b : Slots) (ss : List GroupSlots) (i x : ℕ) (s r : GroupSlots) (change : TicketChange) → IsWhole a ss → slice_get ss i ≡ Some s → CanChange (group_at (view_of a ss) i) x change
+    → ((t : Ticket) → ticket_at a s.lists x ≡ Some t → IsPut a s x (changed_by change t) b r) → IsChanged i x change (view_of a ss) (view_of b (set ss i r))
+changed_is a b ss i x s r change whole is can done = record {
+  items = λ p first.
+      let t : Ticket = first.ticket in
+      let put = done t (there_is a ss i x s t whole is first.here) in
+      items_now a b ss i s r whole is put.change (changed_first p (changed_by change))
+      (put_items a b s r x t (changed_by change t) (whole.each i s is) put (serial_kept change t) p (changed_by change) (ap (λ (z : GroupTickets). find p z.items) (sym (group_is a ss i s is)) ∙ first.first) refl);
+  left = let put = done can.ticket (there_is a ss i x s can.ticket whole is can.here) in else_is a b ss i s r whole is put.change put.next;
+}
 
 pub can_add_at : (a : Slots) (ss : List GroupSlots) (i : ℕ) (s : GroupSlots) (v : Ticket) → IsWhole a ss → slice_get ss i ≡ Some s → CanPush (group_at (view_of a ss) i) v → CanAdd s v
 can_add_at a ss i s v whole is can =

@@ -1,5 +1,5 @@
 -- What an operation changes of a ticket.
-use Rattle.std.specs.Prelude.{◌+◌, ◌-◌, Bool, true, false, ◌&&◌, ◌||◌, nat_le, if◌then◌else◌}
+use Rattle.std.specs.Prelude.{◌≡◌, ◌+◌, ◌-◌, ◌<◌, ◌^◌, Bool, true, false, ◌&&◌, ◌||◌, nat_le, if◌then◌else◌}
 use Rattle.bh_base.specs.declared.ticket.Ticket.{Ticket}
 use Rattle.bh_base.specs.declared.ticket.TicketState.{TicketState}
 use Rattle.bh_base.specs.declared.ticket.TicketState.TheVariants as ticket
@@ -7,6 +7,8 @@ use Rattle.bh_base.specs.declared.reply.Answer.{Answer}
 use Rattle.bh_base.specs.declared.reply.Cause.{Cause}
 use Rattle.bh_base.specs.declared.reply.Cause.TheVariants as cause
 use Rattle.bh_base.specs.Tickets.{in_state, is_queued, is_running}
+use Rattle.bh_tickets.specs.declared.changes.TicketChange.{TicketChange}
+use Rattle.bh_tickets.specs.declared.changes.TicketChange.TheVariants as change
 use Rattle.bh_tickets.specs.declared.states.DueRule.{DueRule}
 use Rattle.bh_base.specs.Machine.{released_by_one}
 
@@ -49,3 +51,23 @@ is_unanswered t = elim t.state [ ticket.Queued ↦ true | ticket.Running ↦ tru
 -- whether a ticket in the state waits
 abbrev pub queued_in : TicketState → Bool
 queued_in s = elim s [ ticket.Queued ↦ true | _ ↦ false ]
+
+-- what a change makes of a ticket
+abbrev pub changed_by : TicketChange → Ticket → Ticket
+changed_by change.StartRun t = run_started t
+changed_by (change.EndRun state) t = run_ended state.now t
+changed_by change.StopRun t = run_stopped t
+changed_by change.ReleaseHolder t = released_by_one t
+changed_by (change.AnswerHolder a) t = answered a.now t
+changed_by (change.Answer a) t = in_state (ticket.Answered a.now) t
+changed_by (change.StartFallback c) t = fallback_started c t
+changed_by change.AddHolder t = joined t
+changed_by change.TimeOut t = in_state (ticket.NeedsFallback cause.Timeout) t
+
+-- a run that ended does not wait for a worker, a holder that goes was there, and there are not too many
+abbrev pub IsAllowed : TicketChange → Ticket → Type 0
+IsAllowed (change.EndRun state) t = queued_in state.now ≡ false
+IsAllowed change.ReleaseHolder t = 0 < t.holders
+IsAllowed (change.AnswerHolder a) t = 0 < t.holders
+IsAllowed change.AddHolder t = t.holders < 2 ^ 64 - 1
+IsAllowed _ t = Unit {0}

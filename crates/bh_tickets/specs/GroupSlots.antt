@@ -7,7 +7,8 @@ use Rattle.bh_index_lists.specs.Lists.{without}
 use Rattle.bh_tickets.specs.declared.states.DueRule.{DueRule}
 use Rattle.bh_tickets.specs.declared.group_slots.Needless.{Needless}
 use Rattle.bh_tickets.specs.declared.group_slots.Needless.TheVariants as needless
-use Rattle.bh_tickets.specs.Changes.{is_due_by, timed_out_by}
+use Rattle.bh_tickets.specs.declared.changes.TicketChange.{TicketChange}
+use Rattle.bh_tickets.specs.Changes.{IsAllowed, is_due_by, timed_out_by}
 use Rattle.std.specs.Option.{option_map}
 use Rattle.bh_cache.specs.declared.lists.GroupLists.{GroupLists}
 use Rattle.bh_tickets.specs.declared.group_slots.GroupSlots.{GroupSlots}
@@ -97,6 +98,12 @@ pub record CanPut (a : Slots) (s : GroupSlots) (x : ℕ) (v : Ticket) : Type 0 w
   pub here : ticket_at a s.lists x ≡ Some was
   pub serial : v.serial ≡ was.serial
   pub waits : is_queued v ≡ true → is_queued was ≡ true
+
+-- the slot has a ticket to which that may happen
+pub record CanBe (a : Slots) (s : GroupSlots) (x : ℕ) (change : TicketChange) : Type 0 where
+  pub was : Ticket
+  pub here : ticket_at a s.lists x ≡ Some was
+  pub allowed : IsAllowed change was
 
 -- the slot has the ticket now, all else of the group's tickets is as it was, and so are other groups
 pub record IsPut (a : Slots) (s : GroupSlots) (x : ℕ) (v : Ticket) (b : Slots) (r : GroupSlots) : Type 0 where

@@ -1,11 +1,13 @@
 -- The tickets of all groups, by the number of the group.
-use Rattle.std.specs.Prelude.{◌≡◌, ◌≢◌, ℕ, Bool, true, zero, suc, List, [], ◌∷◌, map, find, length, Option, Some, None, slice_get, sum_by}
+use Rattle.std.specs.Prelude.{◌≡◌, ◌≢◌, ℕ, Bool, zero, suc, List, [], ◌∷◌, map, length, Option, Some, None, slice_get, sum_by}
 use Rattle.bh_base.specs.declared.ticket.Ticket.{Ticket}
-use Rattle.bh_base.specs.Tickets.{changed_first, is_queued}
+use Rattle.bh_base.specs.Tickets.{changed_first}
 use Rattle.bh_tickets.specs.declared.group_slots.GroupSlots.{GroupSlots}
 use Rattle.bh_cache.specs.Slots.{Slots, ticket_at, tickets_of, IsArena, IsApart}
 use Rattle.bh_tickets.specs.GroupSlots.{IsGroupSlots}
-use Rattle.bh_tickets.specs.TicketsView.{TicketsView, GroupTickets, ChangesOnly, group_at, in_slot}
+use Rattle.bh_tickets.specs.declared.changes.TicketChange.{TicketChange}
+use Rattle.bh_tickets.specs.Changes.{IsAllowed, changed_by}
+use Rattle.bh_tickets.specs.TicketsView.{TicketsView, GroupTickets, ChangesOnly, group_at, in_slot, IsFirstAt}
 
 -- the places below n that have a ticket, with the tickets
 abbrev pub slot_in : ℕ → Option Ticket → List (ℕ × Ticket) → List (ℕ × Ticket)
@@ -34,15 +36,13 @@ pub record IsWhole (a : Slots) (ss : List GroupSlots) : Type 0 where
   pub apart : (i j : ℕ) (s r : GroupSlots) → slice_get ss i ≡ Some s → slice_get ss j ≡ Some r → i ≢ j → IsApart s.lists r.lists
   pub slots : length a.payloads ≡ sum_by (λ (s : GroupSlots). s.room) ss
 
--- a ticket of the slot's serial, which waits only if that one does
-pub record CanChange (g : GroupTickets) (slot : ℕ) (v : Ticket) : Type 0 where
+-- the slot has a ticket to which that may happen
+pub record CanChange (g : GroupTickets) (slot : ℕ) (change : TicketChange) : Type 0 where
   pub ticket : Ticket
   pub here : in_slot g slot ≡ Some ticket
-  pub serial : v.serial ≡ ticket.serial
-  pub waits : is_queued v ≡ true → is_queued ticket ≡ true
+  pub allowed : IsAllowed change ticket
 
--- the slot has the ticket now: for the list this is a change of whatever first ticket the slot has
-pub record IsChanged (group slot : ℕ) (v : Ticket) (old new : TicketsView) : Type 0 where
-  pub items : (p : Ticket → Bool) (f : Ticket → Ticket) (t : Ticket) → in_slot (group_at old group) slot ≡ Some t → find p (group_at old group).items ≡ Some t → f t ≡ v
-      → (group_at new group).items ≡ changed_first p f (group_at old group).items
+-- that has happened to the ticket in the slot: for the list this is a change of whatever first ticket the slot has
+pub record IsChanged (group slot : ℕ) (change : TicketChange) (old new : TicketsView) : Type 0 where
+  pub items : (p : Ticket → Bool) → IsFirstAt p (group_at old group) slot → (group_at new group).items ≡ changed_first p (changed_by change) (group_at old group).items
   pub left : ChangesOnly group old new

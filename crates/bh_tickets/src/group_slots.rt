@@ -3,13 +3,12 @@
 ghost use Rattle.std.specs.Prelude.{◌≡◌, ◌≢◌, ℕ, ◌+◌, ◌-◌, ◌<◌, ◌≤◌, ◌^◌, Some, None, Bool, true, false, length, is_some, if◌then◌else◌, eqb};
 ghost use Rattle.bh_base.specs.declared.ticket.Ticket.{Ticket};
 ghost use Rattle.bh_base.specs.Tickets.{in_state, is_queued, is_in_fallback, is_kept};
-ghost use Rattle.bh_base.specs.declared.ticket.TicketState.TheVariants as state;
-ghost use Rattle.bh_base.specs.declared.reply.Cause.TheVariants as cause;
 ghost use Rattle.bh_slot_arena.specs.Slots.{lists_in, with_payload, with_moved};
 ghost use Rattle.bh_cache.specs.Slots.{IsArena, list_for, ticket_at, one};
-ghost use Rattle.bh_tickets.specs.GroupSlots.{IsGroupSlots, CanPut, IsPut, CanAdd, IsAdded, IsReleasedAt, IsTimed, IsUncached, counted_in, counted_out, no_slot_taken, noted};
-ghost use Rattle.bh_tickets.specs.Changes.{is_due_by};
+ghost use Rattle.bh_tickets.specs.GroupSlots.{IsGroupSlots, CanBe, IsPut, CanAdd, IsAdded, IsReleasedAt, IsTimed, IsUncached, counted_in, counted_out, no_slot_taken, noted};
+ghost use Rattle.bh_tickets.specs.Changes.{changed_by};
 
+use crate::changes::{TicketChange, apply};
 use crate::states::{DueRule, is_due, is_in_fallback, is_kept, is_queued};
 use bh_base::{Cause, Serial, Ticket, TicketState};
 use bh_cache::{GroupLists, drop_context};
@@ -116,34 +115,40 @@ fn count_in(group: &mut GroupSlots, ticket: &Ticket)
     group.in_fallback += one(is_in_fallback(ticket));
 }
 
-/// Writes a ticket into a slot, and moves the slot where its list changes.
-fn write(arena: &mut Arena<Ticket, 1>, slot: u32, ticket: &Ticket, from: usize, to: usize)
-    requires arena { IsArena arena.old 0 }
+/// Moves a slot to the end of a list, where it lies on another.
+fn move_on(arena: &mut Arena<Ticket, 1>, slot: u32, from: usize, to: usize)
     requires slot { slot < length arena.old.payloads }
     requires list { to < length (lists_in arena.old 0) }
-    ensures same { from ≡ to → arena.new ≡ with_payload slot ticket.now arena.old }
-    ensures moved { from ≢ to → arena.new ≡ with_moved 0 slot to (with_payload slot ticket.now arena.old) }
+    ensures same { from ≡ to → arena.new ≡ arena.old }
+    ensures moved { from ≢ to → arena.new ≡ with_moved 0 slot to arena.old }
 {
-    arena.set(slot, *ticket);
     if from != to {
         arena.move_to_back(0, slot, to);
     }
 }
 
-/// The ticket in the slot changes, with what is counted of it and the list on which it lies.
-pub fn put(arena: &mut Arena<Ticket, 1>, group: &mut GroupSlots, slot: u32, ticket: &Ticket)
+/// The ticket in the slot changes in place, and so does what is counted of it and the list on which it lies.
+pub fn change(
+    arena: &mut Arena<Ticket, 1>,
+    group: &mut GroupSlots,
+    slot: u32,
+    change: &TicketChange,
+)
     requires arena { IsArena arena.old 0 }
     requires group { IsGroupSlots arena.old group.old }
-    requires there { CanPut arena.old group.old slot ticket.now }
-    ensures { IsPut arena.old group.old slot ticket.now arena.new group.new }
+    requires allowed { CanBe arena.old group.old slot change.now }
+    ensures { (t : Ticket) → ticket_at arena.old group.old.lists slot ≡ Some t → IsPut arena.old group.old slot (changed_by change.now t) arena.new group.new }
 {
     let was = arena.get(slot);
     count_out(group, was);
-    count_in(group, ticket);
     let from = list_for(&group.lists, &was.state);
+    apply(change, arena.get_mut(slot));
+    let ticket = arena.get(slot);
+    count_in(group, ticket);
     let to = list_for(&group.lists, &ticket.state);
-    write(arena, slot, ticket, from, to);
-    if !is_kept(ticket) {
+    let needed = is_kept(ticket);
+    move_on(arena, slot, from, to);
+    if !needed {
         group.needless = noted(group.needless, slot);
     }
 }
@@ -159,7 +164,8 @@ pub fn add(arena: &mut Arena<Ticket, 1>, group: &mut GroupSlots, ticket: &Ticket
         return;
     };
     let to = list_for(&group.lists, &ticket.state);
-    write(arena, slot, ticket, group.lists.free, to);
+    arena.set(slot, *ticket);
+    arena.move_to_back(0, slot, to);
     count_in(group, ticket);
     group.taken += 1;
     group.next += 1;
@@ -207,20 +213,9 @@ pub fn time_out_at(
     requires there { is_some (ticket_at arena.old group.old.lists slot) ≡ true }
     ensures { IsTimed arena.old group.old slot due.now result arena.new group.new }
 {
-    let was = arena.get(slot);
-    if !is_due(was, due) {
+    if !is_due(arena.get(slot), due) {
         return 0;
     }
-    let now = timed_out(was);
-    put(arena, group, slot, &now);
+    change(arena, group, slot, &TicketChange::TimeOut);
     1
-}
-
-/// The ticket as it is once it has timed out.
-fn timed_out(ticket: &Ticket) -> Ticket
-    ensures { result ≡ in_state (state.NeedsFallback cause.Timeout) ticket.now }
-{
-    let mut now = *ticket;
-    now.state = TicketState::NeedsFallback(Cause::Timeout);
-    now
 }

@@ -2,6 +2,7 @@
 //! of them is kept as they change, so that a call takes no walk over other groups, and most take none over the group's.
 #![tactic(auto)]
 
+mod changes;
 mod due;
 mod group_slots;
 mod growth;

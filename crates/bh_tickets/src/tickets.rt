@@ -11,8 +11,9 @@ ghost use Rattle.bh_tickets.specs.Changes.{answered, fallback_started, is_due_by
 ghost use Rattle.bh_tickets.specs.TicketsView.{CanPush, ChangesOnly, IsFirstAt, IsThere, group_at, in_slot, no_tickets_in, slots_of};
 ghost use Rattle.bh_tickets.specs.Whole.{CanChange, IsChanged};
 
+use crate::changes::TicketChange;
 use crate::due::any_due_on;
-use crate::group_slots::{GroupSlots, add, drop_cached, put};
+use crate::group_slots::{self, GroupSlots, add, drop_cached};
 use crate::growth::{add_lists, add_slots, new_arena};
 use crate::states::{DueRule, is_due, is_held, is_in_fallback};
 use crate::sweeps::{release, time_out};
@@ -217,14 +218,14 @@ impl Tickets {
         self.arena.get(slot)
     }
 
-    /// The ticket in the slot changes.
-    fn put(&mut self, group: usize, slot: u32, ticket: &Ticket)
+    /// That happens to the ticket in the slot.
+    fn change(&mut self, group: usize, slot: u32, change: &TicketChange)
         requires group { group < length self.old.groups }
-        requires ticket { CanChange (group_at self.old group) slot ticket.now }
-        ensures { IsChanged group slot ticket.now self.old self.new }
+        requires allowed { CanChange (group_at self.old group) slot change.now }
+        ensures { IsChanged group slot change.now self.old self.new }
     {
         let entry = &mut self.groups[group];
-        put(&mut self.arena, entry, slot, ticket);
+        group_slots::change(&mut self.arena, entry, slot, change);
     }
 
     /// A worker begins with the run of the ticket, the first that is queued.
@@ -234,10 +235,7 @@ impl Tickets {
         ensures items { (p : Ticket → Bool) → IsFirstAt p (group_at self.old group) slot → (group_at self.new group).items ≡ changed_first p run_started (group_at self.old group).items }
         ensures left { ChangesOnly group self.old self.new }
     {
-        let mut ticket = *self.get(group, slot);
-        ticket.state = TicketState::Running;
-        ticket.busy = true;
-        self.put(group, slot, &ticket);
+        self.change(group, slot, &TicketChange::StartRun);
     }
 
     /// The run of the ticket has ended in time.
@@ -248,10 +246,7 @@ impl Tickets {
         ensures items { (p : Ticket → Bool) → IsFirstAt p (group_at self.old group) slot → (group_at self.new group).items ≡ changed_first p (run_ended state.now) (group_at self.old group).items }
         ensures left { ChangesOnly group self.old self.new }
     {
-        let mut ticket = *self.get(group, slot);
-        ticket.state = *state;
-        ticket.busy = false;
-        self.put(group, slot, &ticket);
+        self.change(group, slot, &TicketChange::EndRun(state));
     }
 
     /// The run of the ticket has ended, too late.
@@ -261,9 +256,7 @@ impl Tickets {
         ensures items { (p : Ticket → Bool) → IsFirstAt p (group_at self.old group) slot → (group_at self.new group).items ≡ changed_first p run_stopped (group_at self.old group).items }
         ensures left { ChangesOnly group self.old self.new }
     {
-        let mut ticket = *self.get(group, slot);
-        ticket.busy = false;
-        self.put(group, slot, &ticket);
+        self.change(group, slot, &TicketChange::StopRun);
     }
 
     /// One holder has collected the answer.
@@ -274,9 +267,7 @@ impl Tickets {
         ensures items { (p : Ticket → Bool) → IsFirstAt p (group_at self.old group) slot → (group_at self.new group).items ≡ changed_first p released_by_one (group_at self.old group).items }
         ensures left { ChangesOnly group self.old self.new }
     {
-        let mut ticket = *self.get(group, slot);
-        ticket.holders -= 1;
-        self.put(group, slot, &ticket);
+        self.change(group, slot, &TicketChange::ReleaseHolder);
     }
 
     /// The ticket is answered, and one holder has collected that.
@@ -287,10 +278,7 @@ impl Tickets {
         ensures items { (p : Ticket → Bool) → IsFirstAt p (group_at self.old group) slot → (group_at self.new group).items ≡ changed_first p (answered answer.now) (group_at self.old group).items }
         ensures left { ChangesOnly group self.old self.new }
     {
-        let mut ticket = *self.get(group, slot);
-        ticket.state = TicketState::Answered(*answer);
-        ticket.holders -= 1;
-        self.put(group, slot, &ticket);
+        self.change(group, slot, &TicketChange::AnswerHolder(answer));
     }
 
     /// The ticket is answered.
@@ -300,9 +288,7 @@ impl Tickets {
         ensures items { (p : Ticket → Bool) → IsFirstAt p (group_at self.old group) slot → (group_at self.new group).items ≡ changed_first p (in_state (ticket.Answered answer.now)) (group_at self.old group).items }
         ensures left { ChangesOnly group self.old self.new }
     {
-        let mut ticket = *self.get(group, slot);
-        ticket.state = TicketState::Answered(*answer);
-        self.put(group, slot, &ticket);
+        self.change(group, slot, &TicketChange::Answer(answer));
     }
 
     /// A holder begins with the fallback of the ticket.
@@ -312,9 +298,7 @@ impl Tickets {
         ensures items { (p : Ticket → Bool) → IsFirstAt p (group_at self.old group) slot → (group_at self.new group).items ≡ changed_first p (fallback_started cause) (group_at self.old group).items }
         ensures left { ChangesOnly group self.old self.new }
     {
-        let mut ticket = *self.get(group, slot);
-        ticket.state = TicketState::InFallback(cause);
-        self.put(group, slot, &ticket);
+        self.change(group, slot, &TicketChange::StartFallback(cause));
     }
 
     /// One more holder waits for the answer of the ticket.
@@ -325,9 +309,7 @@ impl Tickets {
         ensures items { (p : Ticket → Bool) → IsFirstAt p (group_at self.old group) slot → (group_at self.new group).items ≡ changed_first p joined (group_at self.old group).items }
         ensures left { ChangesOnly group self.old self.new }
     {
-        let mut ticket = *self.get(group, slot);
-        ticket.holders += 1;
-        self.put(group, slot, &ticket);
+        self.change(group, slot, &TicketChange::AddHolder);
     }
 
     /// A ticket of the next serial, behind the others.

@@ -5,7 +5,9 @@ use Rattle.bh_slot_arena.specs.Slots.{slots_on}
 use Rattle.bh_cache.proofs.Order.{front_on}
 use Rattle.bh_tickets.specs.GroupSlots.{is_busy}
 use Rattle.bh_tickets.proofs.Puts.{one_few}
-use Rattle.bh_tickets.proofs.Adds.{count_few, not_full, add_from}
+use Rattle.bh_tickets.proofs.Adds.{count_few, not_full, add_from, to_list}
+use Rattle.std.proofs.Common.{length-set}
+use Rattle.bh_slot_arena.specs.Slots.{with_moved}
 use Rattle.bh_tickets.proofs.group_slots.add.Goals as goal
 
 pub count_in-requires-clause-busy : goal.count_in-requires-clause-busy
@@ -23,9 +25,14 @@ count_in-requires-clause-in_fallback c =
 pub returns-in_default : goal.returns-in_default
 returns-in_default c = absurd (not_full c.args.arena.now c.args.group.now c.args.ticket.now c.requires.arena c.requires.group c.requires.ticket (sym c.front.ensures ∙ c.in_default.is))
 
-pub write-requires-clause-slot : goal.write-requires-clause-slot
-write-requires-clause-slot c = c.requires.arena.within c.args.group.now.lists.free c.in-Some.slot (front_on c.in-Some.slot (slots_on c.args.arena.now 0 c.args.group.now.lists.free) (sym c.front.ensures ∙ c.in-Some.is))
+pub set-requires : goal.set-requires
+set-requires c = (omega arith, c.requires.arena.within c.args.group.now.lists.free c.in-Some.slot (front_on c.in-Some.slot (slots_on c.args.arena.now 0 c.args.group.now.lists.free) (sym c.front.ensures ∙ c.in-Some.is)))
+
+pub move_to_back-requires : goal.move_to_back-requires
+move_to_back-requires c =
+    let lt = c.requires.arena.within c.args.group.now.lists.free c.in-Some.slot (front_on c.in-Some.slot (slots_on c.args.arena.now 0 c.args.group.now.lists.free) (sym c.front.ensures ∙ c.in-Some.is)) in
+    (omega arith, (omega arith, rw c.set.ensures (omega (arith, lt, length-set c.args.arena.now.payloads c.in-Some.slot c.args.ticket.now), to_list c.args.arena.now c.args.group.now c.list_for-to.result c.args.ticket.now.state c.requires.group c.list_for-to.ensures)))
 
 pub returns : goal.returns
-returns c = add_from c.args.arena.now c.write.new.arena c.args.group.now c.in-Some.slot c.list_for-to.result c.args.ticket.now c.requires.arena c.requires.group (sym c.front.ensures ∙ c.in-Some.is) c.requires.ticket c.list_for-to.ensures c.write.ensures.moved _
+returns c = add_from c.args.arena.now c.move_to_back.new.self c.args.group.now c.in-Some.slot c.list_for-to.result c.args.ticket.now c.requires.arena c.requires.group (sym c.front.ensures ∙ c.in-Some.is) c.requires.ticket c.list_for-to.ensures (λ _. c.move_to_back.ensures.moved ∙ ap (λ z. with_moved 0 c.in-Some.slot c.list_for-to.result z) c.set.ensures) _
     (ap (λ (s : GroupSlots). record s { taken = s.taken + 1; next = s.next + 1 }) c.count_in.ensures)

@@ -1,0 +1,30 @@
+-- What a change leaves of a ticket.
+use Rattle.std.proofs.Common.{◌≡◌, true, refl}
+use Rattle.bh_base.specs.declared.ticket.Ticket.{Ticket}
+use Rattle.bh_base.specs.Tickets.{is_queued}
+use Rattle.bh_tickets.specs.declared.changes.TicketChange.{TicketChange}
+use Rattle.bh_tickets.specs.declared.changes.TicketChange.TheVariants as change
+use Rattle.bh_tickets.specs.Changes.{IsAllowed, changed_by}
+
+pub serial_kept : (c : TicketChange) (t : Ticket) → (changed_by c t).serial ≡ t.serial
+serial_kept change.StartRun t = refl
+serial_kept (change.EndRun s) t = refl
+serial_kept change.StopRun t = refl
+serial_kept change.ReleaseHolder t = refl
+serial_kept (change.AnswerHolder a) t = refl
+serial_kept (change.Answer a) t = refl
+serial_kept (change.StartFallback c) t = refl
+serial_kept change.AddHolder t = refl
+serial_kept change.TimeOut t = refl
+
+-- a ticket waits afterwards only if it did before
+pub waits_kept : (c : TicketChange) (t : Ticket) → IsAllowed c t → is_queued (changed_by c t) ≡ true → is_queued t ≡ true
+waits_kept change.StartRun t ok e = cc
+waits_kept (change.EndRun s) t ok e = cc
+waits_kept change.StopRun t ok e = e
+waits_kept change.ReleaseHolder t ok e = e
+waits_kept (change.AnswerHolder a) t ok e = cc
+waits_kept (change.Answer a) t ok e = cc
+waits_kept (change.StartFallback c) t ok e = cc
+waits_kept change.AddHolder t ok e = e
+waits_kept change.TimeOut t ok e = cc

@@ -1,0 +1,59 @@
+use Rattle.std.proofs.Common.{inl, inr, sym, ap, ◌∙◌, refl, arith}
+use Rattle.bh_base.specs.Tickets.{is_queued, is_in_fallback}
+use Rattle.bh_cache.specs.Slots.{list_for}
+use Rattle.bh_tickets.specs.declared.group_slots.GroupSlots.{GroupSlots}
+use Rattle.bh_tickets.specs.GroupSlots.{counted_in, is_busy, noted}
+use Rattle.bh_tickets.proofs.InPlace.{change_from, here_is}
+use Rattle.bh_tickets.proofs.Puts.{counted_at, one_few, room_at}
+use Rattle.bh_tickets.proofs.group_slots.change.Goals as goal
+
+pub count_out-requires-clause-busy : goal.count_out-requires-clause-busy
+count_out-requires-clause-busy c =
+    let here = here_is c.args.arena.now c.args.group.now c.args.slot c.args.change.now c.requires.allowed c.get-was.result.now c.get-was.ensures in
+    omega (arith, c.requires.group.busy, counted_at c.args.arena.now c.args.group.now c.args.slot c.get-was.result.now c.requires.group here is_busy)
+
+pub count_out-requires-clause-queued : goal.count_out-requires-clause-queued
+count_out-requires-clause-queued c =
+    let here = here_is c.args.arena.now c.args.group.now c.args.slot c.args.change.now c.requires.allowed c.get-was.result.now c.get-was.ensures in
+    omega (arith, c.requires.group.queued, counted_at c.args.arena.now c.args.group.now c.args.slot c.get-was.result.now c.requires.group here is_queued)
+
+pub count_out-requires-clause-in_fallback : goal.count_out-requires-clause-in_fallback
+count_out-requires-clause-in_fallback c =
+    let here = here_is c.args.arena.now c.args.group.now c.args.slot c.args.change.now c.requires.allowed c.get-was.result.now c.get-was.ensures in
+    omega (arith, c.requires.group.in_fallback, counted_at c.args.arena.now c.args.group.now c.args.slot c.get-was.result.now c.requires.group here is_in_fallback)
+
+pub count_in-requires-clause-busy : goal.count_in-requires-clause-busy
+count_in-requires-clause-busy c =
+    let here = here_is c.args.arena.now c.args.group.now c.args.slot c.args.change.now c.requires.allowed c.get-was.result.now c.get-was.ensures in
+    let out = ap (λ (s : GroupSlots). s.busy) c.count_out.ensures in
+    omega (arith, out, c.requires.group.busy, c.requires.group.few, one_few c.get-ticket.result.now.busy, room_at c.args.arena.now c.args.group.now c.args.slot c.get-was.result.now c.requires.group here is_busy)
+
+pub count_in-requires-clause-queued : goal.count_in-requires-clause-queued
+count_in-requires-clause-queued c =
+    let here = here_is c.args.arena.now c.args.group.now c.args.slot c.args.change.now c.requires.allowed c.get-was.result.now c.get-was.ensures in
+    let out = ap (λ (s : GroupSlots). s.queued) c.count_out.ensures in
+    omega (arith, out, c.requires.group.queued, c.requires.group.few, one_few (is_queued c.get-ticket.result.now), room_at c.args.arena.now c.args.group.now c.args.slot c.get-was.result.now c.requires.group here is_queued)
+
+pub count_in-requires-clause-in_fallback : goal.count_in-requires-clause-in_fallback
+count_in-requires-clause-in_fallback c =
+    let here = here_is c.args.arena.now c.args.group.now c.args.slot c.args.change.now c.requires.allowed c.get-was.result.now c.get-was.ensures in
+    let out = ap (λ (s : GroupSlots). s.in_fallback) c.count_out.ensures in
+    omega (arith, out, c.requires.group.in_fallback, c.requires.group.few, one_few (is_in_fallback c.get-ticket.result.now), room_at c.args.arena.now c.args.group.now c.args.slot c.get-was.result.now c.requires.group here is_in_fallback)
+
+pub returns-then-not-needed : goal.returns-then-not-needed
+returns-then-not-needed c =
+    let counted = c.count_in.ensures ∙ ap (counted_in c.get-ticket.result.now) c.count_out.ensures in
+    change_from c.args.arena.now c.args.group.now c.args.slot c.args.change.now c.requires.allowed c.get-was.result.now c.get-was.ensures c.get_mut.result.now c.apply.new.ticket c.get-ticket.result.now c.get_mut.ensures.value c.apply.ensures c.get-ticket.ensures
+    c.move_on.new.arena c.requires.arena c.requires.group c.list_for-from.result c.list_for-to.result
+    (c.list_for-from.ensures ∙ ap (λ (s : GroupSlots). list_for s.lists c.get-was.result.now.state) c.count_out.ensures) (c.list_for-to.ensures ∙ ap (λ (s : GroupSlots). list_for s.lists c.get-ticket.result.now.state) counted)
+    c.move_on.ensures.same c.move_on.ensures.moved
+    _ c.noted-group.result (ap (λ (s : GroupSlots). record s { needless = c.noted-group.result }) counted) (inl (sym c.is_kept-needed.ensures ∙ c.if-not-needed.true, c.noted-group.ensures ∙ ap (λ (s : GroupSlots). noted c.args.slot s.needless) counted))
+
+pub returns-else-not-needed : goal.returns-else-not-needed
+returns-else-not-needed c =
+    let counted = c.count_in.ensures ∙ ap (counted_in c.get-ticket.result.now) c.count_out.ensures in
+    change_from c.args.arena.now c.args.group.now c.args.slot c.args.change.now c.requires.allowed c.get-was.result.now c.get-was.ensures c.get_mut.result.now c.apply.new.ticket c.get-ticket.result.now c.get_mut.ensures.value c.apply.ensures c.get-ticket.ensures
+    c.move_on.new.arena c.requires.arena c.requires.group c.list_for-from.result c.list_for-to.result
+    (c.list_for-from.ensures ∙ ap (λ (s : GroupSlots). list_for s.lists c.get-was.result.now.state) c.count_out.ensures) (c.list_for-to.ensures ∙ ap (λ (s : GroupSlots). list_for s.lists c.get-ticket.result.now.state) counted)
+    c.move_on.ensures.same c.move_on.ensures.moved
+    _ c.args.group.now.needless counted (inr (sym c.is_kept-needed.ensures ∙ c.if-not-needed.false, refl))
