@@ -17,7 +17,8 @@ use Rattle.bh_index_lists.specs.Lists.{without}
 use Rattle.bh_tickets.specs.Changes.{queued_in}
 use Rattle.bh_cache.proofs.Order.{order_same, order_without, count_le, count_same, one_le}
 use Rattle.bh_cache.proofs.Counts.{count_point}
-use Rattle.bh_tickets.proofs.Touched.{IsTouched, touched_both, touched_set, payload_other, payload_slot, at_other, at_slot, touched_arena, touched_frame, owned_same, get_within}
+use Rattle.bh_tickets.proofs.Touched.{IsTouched, touched_both, touched_set, payload_other, payload_slot, at_other, at_slot, touched_arena, touched_frame, owned_same}
+use Rattle.bh_cache.proofs.Places.{get_within}
 use Rattle.bh_tickets.proofs.Own.{changed_arranged, changed_tickets, live_for}
 use Rattle.bh_tickets.proofs.Others.{own_for}
 
