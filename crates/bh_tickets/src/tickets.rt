@@ -80,7 +80,7 @@ impl Tickets {
         requires { group < length self.now.groups }
         ensures { result ≡ length (group_at self.now group).items }
     {
-        self.groups[group].taken
+        self.groups[group].slots.taken()
     }
 
     /// How many runs of a group are under way, timed out ones included.
