@@ -19,39 +19,14 @@ done
 shift $((OPTIND - 1))
 program=${1:-$here/../crates/bulkhead/out/bulkhead}
 work=$(mktemp -d)
+settings=$work/settings.toml
 trap 'rm -r "$work"' EXIT
+. "$here/timing.sh"
 
-if [ $# -eq 0 ]; then
-    (cd "$here/../crates/bulkhead" && rt run -- --help >"$work/build" 2>&1) || { cat "$work/build"; exit 1; }
-fi
-
+[ $# -gt 0 ] || build
+list_groups "$groups" >"$settings"
 awk -v GROUPS="$groups" -v LINES="$lines" -f "$here/load.awk" >"$work/load"
 sed 's/"op":"[a-z]*"/"op":"none"/' "$work/load" >"$work/refused"
-awk -v GROUPS="$groups" 'BEGIN {
-    printf("service.groups = [")
-    for (group = 1; group <= GROUPS; group++) {
-        printf("\"group-%d\",", group)
-    }
-    print("]")
-}' >"$work/settings.toml"
-
-# The least milliseconds of processor time of the runs over the lines of a file. A run has ten minutes.
-best() {
-    local TIMEFORMAT='%U %S' least= took
-    for _ in $(seq "$runs"); do
-        { time timeout 600 "$program" run "$work/settings.toml" <"$1" >"$work/answers" 2>"$work/errors"; } 2>"$work/time" ||
-            { cat "$work/errors" >&2; exit 1; }
-        took=$(awk 'END { printf("%d", ($1 + $2) * 1000) }' "$work/time")
-        if [ -z "$least" ] || [ "$took" -lt "$least" ]; then
-            least=$took
-        fi
-    done
-    if [ "$(wc -l <"$work/answers")" -ne "$lines" ]; then
-        echo "not every line was answered" >&2
-        exit 1
-    fi
-    echo "$least"
-}
 
 whole=$(best "$work/load")
 worn=$(grep -c '"reply":"worn"' "$work/answers" || true)

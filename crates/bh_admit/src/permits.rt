@@ -8,7 +8,9 @@ use std::marker::Model;
 /// A number of permits, some of which are taken.
 #[derive(Clone, Copy, Debug, PartialEq, Eq)]
 pub struct Permits {
+    /// How many there are.
     max: u64,
+    /// How many of them are taken.
     taken: u64,
 }
 

@@ -22,6 +22,7 @@ pub fn pool_admits(
     u128::from(busy) + u128::from(queued) < u128::from(core) + u128::from(places)
 }
 
+/// How many runs may wait: as many as `max_queue` or `queue_threshold` says, whichever is fewer; none without a queue.
 fn queue_limit(max_queue: Option<u64>, queue_threshold: u64) -> u64
     ensures { result ≡ queue_limit_of max_queue queue_threshold }
 {

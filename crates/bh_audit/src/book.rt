@@ -1,14 +1,11 @@
 //! All groups, and in an audited book a journal of each.
 
-ghost use Rattle.std.specs.Prelude.{◌≡◌, ◌≢◌, ◌<◌, ℕ, List, length, nat_lt, replicate, slice_get, is_some, IfOk, IfErr, IfSome, None, Some, true, false};
-ghost use Rattle.bh_base.specs.declared.reply.Reply.{Reply};
-ghost use Rattle.bh_base.specs.Replies.{can_reply, is_refusal};
-ghost use Rattle.bh_base.specs.Runs.{State, View, moved_on};
-ghost use Rattle.bh_base.specs.Runs.{step as machine_step};
-ghost use Rattle.bh_base.specs.Seen.{view_after, view_reply};
-ghost use Rattle.bh_core.specs.Groups.{Shows};
+ghost use Rattle.std.specs.Prelude.{◌≡◌, ◌<◌, List, length, nat_lt, replicate, slice_get, is_some, IfOk, IfErr, IfSome, None, Some, true, false};
+ghost use Rattle.bh_base.specs.Replies.{is_refusal};
+ghost use Rattle.bh_base.specs.Runs.{View};
+ghost use Rattle.bh_core.specs.Step.{IsStep};
 ghost use Rattle.bh_journal.specs.Replay.{written};
-ghost use Rattle.bh_audit.specs.Calls.{IsReady};
+ghost use Rattle.bh_audit.specs.Calls.{NeedsNoWait};
 ghost use Rattle.bh_audit.specs.Books.{AreEmpty, AreNew, BookView, IsAudited, IsWritten, empty_journal};
 
 use bh_base::{GroupId, Reply, Step};
@@ -28,7 +25,7 @@ pub struct Book {
 impl Model for Book {
     ghost use Rattle.std.specs.Prelude.{◌≡◌, true};
     ghost use Rattle.bh_journal.specs.Replay.{written};
-    ghost use Rattle.bh_audit.specs.Calls.{IsReady};
+    ghost use Rattle.bh_audit.specs.Calls.{NeedsNoWait};
     ghost use Rattle.bh_audit.specs.Books.{BookView, IsAudited};
 
     ghost Value = { BookView };
@@ -69,18 +66,10 @@ impl Book {
     /// place, and changes nothing.
     pub fn apply(&mut self, step: Step) -> (Option<u64>, Reply)
         // The groups go as in the core.
-        ensures reply { (s : State) → Shows self.old.groups step.group.0 s → result.1 ≡ (machine_step s step.op step.now).reply }
-        ensures own { (s : State) → Shows self.old.groups step.group.0 s → Shows self.new.groups step.group.0 (machine_step s step.op step.now).state }
-        ensures others { (group : ℕ) → group ≢ step.group.0 → slice_get self.new.groups.views group ≡ slice_get self.old.groups.views group }
-        ensures count { length self.new.groups.views ≡ length self.old.groups.views }
-        ensures unknown { slice_get self.old.groups.views step.group.0 ≡ None → result.1 ≡ Reply.NoGroup }
-        ensures seen { (v : View) → slice_get self.old.groups.views step.group.0 ≡ Some v →
-            (result.1 ≡ view_reply v step.op step.now) × (slice_get self.new.groups.views step.group.0 ≡ Some (view_after v step.op step.now)) }
-        ensures kinds { can_reply step.op result.1 ≡ true }
+        ensures groups { IsStep self.old.groups step result.1 self.new.groups }
 
         // Where it was refused there is no place, and nothing has changed.
         ensures refused { is_refusal result.1 ≡ true → (result.0 ≡ None) × (self.new ≡ self.old) }
-        ensures full { result.1 ≡ Reply.GroupFull → (s : State) → Shows self.old.groups step.group.0 s → Shows self.new.groups step.group.0 (moved_on s step.now) }
 
         // Else the place is the new step number, and an audited book has the step and its reply at the end of the group's journal.
         ensures place { is_refusal result.1 ≡ false → (v : View) × (slice_get self.new.groups.views step.group.0 ≡ Some v) × (result.0 ≡ Some v.present.steps) }
@@ -130,17 +119,17 @@ impl Book {
         group.0 < self.core.groups()
     }
 
-    /// Whether a Start would be answered with a run, or refused.
-    pub(crate) fn is_ready(&self, group: GroupId) -> bool
-        ensures { result ≡ true → (v : View) → slice_get self.now.groups.views group.0 ≡ Some v → IsReady v }
+    /// Whether a worker of the group has to wait: else a Start would be answered with a run, or refused.
+    pub(crate) fn must_wait(&self, group: GroupId) -> bool
+        ensures { result ≡ false → (v : View) → slice_get self.now.groups.views group.0 ≡ Some v → NeedsNoWait v }
     {
         if !self.is_registered(group) {
-            return true;
+            return false;
         }
         if self.core.worn(group) {
-            return true;
+            return false;
         }
-        self.core.startable(group)
+        !self.core.startable(group)
     }
 
     /// The groups and the journals.
@@ -158,12 +147,14 @@ impl Book {
     }
 }
 
+/// Whether no step was made.
 fn is_refused(reply: &Reply) -> bool
     ensures { result ≡ is_refusal reply.now }
 {
     matches!(reply, Reply::Worn | Reply::NoGroup)
 }
 
+/// Writes the step with its reply at the end of the journal.
 fn write(journal: &mut Journal, step: &Step, reply: &Reply)
     requires { 0 < journal.old.room }
     ensures { journal.new ≡ written journal.old step.entry.now reply.now }
@@ -171,6 +162,7 @@ fn write(journal: &mut Journal, step: &Step, reply: &Reply)
     journal.write(*step, *reply);
 }
 
+/// A book without an audit.
 fn plain(alloc: Global, core: Core) -> Book
     ensures groups { result.groups ≡ core }
     ensures audited { result.audited ≡ false }
@@ -183,6 +175,7 @@ fn plain(alloc: Global, core: Core) -> Book
     }
 }
 
+/// So many journals, each with room for so many entries.
 fn open_journals(alloc: Global, count: u64, steps: u64) -> Result<Vec<Journal>, AllocError>
     ensures { IfOk result (λ journals. journals.items ≡ replicate count (empty_journal steps)) }
 {

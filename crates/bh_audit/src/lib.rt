@@ -8,7 +8,6 @@ pub mod error;
 mod locked;
 pub mod next;
 pub mod pass;
-mod room;
 pub mod shared;
 
 pub use bh_journal::{AuditReport, Marks, Receipt};

@@ -6,10 +6,10 @@ ghost use Rattle.bh_base.specs.declared.step.Op.TheVariants as op;
 ghost use Rattle.bh_base.specs.declared.step.Step.{Step};
 ghost use Rattle.bh_base.specs.Replies.{can_reply, is_refusal};
 ghost use Rattle.bh_base.specs.Runs.{View};
-ghost use Rattle.bh_base.specs.Seen.{view_after, view_reply};
+ghost use Rattle.bh_core.specs.Step.{IsStep};
 ghost use Rattle.bh_journal.specs.Passes.{Adds, added, receipt_of};
 ghost use Rattle.bh_audit.specs.Books.{IsAudited, IsWritten};
-ghost use Rattle.bh_audit.specs.Calls.{AddsCollect, AddsExpire, AddsNext, IsReady, workers_of};
+ghost use Rattle.bh_audit.specs.Calls.{AddsCollect, AddsExpire, AddsNext, NeedsNoWait, workers_of};
 
 use crate::book::Book;
 use crate::clock::Clock;
@@ -39,10 +39,7 @@ impl<const A: u32> Locked<A> {
     pub(crate) fn step(&mut self, pass: &mut Pass, step: Step) -> Reply
         requires { (A == 1) ≡ true → 0 < pass.old.room }
         ensures adds { Adds (A == 1) pass.old step result pass.new }
-        ensures kinds { can_reply step.op result ≡ true }
-        ensures seen { (v : View) → slice_get self.old.book.groups.views step.group.0 ≡ Some v →
-            (result ≡ view_reply v step.op step.now) × (slice_get self.new.book.groups.views step.group.0 ≡ Some (view_after v step.op step.now)) }
-        ensures unknown { slice_get self.old.book.groups.views step.group.0 ≡ None → result ≡ reply.NoGroup }
+        ensures groups { IsStep self.old.book.groups step result self.new.book.groups }
         ensures refused { is_refusal result ≡ true → self.new.book ≡ self.old.book }
         ensures written { (A == 1) ≡ true → is_refusal result ≡ false → IsWritten self.old.book.journals step.group.0 step result self.new.book.journals }
         ensures place { (A == 1) ≡ true → is_refusal result ≡ false → (v : View) × (slice_get self.new.book.groups.views step.group.0 ≡ Some v) × (pass.new ≡ added pass.old (receipt_of v.present.steps step result)) }
@@ -77,16 +74,16 @@ impl<const A: u32> Locked<A> {
             pass.mark_stopped();
             return Some(Next::Stopped);
         }
-        if !self.book.is_ready(group) {
+        if self.book.must_wait(group) {
             return None;
         }
         Some(self.start(pass, clock))
     }
 
-    // Makes a Start that is answered with a run, or refused.
+    /// Makes a Start that is answered with a run, or refused.
     fn start<C: Clock>(&mut self, pass: &mut Pass, clock: &C) -> Next
         requires room { (A == 1) ≡ true → 0 < pass.old.room }
-        requires ready { (v : View) → slice_get self.old.book.groups.views pass.old.group.0 ≡ Some v → IsReady v }
+        requires ready { (v : View) → slice_get self.old.book.groups.views pass.old.group.0 ≡ Some v → NeedsNoWait v }
         ensures adds { AddsNext C.moments (A == 1) pass.old result pass.new }
         ensures told { result ≢ Next.Stopped }
         ensures stopped { self.new.stopped ≡ self.old.stopped }
@@ -162,6 +159,7 @@ impl<const A: u32> Locked<A> {
     }
 }
 
+/// Waits until a worker of the pass's group is told something.
 pub(crate) fn next_in<const A: u32, R: Wait, C: Clock>(
     rt: &R,
     lock: &Mutex<Locked<A>>,
@@ -182,6 +180,7 @@ pub(crate) fn next_in<const A: u32, R: Wait, C: Clock>(
     unreachable!()
 }
 
+/// Waits until the serial can be collected, or the service is stopped, and collects it.
 pub(crate) fn await_in<const A: u32, R: Wait, C: Clock>(
     rt: &R,
     lock: &Mutex<Locked<A>>,
@@ -204,7 +203,7 @@ pub(crate) fn await_in<const A: u32, R: Wait, C: Clock>(
     unreachable!()
 }
 
-// A group that is not registered has none to wait for, and no call waits in it.
+/// Waits for a change in the group. One that is not registered has none to wait for, and no call waits in it.
 fn wait_for<'a, const A: u32, R: Wait>(
     rt: &R,
     changed: Option<&Condvar>,
@@ -216,6 +215,7 @@ fn wait_for<'a, const A: u32, R: Wait>(
     }
 }
 
+/// Makes one step under the lock.
 pub(crate) fn step_in<const A: u32, R: Wait>(
     rt: &R,
     lock: &Mutex<Locked<A>>,
@@ -229,6 +229,7 @@ pub(crate) fn step_in<const A: u32, R: Wait>(
     lock.lock(rt).step(pass, step)
 }
 
+/// Makes an Expire under the lock, where a ticket is due.
 pub(crate) fn expire_in<const A: u32, R: Wait, C: Clock>(
     rt: &R,
     lock: &Mutex<Locked<A>>,
@@ -241,18 +242,22 @@ pub(crate) fn expire_in<const A: u32, R: Wait, C: Clock>(
     lock.lock(rt).expire(pass, clock)
 }
 
+/// Sets the stop mark.
 pub(crate) fn stop_in<const A: u32, R: Wait>(rt: &R, lock: &Mutex<Locked<A>>) {
     lock.lock(rt).stopped = true;
 }
 
+/// Reads the stop mark.
 pub(crate) fn stopped_in<const A: u32, R: Wait>(rt: &R, lock: &Mutex<Locked<A>>) -> bool {
     lock.lock(rt).stopped
 }
 
+/// How many groups are registered in all.
 pub(crate) fn groups_in<const A: u32, R: Wait>(rt: &R, lock: &Mutex<Locked<A>>) -> u64 {
     lock.lock(rt).book.core().groups()
 }
 
+/// How many workers the group wants.
 pub(crate) fn workers_in<const A: u32, R: Wait>(
     rt: &R,
     lock: &Mutex<Locked<A>>,
@@ -261,6 +266,7 @@ pub(crate) fn workers_in<const A: u32, R: Wait>(
     lock.lock(rt).workers(group)
 }
 
+/// How many workers a group of these properties wants.
 fn workers_of(props: &GroupProps) -> u64
     ensures { result ≡ workers_of props.now }
 {
@@ -270,7 +276,7 @@ fn workers_of(props: &GroupProps) -> u64
     }
 }
 
-// The mark of a refusal.
+/// Sets the mark of a refusal.
 fn mark(pass: &mut Pass, reply: &Reply)
     requires { is_refusal reply.now ≡ true }
     ensures { (audited : Bool) (step : Step) → Adds audited pass.old step reply.now pass.new }
@@ -282,6 +288,7 @@ fn mark(pass: &mut Pass, reply: &Reply)
     }
 }
 
+/// Adds the receipt of a step that was made.
 fn receive(pass: &mut Pass, place: u64, step: &Step, reply: &Reply)
     requires { 0 < pass.old.room }
     ensures { pass.new ≡ added pass.old (receipt_of place step.entry.now reply.now) }

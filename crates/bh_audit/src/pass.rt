@@ -3,8 +3,7 @@
 ghost use Rattle.std.specs.Prelude.{◌≡◌, ◌<◌, IfOk, IsOk};
 ghost use Rattle.bh_journal.specs.Passes.{added, blank, marked_no_group, marked_stopped, marked_worn};
 
-use crate::room::push_within;
-use bh_base::GroupId;
+use bh_base::{GroupId, push_within};
 use bh_journal::{Marks, PassRead, Receipt};
 use std::alloc::{AllocError, Global};
 use std::marker::Model;
@@ -88,7 +87,7 @@ impl Pass {
         requires { 0 < self.old.room }
         ensures { self.new ≡ added self.old receipt }
     {
-        push_within(&mut self.receipts, &receipt);
+        push_within(&mut self.receipts, receipt);
     }
 
     /// Notes that the group had done all the steps that it may.

@@ -44,7 +44,7 @@ enum Lock {
 #[derive(Drop)]
 pub struct Shared {
     lock: Lock,
-    // One for each group: told of each change in it that may let a call go on.
+    /// One for each group: told of each change in it that may let a call go on.
     changed: Vec<Condvar>,
 }
 
@@ -96,10 +96,7 @@ impl Shared {
             return Err(PassError::NoGroup);
         }
         let room = if self.audited() { room } else { 0 };
-        match Pass::new(alloc, group, room) {
-            Ok(pass) => Ok(pass),
-            Err(_) => Err(PassError::Memory),
-        }
+        Ok(Pass::new(alloc, group, room)?)
     }
 
     /// Makes one step. Its receipt is added to the pass in an audited service, save where it is answered `Worn` or
@@ -281,18 +278,19 @@ impl Shared {
 }
 
 impl Shared {
-    // Whether the service is audited and the pass has room for fewer receipts than that.
+    /// Whether the service is audited and the pass has room for fewer receipts than that.
     fn lacks_room(&self, pass: &Pass, receipts: u64) -> bool
         ensures { result ≡ (self.now.audited && nat_lt pass.now.room receipts) }
     {
         self.audited() && pass.room_left() < receipts
     }
 
+    /// The condition variable of the group, where it is registered.
     fn condvar(&self, group: GroupId) -> Option<&Condvar> {
         self.changed.get(group.0 as usize)
     }
 
-    // Whoever waits in the group looks at it again.
+    /// Wakes all who wait in the group.
     fn wake(&self, group: GroupId) {
         if let Some(changed) = self.condvar(group) {
             changed.notify_all();
@@ -300,6 +298,7 @@ impl Shared {
     }
 }
 
+/// The lock round a book, of the kind that the book is.
 fn lock_of(book: Book) -> Lock
     ensures { is_audited result ≡ book.audited }
 {
@@ -316,6 +315,7 @@ fn lock_of(book: Book) -> Lock
     }
 }
 
+/// So many condition variables.
 fn condvars(alloc: Global, count: u64) -> Result<Vec<Condvar>, AllocError>
     ensures { IfOk result (λ all. vec_len all ≡ count) }
 {

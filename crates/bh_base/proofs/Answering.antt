@@ -95,14 +95,15 @@ outcome_answers (op.FallbackDone serial e) rolling g = fallback_answers _ serial
 outcome_answers (op.Close context) rolling g = refl
 outcome_answers op.Read rolling g = refl
 
--- one of the operation's own replies is one that it can get
-own : (a b : Bool) → b ≡ true → (a || b) ≡ true
-own true b h = refl
-own false b h = h
+-- a disjunction whose right side is true
+or_right : (a b : Bool) → b ≡ true → (a || b) ≡ true
+or_right true b h = refl
+or_right false b h = h
 
+-- a reply is a refusal or one of the operation's own
 pub view_reply_fits : (v : View) (o : Op) (now : ℕ) → can_reply o (view_reply v o now) ≡ true
 view_reply_fits v o now = at (is_worn v.present)
   where
     at : (worn : Bool) → can_reply o (if worn then reply.Worn else (view_outcome v o now).reply) ≡ true
     at true = refl
-    at false = own _ _ (outcome_answers o _ _)
+    at false = or_right _ _ (outcome_answers o _ _)

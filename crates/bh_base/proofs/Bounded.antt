@@ -40,6 +40,7 @@ held_mapped : (f : Ticket → Ticket) → ((t : Ticket) → (f t).holders ≡ t.
 held_mapped f same most [] held = tt
 held_mapped f same most (t ∷ ts) held = (omega (arith, held.0, same t), held_mapped f same most ts held.1)
 
+-- some of the tickets have no more holders than all had
 pub held_filtered : (p : Ticket → Bool) (most : ℕ) (ts : List Ticket) → HeldBy most ts → HeldBy most (filter p ts)
 held_filtered p most [] held = tt
 held_filtered p most (t ∷ ts) held = at (p t) (held_filtered p most ts held.1)

@@ -98,6 +98,7 @@ fallback_few (Some t) n e g most = at t.state
     at ticket.Queued = omega arith
     at ticket.Running = omega arith
 
+-- an operation records at most two events beside a timeout for each ticket
 pub outcome_few : (o : Op) (rolling : Rolling) (g : Present) → IsFew (length g.tickets) (outcome o rolling g)
 outcome_few (op.Submit request) rolling g = submitted_few (cached_as request.cache g) request rolling g _
 outcome_few op.Start rolling g = started_few _ g _

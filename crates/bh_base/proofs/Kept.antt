@@ -19,6 +19,7 @@ use Rattle.bh_base.specs.Circuit.{Asked}
 use Rattle.bh_base.specs.Tickets.{is_running}
 use Rattle.bh_base.specs.Machine.{Present, Outcome, outcome, placed, admitted, rejected, is_admitted, circuit_said, submitted, started, run_ended, collected, collected_in, fallback_done, fallback_done_in, cached_as, free_count, in_fallback_count}
 
+-- properties, step limit, step number and latest moment are as they were
 pub record Keeps (old new : Present) : Type 0 where
   pub props : new.props ≡ old.props
   pub limit : new.limit ≡ old.limit
@@ -87,6 +88,7 @@ fallback_keeps : (t : Option Ticket) (n : ℕ) (e : FallbackEnd) (g : Present) �
 fallback_keeps None n e g = record { props = refl; limit = refl; steps = refl; latest = refl }
 fallback_keeps (Some t) n e g = fallback_in_keeps t.state n e g
 
+-- no operation changes any of these
 pub outcome_keeps : (o : Op) (rolling : Rolling) (g : Present) → Keeps g (outcome o rolling g).present
 outcome_keeps (op.Submit request) rolling g = submitted_keeps (cached_as request.cache g) request rolling g
 outcome_keeps op.Start rolling g = started_keeps _ g

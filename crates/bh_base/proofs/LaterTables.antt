@@ -12,7 +12,7 @@ use Rattle.bh_base.specs.declared.event.Window.{Window}
 use Rattle.bh_base.specs.History.{is_kind, count_in, counts_by, bucket_of}
 use Rattle.bh_base.specs.Tables.{no_counts, no_rows, sum_in, row_at, new_at, later_table}
 use Rattle.bh_base.proofs.Windows.{count_in-counts_by, div_mono}
-use Rattle.bh_base.proofs.Tables.{counts_by_same, map_same}
+use Rattle.bh_base.proofs.Tables.{counts_by_same, map_same, new_at-none}
 
 -- one element more, or none where the list ends
 sum_by-take_more : {X : Type 0} (f : X → ℕ) (d : X) → f d ≡ 0 → (xs : List X) (i : ℕ) → sum_by f (take (i + 1) xs) ≡ sum_by f (take i xs) + f (get_or xs i d)
@@ -113,10 +113,6 @@ later_table-later w latest between moment rows kinds early late =
     row : ℕ → Counts
     row = λ age. counts_by (λ l. row_at rows first age l + new_at [] age l)
 
-    none_new : (z : Bool) → (if z then count_by (λ l. is_kind l l) [] else 0) ≡ 0
-    none_new true = refl
-    none_new false = refl
-
     none_more : (a b : ℕ) → b ≡ 0 → a + b ≡ a
     none_more a b none = omega arith
 
@@ -131,7 +127,7 @@ later_table-later w latest between moment rows kinds early late =
         at false is =
             ap (λ c. count_in c k) (get_or-map-range_with_len row 0 w.buckets (age - second) (age - second) no_counts (omega arith) (omega arith))
             ∙ count_in-counts_by (λ l. row_at rows first (age - second) l + new_at [] (age - second) l) k
-            ∙ none_more (row_at rows first (age - second) k) (new_at [] (age - second) k) (none_new (age - second == 0))
+            ∙ none_more (row_at rows first (age - second) k) (new_at [] (age - second) k) (new_at-none (age - second) k)
 
 -- a later window has no more of the events that are there
 pub sum_in-le : (w : Window) (latest moment : ℕ) (rows : List Counts) (k : EventKind) → sum_in w latest rows moment k ≤ sum_in w latest rows latest k
@@ -143,12 +139,8 @@ sum_in-le w latest moment rows k =
 -- without events nothing is counted later
 pub later_table-none : (w : Window) (latest moment : ℕ) → later_table w latest (no_rows w) moment [] ≡ no_rows w
 later_table-none w latest moment =
-    map_same _ _ w.buckets no_counts (λ age inside. counts_by_same _ _ (λ k. ap (λ n. n + new_at [] age k) (none age k inside) ∙ none_new (age == 0)))
+    map_same _ _ w.buckets no_counts (λ age inside. counts_by_same _ _ (λ k. ap (λ n. n + new_at [] age k) (none age k inside) ∙ ap (λ n. 0 + n) (new_at-none age k)))
   where
-    none_new : (z : Bool) → 0 + (if z then count_by (λ l. is_kind l l) [] else 0) ≡ 0
-    none_new true = refl
-    none_new false = refl
-
     none : (age : ℕ) (k : EventKind) → age < w.buckets → row_at (no_rows w) (bucket_of w moment - bucket_of w latest) age k ≡ 0
     none age k inside = at (nat_lt age (bucket_of w moment - bucket_of w latest)) refl
       where

@@ -130,6 +130,7 @@ outcome_rise (op.FallbackDone serial e) rolling g rise = fallback_rise _ _ e g r
 outcome_rise (op.Close context) rolling g rise = rise_mapped _ (λ t. same_if (is_cached_in context t) (λ t. record t { cached = false }) t refl) 1 g.serial g.tickets rise
 outcome_rise op.Read rolling g rise = rise
 
+-- a new group's tickets stand by rising serial, and each step keeps them so
 pub serials_rise : SerialsRise
 serials_rise = record {
   opened = λ props limit. omega arith;

@@ -1,4 +1,4 @@
--- The words of the worked rows: steps, replies, settings and texts in their short forms.
+-- The words of the worked examples: settings, steps, replies and texts in short forms, by the words of lines.
 use Rattle.std.proofs.Common.{◌≡◌, ℕ, true, false, List, [], ◌∷◌, map, filter, Some, None}
 use Rattle.std.specs.Prelude.{◌==◌}
 use Rattle.bh_base.specs.declared.props.GroupProps.{GroupProps}
@@ -15,7 +15,7 @@ use Rattle.bh_base.specs.declared.event.Counts.{Counts}
 use Rattle.bh_base.specs.declared.circuit.CircuitState.{CircuitState}
 use Rattle.bh_base.specs.declared.circuit.CircuitState.TheVariants as state
 use Rattle.bh_base.specs.declared.step.FallbackEnd.{FallbackEnd}
-use Rattle.bh_base.specs.declared.step.FallbackEnd.TheVariants as fallback
+use Rattle.bh_base.specs.declared.step.FallbackEnd.TheVariants as fallback_end
 use Rattle.bh_base.specs.declared.reply.FallbackFault.{FallbackFault}
 use Rattle.bh_base.specs.declared.reply.FallbackFault.TheVariants as fault
 use Rattle.bh_base.specs.Runs.{opened, replies, own}
@@ -45,25 +45,27 @@ plain = record {
   queue_threshold = 5;
 }
 
+-- a step limit that no example comes to
 abbrev pub unlimited : ℕ
 unlimited = 1_099_511_627_776
 
--- a step and its reply
+-- a step and the reply to it
 pub record Line : Type 0 where
   pub step : Step
   pub reply : Reply
 
 infix 70 ◌⇒◌
 abbrev pub ◌⇒◌ : Step → Reply → Line
-s ⇒ r = record { step = s; reply = r }
+does ⇒ says = record { step = does; reply = says }
 
 -- the machine, newly opened, answers the group's own steps as the lines say
 abbrev pub IsAnswered : GroupProps → ℕ → ℕ → List Line → Type 0
 IsAnswered props limit group lines =
     replies (opened props limit) (own group (map (λ line. line.step) lines)) ≡ map (λ line. line.reply) (filter (λ line. line.step.group.0 == group) lines)
 
-abbrev pub step_of : ℕ → ℕ → Op → Step
-step_of g m o = record { group = record { 0 = g }; now = m; op = o }
+-- the operation in the group at the moment
+abbrev pub step_in : ℕ → ℕ → Op → Step
+step_in group moment o = record { group = record { 0 = group }; now = moment; op = o }
 
 -- groups
 abbrev pub a : ℕ
@@ -72,48 +74,51 @@ a = 0
 abbrev pub b : ℕ
 b = 1
 
--- steps
-abbrev pub S : ℕ → ℕ → List ℕ → Step
-S g m arg = step_of g m (op.Submit (record { cache = None; arg = arg }))
+-- steps, by the words of their lines; each begins with the group and the moment
+abbrev pub submit : ℕ → ℕ → List ℕ → Step
+submit group moment arg = step_in group moment (op.Submit (record { cache = None; arg = arg }))
 
-abbrev pub N : ℕ → ℕ → List ℕ → ℕ → List ℕ → Step
-N g m arg context key = step_of g m (op.Submit (record { cache = Some (context, key); arg = arg }))
+-- a submit with a context and a key of the request cache
+abbrev pub submit_cached : ℕ → ℕ → List ℕ → ℕ → List ℕ → Step
+submit_cached group moment arg context key = step_in group moment (op.Submit (record { cache = Some (context, key); arg = arg }))
 
-abbrev pub T : ℕ → ℕ → Step
-T g m = step_of g m op.Start
+abbrev pub start : ℕ → ℕ → Step
+start group moment = step_in group moment op.Start
 
-abbrev pub F : ℕ → ℕ → ℕ → List ℕ → Step
-F g m t body = step_of g m (op.Finish t body)
+abbrev pub finish : ℕ → ℕ → ℕ → List ℕ → Step
+finish group moment ticket body = step_in group moment (op.Finish ticket body)
 
-abbrev pub X : ℕ → ℕ → ℕ → Step
-X g m t = step_of g m (op.Fail t false)
+abbrev pub fail : ℕ → ℕ → ℕ → Step
+fail group moment ticket = step_in group moment (op.Fail ticket false)
 
-abbrev pub B : ℕ → ℕ → ℕ → Step
-B g m t = step_of g m (op.Fail t true)
+-- a fail of a bad request
+abbrev pub fail_bad : ℕ → ℕ → ℕ → Step
+fail_bad group moment ticket = step_in group moment (op.Fail ticket true)
 
-abbrev pub E : ℕ → ℕ → Step
-E g m = step_of g m op.Expire
+abbrev pub expire : ℕ → ℕ → Step
+expire group moment = step_in group moment op.Expire
 
-abbrev pub C : ℕ → ℕ → ℕ → Step
-C g m t = step_of g m (op.Collect t)
+abbrev pub collect : ℕ → ℕ → ℕ → Step
+collect group moment ticket = step_in group moment (op.Collect ticket)
 
-abbrev pub D : ℕ → ℕ → ℕ → FallbackEnd → Step
-D g m t end = step_of g m (op.FallbackDone t end)
+abbrev pub fallback : ℕ → ℕ → ℕ → FallbackEnd → Step
+fallback group moment ticket end = step_in group moment (op.FallbackDone ticket end)
 
-abbrev pub L : ℕ → ℕ → ℕ → Step
-L g m context = step_of g m (op.Close context)
+abbrev pub close : ℕ → ℕ → ℕ → Step
+close group moment context = step_in group moment (op.Close context)
 
-abbrev pub M : ℕ → ℕ → Step
-M g m = step_of g m op.Read
+abbrev pub read : ℕ → ℕ → Step
+read group moment = step_in group moment op.Read
 
+-- ends of fallbacks
 abbrev pub success : List ℕ → FallbackEnd
-success body = fallback.Success body
+success body = fallback_end.Success body
 
 abbrev pub failure_end : FallbackEnd
-failure_end = fallback.Failure
+failure_end = fallback_end.Failure
 
 abbrev pub missing_end : FallbackEnd
-missing_end = fallback.Missing
+missing_end = fallback_end.Missing
 
 -- causes and faults
 abbrev pub short_circuited : Cause
@@ -145,22 +150,22 @@ disabled = fault.Disabled
 
 -- replies
 abbrev pub queued : ℕ → Reply
-queued t = reply.Queued t
+queued ticket = reply.Queued ticket
 
 abbrev pub inline : ℕ → Reply
-inline t = reply.Inline t
+inline ticket = reply.Inline ticket
 
 abbrev pub fallback_due : ℕ → Cause → Reply
-fallback_due t c = reply.FallbackDue t c
+fallback_due ticket why = reply.FallbackDue ticket why
 
 abbrev pub joined : ℕ → Reply
-joined t = reply.Joined t
+joined ticket = reply.Joined ticket
 
 abbrev pub group_full : Reply
 group_full = reply.GroupFull
 
 abbrev pub assigned : ℕ → List ℕ → Reply
-assigned t arg = reply.Assigned t arg
+assigned ticket arg = reply.Assigned ticket arg
 
 abbrev pub idle : Reply
 idle = reply.Idle
@@ -175,22 +180,22 @@ abbrev pub not_running : Reply
 not_running = reply.NotRunning
 
 abbrev pub expired : ℕ → Reply
-expired n = reply.Expired n
+expired number = reply.Expired number
 
 abbrev pub pending : Reply
 pending = reply.Pending
 
 abbrev pub run_fallback : Cause → Reply
-run_fallback c = reply.RunFallback c
+run_fallback why = reply.RunFallback why
 
 abbrev pub value : List ℕ → Reply
 value body = reply.Answered (answer.Value body)
 
 abbrev pub fallback_value : Cause → List ℕ → Reply
-fallback_value c body = reply.Answered (answer.FallbackValue c body)
+fallback_value why body = reply.Answered (answer.FallbackValue why body)
 
 abbrev pub error : Cause → FallbackFault → Reply
-error c f = reply.Answered (answer.Error c f)
+error why no_value = reply.Answered (answer.Error why no_value)
 
 abbrev pub bad_request : Reply
 bad_request = reply.Answered answer.BadRequest
@@ -202,20 +207,20 @@ abbrev pub not_in_fallback : Reply
 not_in_fallback = reply.NotInFallback
 
 abbrev pub closed : ℕ → Reply
-closed n = reply.Closed n
+closed number = reply.Closed number
 
 abbrev pub worn : Reply
 worn = reply.Worn
 
 -- states of the circuit breaker
-abbrev pub shut : CircuitState
-shut = state.Closed
+abbrev pub circuit_closed : CircuitState
+circuit_closed = state.Closed
 
-abbrev pub open_ : ℕ → CircuitState
-open_ opened = state.Open opened
+abbrev pub circuit_open : ℕ → CircuitState
+circuit_open opened = state.Open opened
 
-abbrev pub half_open : ℕ → ℕ → CircuitState
-half_open opened test = state.HalfOpen opened test
+abbrev pub circuit_half_open : ℕ → ℕ → CircuitState
+circuit_half_open opened test = state.HalfOpen opened test
 
 -- no event of any kind
 abbrev pub none : Counts
@@ -237,10 +242,10 @@ none = record {
 
 -- the circuit; busy, queued and free; errors and total, and percent; the counts
 abbrev pub metrics : CircuitState → ℕ → ℕ → ℕ → ℕ → ℕ → ℕ → Counts → Reply
-metrics w busy queued free errors total percent counts =
-    reply.Metrics (record { circuit = w; counts = counts; errors = errors; total = total; percent = percent; busy = busy; queued = queued; free = free })
+metrics circuit busy queued free errors total percent counts =
+    reply.Metrics (record { circuit = circuit; counts = counts; errors = errors; total = total; percent = percent; busy = busy; queued = queued; free = free })
 
--- texts
+-- texts, each by its letters
 abbrev pub k : List ℕ
 k = 107 ∷ []
 

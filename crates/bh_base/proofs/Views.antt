@@ -1,5 +1,5 @@
 -- The view of a state says each reply, and the view after it.
-use Rattle.std.proofs.Common.{◌≡◌, ℕ, ◌+◌, ◌≤◌, Bool, true, false, cond, max, List, [], ◌∷◌, ◌++◌, filter, drop, length, refl, ◌∙◌, sym, ap, arith, length-append}
+use Rattle.std.proofs.Common.{◌≡◌, ℕ, ◌≤◌, Bool, true, false, cond, max, List, [], ◌∷◌, ◌++◌, filter, drop, length, refl, ◌∙◌, sym, ap, arith, length-append}
 use Rattle.std.specs.Prelude.{if◌then◌else◌}
 use Rattle.std.specs.List.{AllByRecursion}
 use Rattle.std.proofs.lemmas.List.{drop-append-le, drop_all}
@@ -16,21 +16,20 @@ use Rattle.bh_base.specs.Runs.{State, IsSound, StaysSound, view, step, stepped, 
 use Rattle.bh_base.specs.Tables.{no_rows, later_table}
 use Rattle.bh_base.specs.Seen.{view_rolling, view_outcome, view_recorded, view_reply, view_after}
 use Rattle.bh_base.proofs.Windows.{count_from_table}
-use Rattle.bh_base.proofs.Tables.{counts_by_same, table_later}
+use Rattle.bh_base.proofs.Tables.{cong_add, counts_by_same, table_later}
 use Rattle.bh_base.proofs.Kept.{Keeps, outcome_keeps}
 
+-- equal numbers give the same rolling counts and health
 pub rolling_by_same : (f g p q : EventKind → ℕ) → ((k : EventKind) → f k ≡ g k) → ((k : EventKind) → p k ≡ q k) → rolling_by f p ≡ rolling_by g q
 rolling_by_same f g p q h l = λ i. record {
   counts = counts_by_same f g h i;
   health = record { errors = errors_same i; total = (cong_add errors_same (l kind.Success)) i };
 }
   where
-    cong_add : {a b c d : ℕ} → a ≡ b → c ≡ d → a + c ≡ b + d
-    cong_add x y = cc
-
     errors_same : (health_by p).errors ≡ (health_by q).errors
     errors_same = omega (arith, l kind.Failure, l kind.Timeout, l kind.ThreadPoolRejected, l kind.SemaphoreRejected)
 
+-- no event is later than the moment
 abbrev pub AllPast : ℕ → List Event → Type 0
 AllPast latest history = AllByRecursion (λ e. e.moment ≤ latest) history
 
@@ -46,9 +45,11 @@ past_filter : (latest : ℕ) (p : Event → Bool) (history : List Event) → All
 past_filter latest p [] past = past
 past_filter latest p (e ∷ history) past = past_if latest (p e) e (filter p history) past.0 (past_filter latest p history past.1)
 
+-- nor is one of those that health looks at
 pub past_health : (latest from : ℕ) (history : List Event) → AllPast latest history → AllPast latest (health_events from history)
 past_health latest from history past = past_filter latest _ _ (past_drop latest from history past)
 
+-- with the events of a later moment added, none is later than that moment
 pub past_later : (latest moment : ℕ) (history : List Event) (kinds : List EventKind) → latest ≤ moment → AllPast latest history → AllPast moment (history ++ events_at moment kinds)
 past_later latest moment [] [] later past = past
 past_later latest moment [] (k ∷ kinds) later past = (omega arith, past_later latest moment [] kinds later past)
@@ -72,12 +73,14 @@ filter_events moment (k ∷ kinds) = at (is_of_health k) (filter_events moment k
     at true e = cc
     at false e = e
 
+-- health looks at the new events of its kinds beside those that it looked at
 pub health_later : (from moment : ℕ) (history : List Event) (kinds : List EventKind) → from ≤ length history → health_events from (history ++ events_at moment kinds) ≡ health_events from history ++ events_at moment (filter is_of_health kinds)
 health_later from moment history kinds inside =
     ap (λ es. filter (λ e. is_of_health e.kind) es) (drop-append-le from history (events_at moment kinds) inside)
     ∙ filter-append (λ e. is_of_health e.kind) (drop from history) (events_at moment kinds)
     ∙ ap (λ es. health_events from history ++ es) (filter_events moment kinds)
 
+-- health that begins at the end of the history looks at no event
 pub health_anew : (history : List Event) → health_events (length history) history ≡ []
 health_anew history = ap (λ es. filter (λ e. is_of_health e.kind) es) (drop_all (length history) history (omega arith))
 
@@ -97,6 +100,7 @@ recorded_seen s out sound kept later = λ i. record {
       ∙ health_at out.closed (window_of s.present.props) s.history s.health_from s.present.latest out.present.latest out.events sound.past sound.from later) i;
 }
 
+-- the reply of a step is the one that the view of the state says
 pub reply_seen : (s : State) (o : Op) (now : ℕ) → IsSound s → (step s o now).reply ≡ view_reply (view s) o now
 reply_seen s o now sound = at (is_worn s.present) (outcome_seen s o now sound)
   where
@@ -104,6 +108,7 @@ reply_seen s o now sound = at (is_worn s.present) (outcome_seen s o now sound)
     at true e = refl
     at false e = ap (λ (x : Outcome). x.reply) (sym e)
 
+-- the view after a step is the one that the view before it says
 pub after_seen : (s : State) (o : Op) (now : ℕ) → IsSound s → view (step s o now).state ≡ view_after (view s) o now
 after_seen s o now sound = at (is_worn s.present)
   where
@@ -114,6 +119,7 @@ after_seen s o now sound = at (is_worn s.present)
     at true = refl
     at false = recorded_seen s (outcome_in s o now) sound keeps.props (omega (arith, keeps.latest)) ∙ ap (view_recorded (view s)) (sym (outcome_seen s o now sound))
 
+-- a step keeps a state sound
 pub step_sound : (s : State) (o : Op) (now : ℕ) → IsSound s → IsSound (step s o now).state
 step_sound s o now sound = at (is_worn s.present)
   where
@@ -149,6 +155,7 @@ step_props s o now = at (is_worn s.present)
     at true = refl
     at false = keeps.props
 
+-- a new group's state is sound, and each step keeps it so
 pub stays_sound : StaysSound
 stays_sound = record {
   opened = λ props limit. record { past = tt; from = omega arith };

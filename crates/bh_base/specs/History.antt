@@ -11,24 +11,24 @@ use Rattle.bh_base.specs.declared.event.Rolling.{Rolling}
 use Rattle.bh_base.specs.declared.event.Window.{Window}
 
 -- the place of a kind in the order of the names
-abbrev pub place_of : EventKind → ℕ
-place_of kind.BadRequest = 0
-place_of kind.ExceptionThrown = 1
-place_of kind.Failure = 2
-place_of kind.FallbackFailure = 3
-place_of kind.FallbackMissing = 4
-place_of kind.FallbackRejection = 5
-place_of kind.FallbackSuccess = 6
-place_of kind.ResponseFromCache = 7
-place_of kind.SemaphoreRejected = 8
-place_of kind.ShortCircuited = 9
-place_of kind.Success = 10
-place_of kind.ThreadPoolRejected = 11
-place_of kind.Timeout = 12
+abbrev pub place_of_kind : EventKind → ℕ
+place_of_kind kind.BadRequest = 0
+place_of_kind kind.ExceptionThrown = 1
+place_of_kind kind.Failure = 2
+place_of_kind kind.FallbackFailure = 3
+place_of_kind kind.FallbackMissing = 4
+place_of_kind kind.FallbackRejection = 5
+place_of_kind kind.FallbackSuccess = 6
+place_of_kind kind.ResponseFromCache = 7
+place_of_kind kind.SemaphoreRejected = 8
+place_of_kind kind.ShortCircuited = 9
+place_of_kind kind.Success = 10
+place_of_kind kind.ThreadPoolRejected = 11
+place_of_kind kind.Timeout = 12
 
 -- whether two kinds of events are the same
 abbrev pub is_kind : EventKind → EventKind → Bool
-is_kind k l = place_of k == place_of l
+is_kind k l = place_of_kind k == place_of_kind l
 
 -- the kinds that health looks at
 abbrev pub is_of_health : EventKind → Bool

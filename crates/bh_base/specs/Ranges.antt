@@ -1,11 +1,17 @@
 -- The ranges of a group's properties.
 use Rattle.std.specs.Prelude.{◌≡◌, ℕ, ◌*◌, ◌/◌, ◌<◌, ◌≤◌, ◌^◌, Option, Some, None}
+use Rattle.std.specs.Coded.{×_prop, Unit-prop, le_prop}
 use Rattle.bh_base.specs.declared.props.GroupProps.{GroupProps}
 
 -- no queue, or one of 1 to 4,294,967,295
 abbrev pub IsQueueLength : Option ℕ → Type 0
 IsQueueLength None = Unit {0}
 IsQueueLength (Some most) = (1 ≤ most) × (most < 2 ^ 32)
+
+-- it has one proof at most, so that a ghost field may hold it
+pub IsQueueLength-prop : (queue : Option ℕ) → IsProp (IsQueueLength queue)
+IsQueueLength-prop None = Unit-prop
+IsQueueLength-prop (Some most) = ×_prop le_prop le_prop
 
 -- each number is in its range, and the window is so many whole buckets
 pub record IsInRange (props : GroupProps) : Type 0 where

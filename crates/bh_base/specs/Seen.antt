@@ -1,4 +1,4 @@
--- A step, by the view of the state alone. It is what the layers that keep no history are held to.
+-- A step, by what is seen of the state, its view alone. Layers that keep no history are held to it.
 use Rattle.std.specs.Prelude.{ℕ, filter, if◌then◌else◌}
 use Rattle.bh_base.specs.declared.event.Rolling.{Rolling}
 use Rattle.bh_base.specs.declared.step.Op.{Op}

@@ -18,7 +18,9 @@ pub enum CircuitState {
 /// (Hystrix wiki, "Configuration", `metrics.healthSnapshot.intervalInMilliseconds`).
 #[derive(Clone, Copy, Debug, PartialEq, Eq)]
 pub struct Snapshot {
+    /// When it was taken.
     pub taken: Moment,
+    /// Health at that moment.
     pub health: Health,
 }
 
@@ -36,8 +38,10 @@ pub enum Admit {
 /// How a ticket that the circuit breaker let pass ended.
 #[derive(Clone, Copy, Debug, PartialEq, Eq)]
 pub enum End {
+    /// Its run gave a value.
     Success,
     /// It failed, timed out or was rejected.
     Error,
+    /// The request was bad: no failure of the dependency.
     BadRequest,
 }

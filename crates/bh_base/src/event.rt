@@ -5,25 +5,40 @@ use crate::step::Moment;
 /// The kinds of events that a group records, in the order of their names.
 #[derive(Clone, Copy, Debug, PartialEq, Eq)]
 pub enum EventKind {
+    /// The request was bad; health does not count it.
     BadRequest,
+    /// A request ended without a value.
     ExceptionThrown,
+    /// A run failed.
     Failure,
+    /// A fallback failed.
     FallbackFailure,
+    /// The command has no fallback.
     FallbackMissing,
+    /// As many fallbacks were running as may.
     FallbackRejection,
+    /// A fallback gave a value.
     FallbackSuccess,
+    /// A request joined a cached ticket.
     ResponseFromCache,
+    /// No permit was free.
     SemaphoreRejected,
+    /// The circuit breaker let the submit not pass.
     ShortCircuited,
+    /// A run gave a value in time.
     Success,
+    /// Neither a worker nor a place in the queue was free.
     ThreadPoolRejected,
+    /// A run was marked as timed out.
     Timeout,
 }
 
 /// Something that happened in a group, at the moment of the step that brought it.
 #[derive(Clone, Copy, Debug, PartialEq, Eq)]
 pub struct Event {
+    /// When it happened, in milliseconds.
     pub moment: Moment,
+    /// What happened.
     pub kind: EventKind,
 }
 
@@ -36,7 +51,7 @@ pub struct Window {
     pub width: u64,
 }
 
-/// A count for each kind of event.
+/// A count for each kind of event; a field has the name of its kind.
 #[derive(Clone, Copy, Debug, PartialEq, Eq)]
 pub struct Counts {
     pub bad_request: u64,
@@ -58,13 +73,17 @@ pub struct Counts {
 /// failed, timed out or were rejected.
 #[derive(Clone, Copy, Debug, PartialEq, Eq)]
 pub struct Health {
+    /// Runs that failed, timed out or were rejected.
     pub errors: u64,
+    /// The errors and the successful runs.
     pub total: u64,
 }
 
 /// What a step reads of the events before it: the counts of the rolling window, and health.
 #[derive(Clone, Copy, Debug, PartialEq, Eq)]
 pub struct Rolling {
+    /// The events of the rolling window, by kind.
     pub counts: Counts,
+    /// The health that the circuit breaker goes by.
     pub health: Health,
 }

@@ -14,14 +14,15 @@ pub enum Strategy {
 pub struct GroupProps {
     /// Tickets at a time, 1 to 4,096 (this service's own).
     pub slots: u64,
+    /// `execution.isolation.strategy`.
     pub strategy: Strategy,
-    /// `execution.isolation.thread.timeoutInMilliseconds`.
+    /// `execution.isolation.thread.timeoutInMilliseconds`: from its submit until a ticket is due.
     pub timeout_ms: u64,
-    /// `execution.timeout.enabled`.
+    /// `execution.timeout.enabled`: whether runs time out.
     pub timeout_on: bool,
     /// `execution.isolation.semaphore.maxConcurrentRequests`: permits for runs by the caller.
     pub semaphore: u64,
-    /// `fallback.isolation.semaphore.maxConcurrentRequests`.
+    /// `fallback.isolation.semaphore.maxConcurrentRequests`: permits for fallbacks.
     pub fallback_permits: u64,
     /// `fallback.enabled`.
     pub fallback_on: bool,

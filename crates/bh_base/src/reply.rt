@@ -8,10 +8,15 @@ use crate::text::Text;
 /// Why a fallback is due (Hystrix wiki, "How It Works", steps 4, 5 and 8).
 #[derive(Clone, Copy, Debug, PartialEq, Eq)]
 pub enum Cause {
+    /// The circuit breaker let the submit not pass.
     ShortCircuited,
+    /// Neither a worker nor a place in the queue was free.
     PoolRejected,
+    /// No permit was free.
     SemaphoreRejected,
+    /// The run failed.
     Failure,
+    /// The run timed out.
     Timeout,
 }
 
@@ -31,15 +36,19 @@ pub enum FallbackFault {
 /// The answer to a request, the same for each holder of its ticket.
 #[derive(Clone, Copy, Debug, PartialEq, Eq)]
 pub enum Answer {
+    /// The body that the run gave.
     Value(Text<256>),
+    /// The body that the fallback gave, and why there was one.
     FallbackValue {
         cause: Cause,
         body: Text<256>,
     },
+    /// Why a fallback was due, and why it gave no value.
     Error {
         cause: Cause,
         fallback: FallbackFault,
     },
+    /// The request was bad.
     BadRequest,
 }
 
@@ -93,6 +102,7 @@ pub enum Reply {
     Pending,
     /// The holder is to run the fallback.
     RunFallback(Cause),
+    /// The answer of the ticket.
     Answered(Answer),
     /// Nobody holds such a ticket.
     NoTicket,
@@ -100,6 +110,7 @@ pub enum Reply {
     NotInFallback,
     /// So many tickets are cached no longer.
     Closed(u64),
+    /// The metrics of the group at the step's moment.
     Metrics(Metrics),
     /// The group has done all the steps that it may; nothing changed.
     Worn,

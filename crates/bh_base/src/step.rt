@@ -18,16 +18,22 @@ pub struct GroupId(pub u64);
 /// (Hystrix wiki, "How To Use", error propagation).
 #[derive(Clone, Copy, Debug, PartialEq, Eq)]
 pub enum RunEnd {
+    /// It gave this body.
     Success(Text<256>),
+    /// It failed.
     Failure,
+    /// The request was bad.
     BadRequest,
 }
 
-/// How a run of the fallback ended; `Missing` where the command has none (Hystrix wiki, "How To Use", fallback).
+/// How a run of the fallback ended (Hystrix wiki, "How To Use", fallback).
 #[derive(Clone, Copy, Debug, PartialEq, Eq)]
 pub enum FallbackEnd {
+    /// It gave this body.
     Success(Text<256>),
+    /// It failed.
     Failure,
+    /// There is none.
     Missing,
 }
 
@@ -67,8 +73,10 @@ pub enum Op {
 /// One step of one group at one moment.
 #[derive(Clone, Copy, Debug, PartialEq, Eq)]
 pub struct Step {
+    /// The group that makes it.
     pub group: GroupId,
     /// Milliseconds; a step is never earlier than the ones before it in its group, whatever stands here.
     pub now: Moment,
+    /// What it does.
     pub op: Op,
 }

@@ -15,17 +15,22 @@ pub enum TicketState {
     NeedsFallback(Cause),
     /// A holder runs the fallback.
     InFallback(Cause),
+    /// It has its answer, the same for each holder.
     Answered(Answer),
 }
 
-/// A ticket.
+/// One execution of a command.
 #[derive(Clone, Copy, Debug, PartialEq, Eq)]
 pub struct Ticket {
+    /// Its number within the group.
     pub serial: Serial,
+    /// The argument that the dependency is run with.
     pub arg: Text<64>,
     /// The context and the key of the request cache, where the request gave them.
     pub cache: Option<(u64, Text<32>)>,
+    /// The moment of its submit, from which its timeout counts.
     pub submitted: Moment,
+    /// How far it is.
     pub state: TicketState,
     /// A worker or a permit is at it, also after it timed out, until the run ends.
     pub busy: bool,

@@ -1,3 +1,3 @@
 pub mod Floatless
-pub mod Talking
-pub mod Conversing
+pub mod Pieces
+pub mod Progress

@@ -28,47 +28,47 @@ request_of cache arg =
     if is_short_name cache && nat_le (length arg) 64 then Ok (record { cache = cache; arg = arg }) else Err faults.Long
 
 -- the group of a name, by its place in the list
-abbrev pub group_of : List (List ℕ) → List ℕ → Result GroupId Fault
-group_of names name = do
+abbrev pub group_named : List (List ℕ) → List ℕ → Result GroupId Fault
+group_named names name = do
   number ← or_fault faults.Group (group_number names name)
   Ok (record { 0 = number })
 
 -- what an object asks of the groups with these names, its kind of line known: first what is missing, then whether
 -- there is such a group, then whether the texts are too long
-abbrev pub asked_at : List (List ℕ) → ControlWord → Data → Result ControlLine Fault
-asked_at names words.Groups d = Ok lines.Groups
-asked_at names words.Metrics d = do
+abbrev pub control_line_for : List (List ℕ) → ControlWord → Data → Result ControlLine Fault
+control_line_for names words.Groups d = Ok lines.Groups
+control_line_for names words.Metrics d = do
   name ← or_fault faults.Field (text_at (codes "group") d)
-  group ← group_of names name
+  group ← group_named names name
   Ok (lines.Metrics group)
-asked_at names words.Call d = do
+control_line_for names words.Call d = do
   name ← or_fault faults.Field (text_at (codes "group") d)
   arg ← or_fault faults.Field (text_at (codes "arg") d)
   cache ← cache_of (get (codes "context") d) (get (codes "key") d)
-  group ← group_of names name
+  group ← group_named names name
   request ← request_of cache arg
   Ok (lines.Call group request)
-asked_at names words.Close d = do
+control_line_for names words.Close d = do
   name ← or_fault faults.Field (text_at (codes "group") d)
   context ← or_fault faults.Field (number_at (codes "context") d)
-  group ← group_of names name
+  group ← group_named names name
   Ok (lines.Close group context)
 
 -- what an object asks
-abbrev pub asked : List (List ℕ) → Data → Result ControlLine Fault
-asked names d = do
+abbrev pub control_line_at : List (List ℕ) → Data → Result ControlLine Fault
+control_line_at names d = do
   word ← or_fault faults.Field (text_at (codes "op") d)
   kind ← or_fault faults.Op (control_word word)
-  asked_at names kind d
+  control_line_for names kind d
 
 -- what a line asks, if it is JSON at all
-abbrev pub asked_in : List (List ℕ) → Option Data → Result ControlLine Fault
-asked_in names None = Err faults.Syntax
-asked_in names (Some d) = asked names d
+abbrev pub control_line_in : List (List ℕ) → Option Data → Result ControlLine Fault
+control_line_in names None = Err faults.Syntax
+control_line_in names (Some d) = control_line_at names d
 
 -- what a line asks of the groups with these names
 unfoldable pub control_line : List (List ℕ) → List ℕ → Result ControlLine Fault
-control_line names bytes = asked_in names (read bytes)
+control_line names bytes = control_line_in names (read bytes)
 
 -- the group that is asked of is one of so many
 abbrev pub IsOfGroups : ℕ → ControlLine → Type 0

@@ -1,4 +1,5 @@
 pub mod ControlLine
-pub mod Answering
-pub mod Talk
-pub mod Conversed
+pub mod AnswerLine
+pub mod ConversationView
+pub mod Pieces
+pub mod Session

@@ -1,4 +1,4 @@
-//! What a conversation is answered by.
+//! The service that control lines are asked of, as a trait.
 
 ghost use Rattle.std.specs.Prelude.{◌≡◌, ◌<◌, ℕ, List, length, Result};
 ghost use Rattle.bh_base.specs.declared.step.GroupId.{GroupId};

@@ -1,9 +1,9 @@
-//! What control lines ask, each read from a line of JSON.
+//! Control lines: what each asks, read from a line of JSON.
 
 ghost use Rattle.std.specs.Prelude.{◌≡◌, ◌<◌, length, IfOk, IfSome};
 ghost use Rattle.bh_lines.specs.Flat.{members_data};
 ghost use Rattle.bh_lines.specs.StepLine.{cache_view, group_number};
-ghost use Rattle.bh_control.specs.ControlLine.{control_word, request_of, asked_at, asked, group_of, control_line, IsOfGroups};
+ghost use Rattle.bh_control.specs.ControlLine.{control_word, request_of, control_line_for, control_line_at, group_named, control_line, IsOfGroups};
 
 use bh_base::{GroupId, Request, Text};
 use bh_lines::Fault;
@@ -46,17 +46,16 @@ impl ControlLine {
         ensures asked { IfOk result (λ said. said ≡ control_line names.now line.now) }
         ensures group { IfOk result (λ said. IfOk said (IsOfGroups (length names.now))) }
     {
-        match value_of(alloc, line) {
-            Ok(Some(value)) => Ok(asked(names, Members::Tree(&value))),
-            Ok(None) => Ok(Err(Fault::Syntax)),
-            Err(error) => Err(error),
+        match value_of(alloc, line)? {
+            Some(value) => Ok(control_line_at(names, Members::Tree(&value))),
+            None => Ok(Err(Fault::Syntax)),
         }
     }
 }
 
-// What the members ask.
-fn asked(names: &[Text<32>], members: Members<'_>) -> Result<ControlLine, Fault>
-    ensures asked { result ≡ asked names.now (members_data members.entry) }
+/// What the members ask.
+fn control_line_at(names: &[Text<32>], members: Members<'_>) -> Result<ControlLine, Fault>
+    ensures asked { result ≡ control_line_at names.now (members_data members.entry) }
     ensures group { IfOk result (IsOfGroups (length names.now)) }
 {
     let word = members.text("op").ok_or(Fault::Field)?;
@@ -68,6 +67,7 @@ fn asked(names: &[Text<32>], members: Members<'_>) -> Result<ControlLine, Fault>
     }
 }
 
+/// The kind of control line that a line names by this word.
 fn control_word(word: &str) -> Option<ControlWord>
     ensures { result ≡ control_word word.now }
 {
@@ -80,40 +80,41 @@ fn control_word(word: &str) -> Option<ControlWord>
     }
 }
 
+/// What a line for metrics asks.
 fn metrics_at(names: &[Text<32>], members: Members<'_>) -> Result<ControlLine, Fault>
-    ensures asked { result ≡ asked_at names.now ControlWord.Metrics (members_data members.entry) }
+    ensures asked { result ≡ control_line_for names.now ControlWord.Metrics (members_data members.entry) }
     ensures group { IfOk result (IsOfGroups (length names.now)) }
 {
     let name = members.text("group").ok_or(Fault::Field)?;
-    let group = group_of(names, name)?;
+    let group = group_named(names, name)?;
     Ok(ControlLine::Metrics { group })
 }
 
+/// What a line for a call asks.
 fn call_at(names: &[Text<32>], members: Members<'_>) -> Result<ControlLine, Fault>
-    ensures asked { result ≡ asked_at names.now ControlWord.Call (members_data members.entry) }
+    ensures asked { result ≡ control_line_for names.now ControlWord.Call (members_data members.entry) }
     ensures group { IfOk result (IsOfGroups (length names.now)) }
 {
     let name = members.text("group").ok_or(Fault::Field)?;
     let arg = members.text("arg").ok_or(Fault::Field)?;
     let cache = cache_of(members)?;
-    let group = group_of(names, name)?;
-    match request_of(cache, arg) {
-        Ok(request) => Ok(ControlLine::Call { group, request }),
-        Err(fault) => Err(fault),
-    }
+    let group = group_named(names, name)?;
+    let request = request_of(cache, arg)?;
+    Ok(ControlLine::Call { group, request })
 }
 
+/// What a line that closes a context asks.
 fn close_at(names: &[Text<32>], members: Members<'_>) -> Result<ControlLine, Fault>
-    ensures asked { result ≡ asked_at names.now ControlWord.Close (members_data members.entry) }
+    ensures asked { result ≡ control_line_for names.now ControlWord.Close (members_data members.entry) }
     ensures group { IfOk result (IsOfGroups (length names.now)) }
 {
     let name = members.text("group").ok_or(Fault::Field)?;
     let context = members.number("context").ok_or(Fault::Field)?;
-    let group = group_of(names, name)?;
+    let group = group_named(names, name)?;
     Ok(ControlLine::Close { group, context })
 }
 
-// The request, unless a text is too long.
+/// The request, unless a text is too long.
 fn request_of(cache: Option<(u64, &str)>, arg: &str) -> Result<Request, Fault>
     ensures { result ≡ request_of (cache_view cache.entry) arg.now }
 {
@@ -123,18 +124,16 @@ fn request_of(cache: Option<(u64, &str)>, arg: &str) -> Result<Request, Fault>
     }
 }
 
-// The group of the name.
-fn group_of(names: &[Text<32>], name: &str) -> Result<GroupId, Fault>
-    ensures group { result ≡ group_of names.now name.now }
+/// The group of the name.
+fn group_named(names: &[Text<32>], name: &str) -> Result<GroupId, Fault>
+    ensures group { result ≡ group_named names.now name.now }
     ensures within { IfOk result (λ group. group.0 < length names.now) }
 {
-    match group_number(names, name) {
-        Some(number) => Ok(GroupId(number)),
-        None => Err(Fault::Group),
-    }
+    let number = group_number(names, name).ok_or(Fault::Group)?;
+    Ok(GroupId(number))
 }
 
-// The place of the name in the list.
+/// The place of the name in the list.
 fn group_number(names: &[Text<32>], name: &str) -> Option<u64>
     ensures number { result ≡ group_number names.now name.now }
     ensures within { IfSome result (λ number. number < length names.now) }

@@ -2,10 +2,10 @@
 
 ghost use Rattle.std.specs.Prelude.{◌≡◌, ◌++◌, ℕ, List, [], false, None, Some, Err, IfSome, OnOk};
 ghost use Rattle.bh_lines.specs.Lines.{has_line};
-ghost use Rattle.bh_control.specs.Answering.{responder, Answers};
-ghost use Rattle.bh_control.specs.Talk.{Each, EachLast, UnlessEmpty, Fed, Ended};
+ghost use Rattle.bh_control.specs.AnswerLine.{responder, Answers};
+ghost use Rattle.bh_control.specs.Pieces.{Each, EachLast, UnlessEmpty, Fed, Ended};
 
-use crate::answering::answer;
+use crate::answer_line::answer;
 use crate::control::Control;
 use bh_lines::{PortError, last_line, next_line};
 use bytes::BytesMut;
@@ -25,9 +25,9 @@ pub struct Conversation {
 }
 
 impl Model for Conversation {
-    ghost use Rattle.bh_control.specs.Talk.{Talk, IsKept};
+    ghost use Rattle.bh_control.specs.ConversationView.{ConversationView, IsKept};
 
-    ghost Value = { Talk };
+    ghost Value = { ConversationView };
 
     ghost view = { λ c. record { rest = c.buffer.items; fault = c.fault } };
 
@@ -112,7 +112,7 @@ impl Conversation {
     }
 }
 
-// Answers each line that has ended, behind what is in `out`, and keeps the bytes that follow the last of them.
+/// Answers each line that has ended, behind what is in `out`, and keeps the bytes that follow the last of them.
 fn answer_each<C: Control>(
     alloc: Global,
     buffer: &mut BytesMut,
@@ -122,19 +122,13 @@ fn answer_each<C: Control>(
     ensures each { Each (responder (C.names control.old) C.may_show C.may_answer C.may_close) buffer.old.items out.old.items result buffer.new.items out.new.items }
     ensures groups { C.names control.new ≡ C.names control.old }
 {
-    loop {
-        match next_line(buffer) {
-            Ok(Some(line)) => match answer_line(alloc, control, line.as_str(), out) {
-                Ok(()) => {}
-                Err(_) => return Err(PortError::Memory),
-            },
-            Ok(None) => return Ok(()),
-            Err(error) => return Err(error),
-        }
+    while let Some(line) = next_line(buffer)? {
+        answer_line(alloc, control, line.as_str(), out)?;
     }
+    Ok(())
 }
 
-// The answers before a line that is refused, or its fault at once where there are none.
+/// The answers before a line that is refused, or its fault at once where there are none.
 fn unless_empty(answers: Vec<u8>) -> Result<Vec<u8>, PortError>
     ensures { UnlessEmpty answers result }
 {
@@ -145,7 +139,7 @@ fn unless_empty(answers: Vec<u8>) -> Result<Vec<u8>, PortError>
     }
 }
 
-// Answers the line that no line feed ended, if there is one.
+/// Answers the line that no line feed ended, if there is one.
 fn answer_last<C: Control>(
     alloc: Global,
     buffer: &mut BytesMut,
@@ -156,17 +150,14 @@ fn answer_last<C: Control>(
     ensures last { EachLast (responder (C.names control.old) C.may_show C.may_answer C.may_close) buffer.old.items out.old.items result out.new.items }
     ensures groups { C.names control.new ≡ C.names control.old }
 {
-    match last_line(buffer) {
-        Ok(Some(line)) => match answer_line(alloc, control, line.as_str(), out) {
-            Ok(()) => Ok(()),
-            Err(_) => Err(PortError::Memory),
-        },
-        Ok(None) => Ok(()),
-        Err(error) => Err(error),
-    }
+    let Some(line) = last_line(buffer)? else {
+        return Ok(());
+    };
+    answer_line(alloc, control, line.as_str(), out)?;
+    Ok(())
 }
 
-// Puts the answer to a line behind what is in `out`.
+/// Puts the answer to a line behind what is in `out`.
 fn answer_line<C: Control>(
     alloc: Global,
     control: &mut C,

@@ -2,12 +2,13 @@
 //! or to close a request context, each answered by a line.
 #![tactic(auto)]
 
-mod answering;
+mod answer_line;
 pub mod control;
 pub mod control_line;
 pub mod conversation;
-pub mod converse;
+pub mod session;
 
 pub use control::Control;
 pub use control_line::ControlLine;
 pub use conversation::Conversation;
+pub use session::converse;

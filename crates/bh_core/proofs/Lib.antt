@@ -1,13 +1,16 @@
 pub mod Counting
 pub mod Histories
-pub mod Places
 pub mod Ops
 pub mod Timeouts
 pub mod Joining
 pub mod Stepping
 pub mod Steady
+pub mod Own
 pub mod OneOfMany
 pub mod Refused
+pub mod OneStep
+pub mod AllGroups
+pub mod Registered
 pub mod Whole
 pub mod TwoWorlds
 pub mod Looks

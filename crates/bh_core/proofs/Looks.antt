@@ -11,17 +11,63 @@ use Rattle.bh_base.specs.declared.ticket.Ticket.{Ticket}
 use Rattle.bh_base.specs.declared.ticket.TicketState.{TicketState}
 use Rattle.bh_base.specs.declared.ticket.TicketState.TheVariants as ticket
 use Rattle.bh_base.specs.Machine.{Present, Outcome, busy_count, collected, collected_in, in_fallback_count, is_due, started}
+use Rattle.bh_base.specs.Replies.{is_answer_to}
 use Rattle.bh_base.specs.Runs.{View, begun, is_worn}
 use Rattle.bh_base.specs.Seen.{view_outcome, view_reply}
+use Rattle.bh_base.proofs.Answering.{outcome_answers}
 use Rattle.bh_base.specs.Tickets.{in_state, is_held_at, is_queued}
-use Rattle.bh_core.specs.Changes.{is_due_by, is_unanswered}
+use Rattle.bh_tickets.specs.Changes.{is_due_by, is_unanswered}
 use Rattle.bh_core.specs.Stepping.{due_rule_of}
-use Rattle.bh_core.specs.declared.tickets.DueRule.{DueRule}
-use Rattle.bh_core.specs.Looks.{expires_some, is_assigned, is_pending}
+use Rattle.bh_tickets.specs.declared.states.DueRule.{DueRule}
+use Rattle.bh_core.specs.Looks.{expires_some, is_assigned, is_pending, is_worn_out}
 
 -- what is told of the reply of a group that is not worn
 reply_fresh : (p : Reply → Bool) (v : View) (o : Op) (now : ℕ) → is_worn v.present ≡ false → p (view_reply v o now) ≡ p (view_outcome v o now).reply
 reply_fresh p v o now fresh = ap (λ b. p (if b then reply.Worn else (view_outcome v o now).reply)) fresh
+
+-- Worn
+
+-- no operation of its own is answered as worn
+never_worn : (o : Op) → is_answer_to o reply.Worn ≡ false
+never_worn (op.Submit request) = refl
+never_worn op.Start = refl
+never_worn (op.Finish serial body) = refl
+never_worn (op.Fail serial bad) = refl
+never_worn op.Expire = refl
+never_worn (op.Collect serial) = refl
+never_worn (op.FallbackDone serial e) = refl
+never_worn (op.Close context) = refl
+never_worn op.Read = refl
+
+not_worn_out : (o : Op) (r : Reply) → is_answer_to o r ≡ true → is_worn_out r ≡ false
+not_worn_out o (reply.Queued n) ever = refl
+not_worn_out o (reply.Inline n) ever = refl
+not_worn_out o (reply.FallbackDue n c) ever = refl
+not_worn_out o (reply.Joined n) ever = refl
+not_worn_out o reply.GroupFull ever = refl
+not_worn_out o (reply.Assigned n a) ever = refl
+not_worn_out o reply.Idle ever = refl
+not_worn_out o reply.Done ever = refl
+not_worn_out o reply.Late ever = refl
+not_worn_out o reply.NotRunning ever = refl
+not_worn_out o (reply.Expired n) ever = refl
+not_worn_out o reply.Pending ever = refl
+not_worn_out o (reply.RunFallback c) ever = refl
+not_worn_out o (reply.Answered a) ever = refl
+not_worn_out o reply.NoTicket ever = refl
+not_worn_out o reply.NotInFallback ever = refl
+not_worn_out o (reply.Closed n) ever = refl
+not_worn_out o (reply.Metrics m) ever = refl
+not_worn_out o reply.NoGroup ever = refl
+not_worn_out o reply.Worn ever = absurd (let both : true ≡ false = sym ever ∙ never_worn o in cc)
+
+-- a group is answered Worn once it has done its steps, and then alone
+pub worn_seen : (v : View) (o : Op) (now : ℕ) → is_worn v.present ≡ is_worn_out (view_reply v o now)
+worn_seen v o now = at (is_worn v.present)
+  where
+    at : (worn : Bool) → worn ≡ is_worn_out (if worn then reply.Worn else (view_outcome v o now).reply)
+    at true = refl
+    at false = sym (not_worn_out o (view_outcome v o now).reply (outcome_answers o _ (begun now v.present)))
 
 -- Start
 

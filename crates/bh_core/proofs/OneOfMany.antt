@@ -1,18 +1,14 @@
 -- One group of many makes a step.
-use Rattle.std.proofs.Common.{◌≡◌, ◌≢◌, ℕ, ◌<◌, ◌≤◌, Bool, true, false, List, [], ◌∷◌, ◌++◌, length, get_or, Option, Some, None, refl, ◌∙◌, sym, ap, arith, zero, suc}
-use Rattle.std.specs.Prelude.{slice_get, if◌then◌else◌}
+use Rattle.std.proofs.Common.{◌≡◌, ◌≢◌, ℕ, ◌<◌, ◌≤◌, List, [], ◌∷◌, length, get_or, Option, Some, None, refl, ◌∙◌, sym, ap, arith, zero, suc}
+use Rattle.std.specs.Prelude.{slice_get}
 use Rattle.std.proofs.Math.ListN.{set}
 use Rattle.std.proofs.lemmas.List.{length-set, get_or-set_same}
-use Rattle.std.proofs.lemmas.List.Sums.{sum_by-set}
 use Rattle.std.proofs.lemmas.Option.{slice_get_read, slice_get_past}
-use Rattle.bh_base.specs.declared.props.GroupProps.{GroupProps}
 use Rattle.bh_base.specs.declared.reply.Reply.{Reply}
 use Rattle.bh_base.specs.declared.step.Op.{Op}
-use Rattle.bh_base.specs.Runs.{State, View, IsSound, view, step, begun, is_worn}
-use Rattle.bh_base.specs.Seen.{view_after, view_outcome, view_recorded, view_reply}
-use Rattle.bh_base.proofs.Kept.{Keeps, outcome_keeps}
+use Rattle.bh_base.specs.Runs.{State, View, IsSound, view, step}
+use Rattle.bh_base.specs.Seen.{view_after, view_reply}
 use Rattle.bh_base.proofs.Views.{after_seen, reply_seen}
-use Rattle.bh_core.specs.Groups.{slots_in}
 
 pub view_at : (ds : List View) (i : ℕ) (d : View) → i < length ds → d ≡ get_or ds i d → slice_get ds i ≡ Some d
 view_at ds i d inside is = slice_get_read ds (length ds) i d refl inside is
@@ -62,29 +58,3 @@ known ds i d inside is none = let e = view_at ds i d inside is in cc
 -- behind the last group there is none
 pub past_last : (ds : List View) (i : ℕ) (v : View) → length ds ≤ i → slice_get ds i ≡ Some v → ⊥
 past_last ds i v past is = let e : slice_get ds i ≡ None = slice_get_past ds i past in cc
-
--- no step changes the properties
-after_props : (v : View) (o : Op) (now : ℕ) → (view_after v o now).present.props ≡ v.present.props
-after_props v o now = at (is_worn v.present)
-  where
-    keeps : Keeps (begun now v.present) (view_outcome v o now).present
-    keeps = outcome_keeps o _ (begun now v.present)
-
-    at : (worn : Bool) → (if worn then v else view_recorded v (view_outcome v o now)).present.props ≡ v.present.props
-    at true = refl
-    at false = keeps.props
-
--- with one more group behind the others
-pub views-push : (ds es : List View) (d : View) (v : View) (b : Bool) → b ≡ true → es ≡ (if b then ds ++ d ∷ [] else ds) → d ≡ v → es ≡ ds ++ v ∷ []
-views-push ds es d v b pushed e is =
-    e ∙ ap (λ c. if c then ds ++ d ∷ [] else ds) pushed ∙ ap (λ w. ds ++ w ∷ []) is
-
-abbrev slots_of : View → ℕ
-slots_of d = d.present.props.slots
-
--- so the slots stay in number
-pub step_slots : (ds : List View) (i : ℕ) (d e : View) (o : Op) (now : ℕ) → i < length ds → d ≡ get_or ds i d → e ≡ view_after d o now → slots_in (set ds i e) ≡ slots_in ds
-step_slots ds i d e o now inside is did =
-    let kept : slots_of e ≡ slots_of d = ap (λ (v : View). v.present.props.slots) did ∙ ap (λ (p : GroupProps). p.slots) (after_props d o now) in
-    let read : slots_of d ≡ slots_of (get_or ds i d) = ap slots_of is in
-    omega (arith, sum_by-set slots_of ds i e d inside, kept, read)

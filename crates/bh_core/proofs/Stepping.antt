@@ -5,12 +5,14 @@ use Rattle.std.proofs.lemmas.Bool.Decides.{nat_tests}
 use Rattle.std.proofs.lemmas.List.Elements.{filter-append}
 use Rattle.bh_base.specs.declared.event.Counts.{Counts}
 use Rattle.bh_base.specs.declared.event.EventKind.{EventKind}
+use Rattle.bh_base.specs.declared.reply.Reply.{Reply}
+use Rattle.bh_base.specs.declared.reply.Reply.TheVariants as reply
 use Rattle.bh_base.specs.declared.step.Op.{Op}
 use Rattle.bh_base.specs.History.{window_of, is_of_health}
 use Rattle.bh_base.specs.Tables.{no_rows, later_table}
 use Rattle.bh_base.specs.Machine.{Present, Outcome, outcome}
 use Rattle.bh_base.specs.Runs.{View, begun, released, is_worn}
-use Rattle.bh_base.specs.Seen.{view_rolling, view_outcome, view_recorded, view_after}
+use Rattle.bh_base.specs.Seen.{view_rolling, view_outcome, view_recorded, view_after, view_reply}
 use Rattle.bh_base.proofs.Tables.{later_table-again}
 use Rattle.bh_base.proofs.Kept.{Keeps, outcome_keeps}
 use Rattle.bh_core.specs.Stepping.{Begins, outcome_now, done, with_event, with_events}
@@ -55,6 +57,13 @@ outcome_same : (v begun_v : View) (op : Op) (now : ℕ) → Begins v now begun_v
 outcome_same v w op now b =
     (λ i. outcome op (b.rolling i) (b.present i)) ∙ ap (λ (g : Present). outcome op (view_rolling v g.latest) (begun now v.present)) b.present
 
+-- so the reply is that of the step
+pub replied : (v w : View) (op : Op) (now : ℕ) (r : Reply) → (v.present.steps ≡ v.present.limit → ⊥) → Begins v now w → r ≡ (outcome_now w op).reply → r ≡ view_reply v op now
+replied v w op now r differ b said =
+    let fresh : is_worn v.present ≡ false = grind (arith, nat_tests) in
+    said ∙ ap (λ (o : Outcome). o.reply) (outcome_same v w op now b) ∙ sym (ap (λ b. if b then reply.Worn else (view_outcome v op now).reply) fresh)
+
+-- and what is left is what the step leaves
 pub stepped : (v w x y : View) (op : Op) (now : ℕ) → (v.present.steps ≡ v.present.limit → ⊥) → Begins v now w → x ≡ done w (outcome_now w op) → y ≡ record x { present = released x.present } → y ≡ view_after v op now
 stepped v w x y op now differ b did ended =
     let fresh : is_worn v.present ≡ false = grind (arith, nat_tests) in

@@ -8,6 +8,7 @@ use Rattle.bh_base.specs.declared.reply.Reply.{Reply}
 use Rattle.bh_base.specs.declared.reply.Reply.TheVariants.{NoGroup}
 use Rattle.bh_base.specs.Runs.{State, step, replies, state_after, own}
 use Rattle.bh_core.specs.Groups.{Groups, Shows, own_replies}
+use Rattle.bh_core.specs.Step.{IsStep}
 
 pub replies-push : (s : State) (xs : List Step) (x : Step) → replies s (xs ++ x ∷ []) ≡ replies s xs ++ (step (state_after s xs) x.op x.now).reply ∷ []
 replies-push s [] x = refl
@@ -51,15 +52,7 @@ pub record GoesAs (group : ℕ) (s : State) (xs : List Step) (rs : List Reply) (
   pub told : own_replies group xs rs ≡ replies s (own group xs)
   pub shown : Shows now group (state_after s (own group xs))
 
--- what one step of all groups ensures
-pub record IsApplied (old new : Groups) (x : Step) (r : Reply) : Type 0 where
-  pub reply : (s : State) → Shows old x.group.0 s → r ≡ (step s x.op x.now).reply
-  pub own : (s : State) → Shows old x.group.0 s → Shows new x.group.0 (step s x.op x.now).state
-  pub others : (group : ℕ) → group ≢ x.group.0 → slice_get new.views group ≡ slice_get old.views group
-  pub unknown : slice_get old.views x.group.0 ≡ None → r ≡ NoGroup
-  pub unknown_same : slice_get old.views x.group.0 ≡ None → new ≡ old
-
-its_own : (group : ℕ) (s : State) (xs : List Step) (x : Step) (rs : List Reply) (r : Reply) (old new : Groups) → length xs ≡ length rs → x.group.0 ≡ group → (x.group.0 == group) ≡ true → GoesAs group s xs rs old → IsApplied old new x r → GoesAs group s (xs ++ x ∷ []) (rs ++ r ∷ []) new
+its_own : (group : ℕ) (s : State) (xs : List Step) (x : Step) (rs : List Reply) (r : Reply) (old new : Groups) → length xs ≡ length rs → x.group.0 ≡ group → (x.group.0 == group) ≡ true → GoesAs group s xs rs old → IsStep old x r new → GoesAs group s (xs ++ x ∷ []) (rs ++ r ∷ []) new
 its_own group s xs x rs r old new same is test so applied =
     let mine : own group (xs ++ x ∷ []) ≡ own group xs ++ x ∷ [] = own-push_same group xs x test in
     let shown : Shows old x.group.0 (state_after s (own group xs)) = subst (λ (g : ℕ). Shows old g (state_after s (own group xs))) (sym is) so.shown in
@@ -74,7 +67,7 @@ its_own group s xs x rs r old new same is test so applied =
           (subst (λ (g : ℕ). Shows new g (step (state_after s (own group xs)) x.op x.now).state) is (applied.own (state_after s (own group xs)) shown));
     }
 
-not_its_own : (group : ℕ) (s : State) (xs : List Step) (x : Step) (rs : List Reply) (r : Reply) (old new : Groups) → length xs ≡ length rs → group ≢ x.group.0 → (x.group.0 == group) ≡ false → GoesAs group s xs rs old → IsApplied old new x r → GoesAs group s (xs ++ x ∷ []) (rs ++ r ∷ []) new
+not_its_own : (group : ℕ) (s : State) (xs : List Step) (x : Step) (rs : List Reply) (r : Reply) (old new : Groups) → length xs ≡ length rs → group ≢ x.group.0 → (x.group.0 == group) ≡ false → GoesAs group s xs rs old → IsStep old x r new → GoesAs group s (xs ++ x ∷ []) (rs ++ r ∷ []) new
 not_its_own group s xs x rs r old new same differ test so applied =
     let mine : own group (xs ++ x ∷ []) ≡ own group xs = own-push_other group xs x test in
     record {
@@ -89,7 +82,7 @@ not_its_own group s xs x rs r old new same differ test so applied =
       });
     }
 
-pub goes_on : (group : ℕ) (s : State) (xs : List Step) (x : Step) (rs : List Reply) (r : Reply) (old new : Groups) → length xs ≡ length rs → GoesAs group s xs rs old → IsApplied old new x r → GoesAs group s (xs ++ x ∷ []) (rs ++ r ∷ []) new
+pub goes_on : (group : ℕ) (s : State) (xs : List Step) (x : Step) (rs : List Reply) (r : Reply) (old new : Groups) → length xs ≡ length rs → GoesAs group s xs rs old → IsStep old x r new → GoesAs group s (xs ++ x ∷ []) (rs ++ r ∷ []) new
 goes_on group s xs x rs r old new same so applied = at (x.group.0 == group) refl
   where
     at : (b : Bool) → (x.group.0 == group) ≡ b → GoesAs group s (xs ++ x ∷ []) (rs ++ r ∷ []) new
@@ -108,7 +101,7 @@ pub record IsUnknown (group : ℕ) (xs : List Step) (rs : List Reply) (now : Gro
   pub told : own_replies group xs rs ≡ no_groups (own group xs)
   pub none : slice_get now.views group ≡ None
 
-pub stays_unknown : (group : ℕ) (xs : List Step) (x : Step) (rs : List Reply) (r : Reply) (old new : Groups) → length xs ≡ length rs → IsUnknown group xs rs old → IsApplied old new x r → IsUnknown group (xs ++ x ∷ []) (rs ++ r ∷ []) new
+pub stays_unknown : (group : ℕ) (xs : List Step) (x : Step) (rs : List Reply) (r : Reply) (old new : Groups) → length xs ≡ length rs → IsUnknown group xs rs old → IsStep old x r new → IsUnknown group (xs ++ x ∷ []) (rs ++ r ∷ []) new
 stays_unknown group xs x rs r old new same so applied = at (x.group.0 == group) refl
   where
     mine : x.group.0 ≡ group → (x.group.0 == group) ≡ true → IsUnknown group (xs ++ x ∷ []) (rs ++ r ∷ []) new
@@ -143,10 +136,10 @@ abbrev seen : List Step → ℕ → List Step
 seen steps i = take i steps
 
 -- the step at the place i, as a loop over the steps sees it
-pub goes_on_in : (group : ℕ) (s : State) (steps : List Step) (i : ℕ) (x : Step) (rs us : List Reply) (r : Reply) (old new : Groups) → length (seen steps i) ≡ length rs → seen steps (i + 1) ≡ seen steps i ++ x ∷ [] → us ≡ rs ++ r ∷ [] → GoesAs group s (seen steps i) rs old → IsApplied old new x r → GoesAs group s (seen steps (i + 1)) us new
+pub goes_on_in : (group : ℕ) (s : State) (steps : List Step) (i : ℕ) (x : Step) (rs us : List Reply) (r : Reply) (old new : Groups) → length (seen steps i) ≡ length rs → seen steps (i + 1) ≡ seen steps i ++ x ∷ [] → us ≡ rs ++ r ∷ [] → GoesAs group s (seen steps i) rs old → IsStep old x r new → GoesAs group s (seen steps (i + 1)) us new
 goes_on_in group s steps i x rs us r old new same next pushed so applied =
     subst (λ ys. GoesAs group s ys us new) (sym next) (subst (λ vs. GoesAs group s (seen steps i ++ x ∷ []) vs new) (sym pushed) (goes_on group s (seen steps i) x rs r old new same so applied))
 
-pub stays_unknown_in : (group : ℕ) (steps : List Step) (i : ℕ) (x : Step) (rs us : List Reply) (r : Reply) (old new : Groups) → length (seen steps i) ≡ length rs → seen steps (i + 1) ≡ seen steps i ++ x ∷ [] → us ≡ rs ++ r ∷ [] → IsUnknown group (seen steps i) rs old → IsApplied old new x r → IsUnknown group (seen steps (i + 1)) us new
+pub stays_unknown_in : (group : ℕ) (steps : List Step) (i : ℕ) (x : Step) (rs us : List Reply) (r : Reply) (old new : Groups) → length (seen steps i) ≡ length rs → seen steps (i + 1) ≡ seen steps i ++ x ∷ [] → us ≡ rs ++ r ∷ [] → IsUnknown group (seen steps i) rs old → IsStep old x r new → IsUnknown group (seen steps (i + 1)) us new
 stays_unknown_in group steps i x rs us r old new same next pushed so applied =
     subst (λ ys. IsUnknown group ys us new) (sym next) (subst (λ vs. IsUnknown group (seen steps i ++ x ∷ []) vs new) (sym pushed) (stays_unknown group (seen steps i) x rs r old new same so applied))

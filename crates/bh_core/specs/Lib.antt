@@ -1,10 +1,9 @@
 pub mod Groups
+pub mod Step
 pub mod Looks
 pub mod HistoryView
 pub mod History
 pub mod Counted
-pub mod TicketsView
-pub mod Changes
 pub mod Stepping
 pub mod Group
 pub mod Runs

@@ -12,13 +12,13 @@ use Rattle.bh_base.specs.History.{window_of, is_of_health}
 use Rattle.bh_base.specs.Tables.{no_rows, later_table}
 use Rattle.bh_base.specs.Machine.{Present, Outcome, cached_as, ended_in, is_due, is_joined_by, outcome, test_timed_out, with_ticket}
 use Rattle.bh_base.specs.Circuit.{Asked, asked, closes, is_test}
-use Rattle.bh_core.specs.declared.tickets.DueRule.{DueRule}
+use Rattle.bh_tickets.specs.declared.states.DueRule.{DueRule}
 use Rattle.bh_base.specs.Ranges.{IsQueueLength}
 use Rattle.bh_base.specs.Bounds.{HeldBy}
 use Rattle.bh_base.specs.Tickets.{is_kept}
 use Rattle.bh_base.specs.Runs.{View, begun, released}
 use Rattle.bh_base.specs.Seen.{view_rolling}
-use Rattle.bh_core.specs.Changes.{IsFirst}
+use Rattle.bh_tickets.specs.TicketsView.{GroupTickets, IsFirstAt}
 use Rattle.bh_core.specs.Counted.{counted}
 
 -- a step has begun and recorded nothing: its number and moment are there, and every count is what it was
@@ -121,7 +121,7 @@ view_test_timed_out v = record v {
   };
 }
 
--- the place is that of the cached ticket that a request of the name joins, and there is none only where it joins none
-abbrev pub IsJoinable : Present → Option (ℕ × List ℕ) → Option ℕ → Type 0
-IsJoinable g name None = cached_as name g ≡ None
-IsJoinable g name (Some place) = (g.props.cache_on ≡ true) × IsFirst (is_joined_by name) g.tickets place
+-- the slot is that of the cached ticket that a request of the name joins, and there is none only where it joins none
+abbrev pub IsJoinable : Present → GroupTickets → Option (ℕ × List ℕ) → Option ℕ → Type 0
+IsJoinable g tickets name None = cached_as name g ≡ None
+IsJoinable g tickets name (Some slot) = (g.props.cache_on ≡ true) × IsFirstAt (is_joined_by name) tickets slot

@@ -1,11 +1,11 @@
-//! One group.
+//! One group: its operations change it together with its tickets.
 
-ghost use Rattle.std.specs.Prelude.{◌≡◌, ◌+◌, ◌<◌, ◌≤◌, ◌^◌, IfOk};
+ghost use Rattle.std.specs.Prelude.{◌≡◌, ◌+◌, ◌<◌, ◌≤◌, ◌^◌, IfOk, length};
 ghost use Rattle.bh_base.specs.declared.step.Op.TheVariants as op;
-ghost use Rattle.bh_base.specs.Runs.{opened, view as view_of};
 ghost use Rattle.bh_base.specs.Seen.{view_after, view_reply};
-ghost use Rattle.bh_core.specs.Counted.{counted};
+ghost use Rattle.bh_core.specs.Group.{HasTickets, Leaves, counted_of, new_group, view_in};
 ghost use Rattle.bh_core.specs.Stepping.{Begins, IsBounded, IsDone, IsServed, IsSteady, view_ended, with_event, released_view};
+ghost use Rattle.bh_tickets.specs.TicketsView.{TicketsView, group_at};
 
 mod expire;
 mod fallback;
@@ -14,116 +14,118 @@ mod runs;
 mod submit;
 
 use crate::history::History;
-use crate::tickets::Tickets;
 use bh_base::{End, EventKind, GroupProps, Metrics, Moment, Op, Reply, Serial};
 use bh_circuit::{Circuit, percent};
+use bh_tickets::Tickets;
 use std::alloc::{AllocError, Global};
 use std::marker::Model;
 
-/// A group, with storage for all that its steps can bring.
+/// A group beside its tickets, with storage for all that its steps can bring.
 #[derive(Drop)]
 pub struct Group {
+    /// By which its tickets are known.
+    number: usize,
     props: GroupProps,
     limit: u64,
     steps: u64,
-    serial: Serial,
-    tickets: Tickets,
     circuit: Circuit,
     history: History,
 }
 
 impl Model for Group {
-    ghost use Rattle.bh_base.specs.Runs.{View};
-    ghost use Rattle.bh_core.specs.Group.{group_view, IsReady};
+    ghost use Rattle.bh_core.specs.Group.{BareGroup, bare_group, IsReady};
 
-    ghost Value = { View };
+    ghost Value = { BareGroup };
 
-    ghost view = { group_view };
+    ghost view = { bare_group };
 
     ghost invariant = { IsReady };
 }
 
 impl Group {
-    /// A new group that may do so many steps.
-    pub fn new(alloc: Global, props: GroupProps, limit: u64) -> Result<Self, AllocError>
+    /// A new group of the number, that may do so many steps.
+    pub fn new(
+        alloc: Global,
+        number: usize,
+        props: GroupProps,
+        limit: u64,
+    ) -> Result<Self, AllocError>
         requires props { IsServed props }
         requires limit { limit ≤ 2 ^ 40 }
-        ensures view { IfOk result (λ group. group ≡ view_of (opened props limit)) }
-        ensures steady { IfOk result IsSteady }
+        ensures { IfOk result (λ group. group ≡ new_group number props limit) }
     {
-        let tickets = Tickets::with_room(alloc, props.slots as usize)?;
         let history = History::new(alloc, &props)?;
         Ok(Group {
+            number,
             props,
             limit,
             steps: 0,
-            serial: 1,
-            tickets,
             circuit: Circuit::new(),
             history,
         })
     }
 
     /// One step at the moment, in place.
-    pub fn apply(&mut self, op: &Op, now: Moment) -> Reply
-        requires { IsSteady self.old }
-        ensures steady { IsSteady self.new }
-        ensures reply { result ≡ view_reply self.old op.now now }
-        ensures view { self.new ≡ view_after self.old op.now now }
+    pub fn apply(&mut self, tickets: &mut Tickets, op: &Op, now: Moment) -> Reply
+        requires has { HasTickets tickets.old self.old }
+        requires steady { IsSteady (view_in tickets.old self.old) }
+        ensures has { HasTickets tickets.new self.new }
+        ensures steady { IsSteady (view_in tickets.new self.new) }
+        ensures reply { result ≡ view_reply (view_in tickets.old self.old) op.now now }
+        ensures view { view_in tickets.new self.new ≡ view_after (view_in tickets.old self.old) op.now now }
+        ensures left { Leaves tickets.old self.old tickets.new self.new }
     {
         if self.steps == self.limit {
             return Reply::Worn;
         }
         self.begin(now);
-        let reply = self.act(op);
-        self.release();
+        let reply = self.act(tickets, op);
+        tickets.release(self.number);
         reply
     }
 
     // The step gets its number and its moment.
     fn begin(&mut self, now: Moment)
-        requires steady { IsSteady self.old }
-        requires fresh { self.old.present.steps < self.old.present.limit }
-        ensures begins { Begins self.old now self.new }
-        ensures bounded { IsBounded self.new }
+        requires { self.old.steps < self.old.limit }
+        ensures begins { (ts : TicketsView) → Begins (view_in ts self.old) now (view_in ts self.new) }
+        ensures bounded { (ts : TicketsView) → HasTickets ts self.old → IsSteady (view_in ts self.old) → IsBounded (view_in ts self.new) }
+        ensures left { (ts : TicketsView) → Leaves ts self.old ts self.new }
     {
         self.steps += 1;
         self.history.advance(now);
     }
 
-    // Tickets that nobody needs are gone.
-    fn release(&mut self)
-        ensures { self.new ≡ released_view self.old }
-    {
-        self.tickets.release();
-    }
-
     // The case of the operation, in a step that has begun.
-    fn act(&mut self, op: &Op) -> Reply
-        requires { IsBounded self.old }
-        ensures { IsDone self.old op.now result self.new }
+    fn act(&mut self, tickets: &mut Tickets, op: &Op) -> Reply
+        requires has { HasTickets tickets.old self.old }
+        requires bounded { IsBounded (view_in tickets.old self.old) }
+        ensures done { IsDone (view_in tickets.old self.old) op.now result (view_in tickets.new self.new) }
+        ensures left { Leaves tickets.old self.old tickets.new self.new }
     {
         match op {
-            Op::Submit(request) => self.submit(request),
-            Op::Start => self.start(),
-            Op::Finish { serial, body } => self.finish(*serial, body),
-            Op::Fail { serial, bad } => self.fail(*serial, *bad),
-            Op::Expire => self.expire(),
-            Op::Collect { serial } => self.collect(*serial),
-            Op::FallbackDone { serial, end } => self.fallback_done(*serial, end),
-            Op::Close { context } => self.close(*context),
-            Op::Read => self.read(),
+            Op::Submit(request) => self.submit(tickets, request),
+            Op::Start => self.start(tickets),
+            Op::Finish { serial, body } => self.finish(tickets, *serial, body),
+            Op::Fail { serial, bad } => self.fail(tickets, *serial, *bad),
+            Op::Expire => self.expire(tickets),
+            Op::Collect { serial } => self.collect(tickets, *serial),
+            Op::FallbackDone { serial, end } => self.fallback_done(tickets, *serial, end),
+            Op::Close { context } => self.close(tickets, *context),
+            Op::Read => self.read(tickets),
         }
     }
 
-    fn close(&mut self, context: u64) -> Reply
-        ensures { IsDone self.old (op.Close context) result self.new }
+    fn close(&self, tickets: &mut Tickets, context: u64) -> Reply
+        requires { HasTickets tickets.old self.now }
+        ensures done { IsDone (view_in tickets.old self.now) (op.Close context) result (view_in tickets.new self.now) }
+        ensures left { Leaves tickets.old self.now tickets.new self.now }
     {
-        Reply::Closed(self.tickets.close(context))
+        Reply::Closed(tickets.close(self.number, context))
     }
 
-    fn read(&self) -> Reply
-        ensures { IsDone self.now op.Read result self.now }
+    fn read(&self, tickets: &Tickets) -> Reply
+        requires { HasTickets tickets.now self.now }
+        ensures { IsDone (view_in tickets.now self.now) op.Read result (view_in tickets.now self.now) }
     {
         let rolling = self.history.rolling();
         Reply::Metrics(Metrics {
@@ -132,24 +134,26 @@ impl Group {
             errors: rolling.health.errors,
             total: rolling.health.total,
             percent: percent(rolling.health),
-            busy: self.tickets.busy_count(),
-            queued: self.tickets.queued_count(),
-            free: self.props.slots - self.tickets.len(),
+            busy: tickets.busy_count(self.number),
+            queued: tickets.queued_count(self.number),
+            free: self.props.slots - tickets.len(self.number),
         })
     }
 
     // Adds an event at the step's moment.
     fn record(&mut self, kind: EventKind)
-        requires { counted self.old < 2 ^ 60 }
-        ensures view { self.new ≡ with_event kind self.old }
-        ensures counted { counted self.new ≤ counted self.old + 2 }
+        requires { counted_of self.old < 2 ^ 60 }
+        ensures view { (ts : TicketsView) → view_in ts self.new ≡ with_event kind (view_in ts self.old) }
+        ensures counted { counted_of self.new ≤ counted_of self.old + 2 }
+        ensures left { (ts : TicketsView) → Leaves ts self.old ts self.new }
     {
         self.history.record(kind);
     }
 
     // Tells the circuit breaker how the ticket ended; where that closes it, health starts anew.
     fn tell_circuit(&mut self, serial: Serial, end: End)
-        ensures { self.new ≡ view_ended serial end self.old }
+        ensures view { (ts : TicketsView) → view_in ts self.new ≡ view_ended serial end (view_in ts self.old) }
+        ensures left { (ts : TicketsView) → Leaves ts self.old ts self.new }
     {
         if self.circuit.ended(serial, end, self.history.latest()) {
             self.history.restart_health();

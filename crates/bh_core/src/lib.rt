@@ -4,8 +4,6 @@
 mod group;
 mod history;
 pub mod laws;
-mod room;
 pub mod service;
-mod tickets;
 
 pub use service::{Core, RegisterError};

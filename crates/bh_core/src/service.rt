@@ -1,31 +1,27 @@
 //! All groups: each step goes to its own group and leaves the others as they are.
 
-ghost use Rattle.std.specs.Prelude.{◌≡◌, ◌≢◌, ◌↔◌, ℕ, ◌+◌, ◌<◌, ◌≤◌, ◌^◌, [], ◌∷◌, ◌++◌, length, map, IfOk, OnOk, OnErr, Err, None, Some, slice_get, true};
+ghost use Rattle.std.specs.Prelude.{◌≡◌, ◌↔◌, ℕ, ◌+◌, ◌<◌, ◌≤◌, ◌^◌, [], ◌∷◌, ◌++◌, length, map, IfOk, OnOk, OnErr, Err, None, slice_get};
 ghost use Rattle.bh_base.specs.declared.reply.Reply.{Reply};
 ghost use Rattle.bh_base.specs.Ranges.{IsInRange};
-ghost use Rattle.bh_base.specs.Replies.{can_reply};
-ghost use Rattle.bh_base.specs.Runs.{State, View, moved_on, own, replies, state_after, opened, view};
-ghost use Rattle.bh_base.specs.Runs.{step as machine_step};
-ghost use Rattle.bh_base.specs.Seen.{view_after, view_reply};
+ghost use Rattle.bh_base.specs.Runs.{State, own, replies, state_after, opened, view};
 ghost use Rattle.bh_core.specs.Groups.{Groups, Shows, own_replies, slots_in};
+ghost use Rattle.bh_core.specs.Step.{IsStep};
 
 mod looks;
 
 use crate::group::Group;
-use crate::room::push_within;
-use bh_base::{GroupId, GroupProps, Reply, Step};
+use bh_base::{GroupId, GroupProps, Reply, Step, push_within};
+use bh_tickets::Tickets;
 use std::alloc::{AllocError, Global};
 use std::marker::Model;
 use thiserror::Error;
 
-/// All groups, by their numbers.
+/// All groups, by their numbers, and the tickets of them all.
 #[derive(Drop)]
 pub struct Core {
     alloc: Global,
     groups: Vec<Group>,
-    slot_limit: u32,
-    /// The slots of all groups.
-    slots: u64,
+    tickets: Tickets,
 }
 
 /// Why a group was not registered.
@@ -41,11 +37,11 @@ pub enum RegisterError {
 
 impl Model for Core {
     ghost use Rattle.bh_core.specs.Groups.{Groups};
-    ghost use Rattle.bh_core.specs.Whole.{IsWhole};
+    ghost use Rattle.bh_core.specs.Whole.{IsWhole, groups_view};
 
     ghost Value = { Groups };
 
-    ghost view = { λ c. record { slot_limit = c.slot_limit; views = c.groups.items } };
+    ghost view = { groups_view };
 
     ghost invariant = { IsWhole };
 }
@@ -58,8 +54,7 @@ impl Core {
         Core {
             alloc,
             groups: Vec::new(alloc),
-            slot_limit,
-            slots: 0,
+            tickets: Tickets::new(alloc, slot_limit),
         }
     }
 
@@ -76,52 +71,35 @@ impl Core {
         ensures room { (result ≡ Err RegisterError.TooManySlots) ↔ (self.old.slot_limit < slots_in self.old.views + props.slots) }
         ensures err { OnErr result (self.new ≡ self.old) }
     {
-        if u64::from(self.slot_limit) - self.slots < props.slots {
+        if !self.tickets.has_slots_for(props.slots) {
             return Err(RegisterError::TooManySlots);
         }
-        let number = self.groups.len() as u64;
-        let Ok(group) = Group::new(self.alloc, props, step_limit) else {
+        let number = self.groups.len();
+        let Ok(group) = Group::new(self.alloc, number, props, step_limit) else {
             return Err(RegisterError::Memory);
         };
-        if self.groups.push(group).is_err() {
+        if self.groups.reserve(1).is_err() {
             return Err(RegisterError::Memory);
         }
-        self.slots += props.slots;
-        Ok(GroupId(number))
+        if self.tickets.add_group(props.slots).is_err() {
+            return Err(RegisterError::Memory);
+        }
+        self.groups.push_reserved(group);
+        Ok(GroupId(number as u64))
     }
 
     /// One step of its group: the reply is that of the one-group machine, whatever other groups did.
     ///
     /// A step of a group that is not registered is answered `NoGroup` and changes nothing.
     pub fn apply(&mut self, step: Step) -> Reply
-        // The group goes as its machine does, from every state that it may be in by its view.
-        ensures reply { (s : State) → Shows self.old step.group.0 s → result ≡ (machine_step s step.op step.now).reply }
-        ensures own { (s : State) → Shows self.old step.group.0 s → Shows self.new step.group.0 (machine_step s step.op step.now).state }
-
-        // Every other group stays as it was.
-        ensures others { (group : ℕ) → group ≢ step.group.0 → slice_get self.new.views group ≡ slice_get self.old.views group }
-        ensures count { length self.new.views ≡ length self.old.views }
-        ensures limit { self.new.slot_limit ≡ self.old.slot_limit }
-
-        ensures unknown { slice_get self.old.views step.group.0 ≡ None → result ≡ Reply.NoGroup }
-        ensures unknown_same { slice_get self.old.views step.group.0 ≡ None → self.new ≡ self.old }
-
-        // What a refusal leaves: all as it was, or of a full group the step's number and moment alone.
-        ensures worn { result ≡ Reply.Worn → self.new ≡ self.old }
-        ensures no_group { result ≡ Reply.NoGroup → self.new ≡ self.old }
-        ensures full { result ≡ Reply.GroupFull → (s : State) → Shows self.old step.group.0 s → Shows self.new step.group.0 (moved_on s step.now) }
-
-        // What can be said with no state at hand: the step by the view alone, and the kinds of replies.
-        ensures seen { (v : View) → slice_get self.old.views step.group.0 ≡ Some v →
-            (result ≡ view_reply v step.op step.now) × (slice_get self.new.views step.group.0 ≡ Some (view_after v step.op step.now)) }
-        ensures kinds { can_reply step.op result ≡ true }
+        ensures { IsStep self.old step result self.new }
     {
         let place = step.group.0;
         if place >= self.groups.len() as u64 {
             return Reply::NoGroup;
         }
         let group = &mut self.groups[place as usize];
-        group.apply(&step.op, step.now)
+        group.apply(&mut self.tickets, &step.op, step.now)
     }
 
     /// Steps of all groups in any interleaving, with one reply for each.

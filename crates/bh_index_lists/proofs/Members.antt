@@ -9,6 +9,7 @@ abbrev pub IsIn : ℕ → List ℕ → Type 0
 IsIn x [] = ⊥
 IsIn x (y ∷ ys) = (y ≡ x) ⊎ IsIn x ys
 
+-- what a list contains is one of it
 pub IsIn-from_Contains : (x : ℕ) (xs : List ℕ) → Contains xs x → IsIn x xs
 IsIn-from_Contains x [] h = absurd (omega (arith, h.1))
 IsIn-from_Contains x (y ∷ ys) h = at h.0 h.1 h.2 (λ k lt e. IsIn-from_Contains x ys (k, lt, e))
@@ -17,25 +18,30 @@ IsIn-from_Contains x (y ∷ ys) h = at h.0 h.1 h.2 (λ k lt e. IsIn-from_Contain
     at zero lt e rest = inl e
     at (suc k) lt e rest = inr (rest k (omega arith) e)
 
+-- and what is one of it, it contains
 pub Contains-from_IsIn : (x : ℕ) (xs : List ℕ) → IsIn x xs → Contains xs x
 Contains-from_IsIn x [] h = absurd h
 Contains-from_IsIn x (y ∷ ys) (inl e) = (0, omega arith, e)
 Contains-from_IsIn x (y ∷ ys) (inr h) = let r = Contains-from_IsIn x ys h in (suc r.0, omega (arith, r.1), r.2)
 
+-- one of the first list is one of both together
 pub IsIn-append_left : (x : ℕ) (xs ys : List ℕ) → IsIn x xs → IsIn x (xs ++ ys)
 IsIn-append_left x [] ys h = absurd h
 IsIn-append_left x (y ∷ xs) ys (inl e) = inl e
 IsIn-append_left x (y ∷ xs) ys (inr h) = inr (IsIn-append_left x xs ys h)
 
+-- one of the second list is one of both together
 pub IsIn-append_right : (x : ℕ) (xs ys : List ℕ) → IsIn x ys → IsIn x (xs ++ ys)
 IsIn-append_right x [] ys h = h
 IsIn-append_right x (y ∷ xs) ys h = inr (IsIn-append_right x xs ys h)
 
+-- one of two lists together is one of the first or one of the second
 pub IsIn-append_cases : (x : ℕ) (xs ys : List ℕ) → IsIn x (xs ++ ys) → IsIn x xs ⊎ IsIn x ys
 IsIn-append_cases x [] ys h = inr h
 IsIn-append_cases x (y ∷ xs) ys (inl e) = inl (inl e)
 IsIn-append_cases x (y ∷ xs) ys (inr h) = elim (IsIn-append_cases x xs ys h) [ inl k ↦ inl (inr k) | inr k ↦ inr k ]
 
+-- a list is cut at one of it
 pub IsIn-split : (x : ℕ) (xs : List ℕ) → IsIn x xs → (ls : List ℕ) × (rs : List ℕ) × (xs ≡ ls ++ x ∷ rs)
 IsIn-split x [] h = absurd h
 IsIn-split x (y ∷ ys) (inl e) = ([], ys, ap (λ z. z ∷ ys) e)
@@ -50,14 +56,17 @@ is_in_cases x (y ∷ ys) = elim (cases_eq y x) [
 
 -- ---- a list with one place taken out
 
+-- to take out what is not there changes nothing
 pub without-out : (x : ℕ) (xs : List ℕ) → (IsIn x xs → ⊥) → without x xs ≡ xs
 without-out x [] out = refl
 without-out x (y ∷ ys) out = ap (λ b. cond (not b) (y ∷ without x ys) (without x ys)) (ne_eqb y x (λ e. out (inl e))) ∙ ap (λ zs. y ∷ zs) (without-out x ys (λ i. out (inr i)))
 
+-- what is there once is taken out of its place
 pub without-in : (x : ℕ) (ls rs : List ℕ) → (IsIn x ls → ⊥) → (IsIn x rs → ⊥) → without x (ls ++ x ∷ rs) ≡ ls ++ rs
 without-in x [] rs out out' = ap (λ b. cond (not b) (x ∷ without x rs) (without x rs)) (eq-eqb x x refl) ∙ without-out x rs out'
 without-in x (y ∷ ls) rs out out' = ap (λ b. cond (not b) (y ∷ without x (ls ++ x ∷ rs)) (without x (ls ++ x ∷ rs))) (ne_eqb y x (λ e. out (inl e))) ∙ ap (λ zs. y ∷ zs) (without-in x ls rs (λ i. out (inr i)) out')
 
+-- what is left was there, and is not what was taken out
 pub IsIn-without : (s x : ℕ) (xs : List ℕ) → IsIn x (without s xs) → IsIn x xs × (x ≡ s → ⊥)
 IsIn-without s x [] h = absurd h
 IsIn-without s x (y ∷ ys) h = elim (cases_eq y s) [
@@ -71,6 +80,7 @@ IsIn-without s x (y ∷ ys) h = elim (cases_eq y s) [
     head : (y ≡ x) ⊎ IsIn x (without s ys) → (y ≡ x) ⊎ IsIn x (without s ys)
     head h = h
 
+-- all else is left
 pub IsIn-kept : (s x : ℕ) (xs : List ℕ) → (x ≡ s → ⊥) → IsIn x xs → IsIn x (without s xs)
 IsIn-kept s x [] ne h = h
 IsIn-kept s x (y ∷ ys) ne h = elim (cases_eq y s) [
@@ -80,10 +90,12 @@ IsIn-kept s x (y ∷ ys) ne h = elim (cases_eq y s) [
 
 -- ---- no place twice
 
+-- none of the list stands in it again
 abbrev pub NoRepeat : List ℕ → Type 0
 NoRepeat [] = Unit {0}
 NoRepeat (x ∷ xs) = (IsIn x xs → ⊥) × NoRepeat xs
 
+-- two parts of such a list are such lists, and have nothing in common
 pub NoRepeat-parts : (ls rs : List ℕ) → NoRepeat (ls ++ rs) → NoRepeat ls × NoRepeat rs × ((x : ℕ) → IsIn x ls → IsIn x rs → ⊥)
 NoRepeat-parts [] rs h = (tt, h, λ x i j. absurd i)
 NoRepeat-parts (a ∷ ls) rs h =

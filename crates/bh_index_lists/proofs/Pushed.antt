@@ -42,15 +42,19 @@ module _ (L : List Link) (d : ListHead) (xs : List ℕ) (i : ℕ) (h : IsListed 
 
 -- ---- behind a list that is walked
 module _ (L : List Link) (d : ListHead) (i : ℕ) (h : IsList L d) (lt : i < length L) (new : ¬ (Contains (list_of L d) i)) where
+  -- the last place is one of the slice
   pub pushed-last : IsWithin L d.last
   pushed-last = subst (IsWithin L) (sym h.last) (within-back L None None (list_of L d) tt h.linked)
 
+  -- the list with one more place is no longer than the slice
   pub pushed-len : d.len + 1 ≤ length L
   pushed-len = len_below L d (list_of L d) i h lt (λ m. new (Contains-from_IsIn i (list_of L d) m))
 
+  -- the list has the new place at its end
   pub pushed-listed : IsListed (tied (Some i) None (tied d.last (Some i) L)) (record (tied_ends (Some i) None (tied_ends d.last (Some i) d)) { len = d.len + 1 }) (list_of L d ++ i ∷ [])
   pushed-listed = put-listed L d (list_of L d) i h lt (λ m. new (Contains-from_IsIn i (list_of L d) m))
 
+  -- what is not on the list keeps its link
   pub pushed-outside : (x : ℕ) → ¬ (Contains (list_of L d ++ i ∷ []) x) → link_at (tied (Some i) None (tied d.last (Some i) L)) x ≡ link_at L x
   pushed-outside x out =
       let apart : x ≡ i → ⊥ = λ e. out (Contains-from_IsIn x (list_of L d ++ i ∷ []) (IsIn-append_right x (list_of L d) (i ∷ []) (inl (sym e)))) in

@@ -5,22 +5,26 @@ use Rattle.bh_index_lists.specs.declared.lists.ListHead.{ListHead}
 use Rattle.bh_index_lists.specs.Lists.{link_at, no_link, front, back, Linked, IsListed, walk, list_of, IsList}
 use Rattle.bh_index_lists.proofs.Members.{IsIn, IsIn-split, NoRepeat, length-le}
 
+-- the front of two lists together is that of the first, or else of the second
 pub front-append : (ls rs : List ℕ) (q : Option ℕ) → front (ls ++ rs) q ≡ front ls (front rs q)
 front-append [] rs q = refl
 front-append (a ∷ ls) rs q = refl
 
+-- the back of two lists together is that of the second, or else of the first
 pub back-append : (p : Option ℕ) (ls rs : List ℕ) → back p (ls ++ rs) ≡ back (back p ls) rs
 back-append p [] rs = refl
 back-append p (a ∷ ls) rs = back-append (Some a) ls rs
 
 -- ---- a linked list in two parts, and back
 
+-- two linked lists together are linked each
 pub Linked-split : (L : List Link) (p q : Option ℕ) (ls rs : List ℕ) → Linked L p (ls ++ rs) q → Linked L p ls (front rs q) × Linked L (back p ls) rs q
 Linked-split L p q [] rs h = (tt, h)
 Linked-split L p q (a ∷ ls) rs h =
     let rest = Linked-split L (Some a) q ls rs h.2 in
     ((h.0, h.1 ∙ ap (λ (n : Option ℕ). record { prev = p; next = n }) (front-append ls rs q), rest.0), rest.1)
 
+-- and two that meet are linked together
 pub Linked-join : (L : List Link) (p q : Option ℕ) (ls rs : List ℕ) → Linked L p ls (front rs q) → Linked L (back p ls) rs q → Linked L p (ls ++ rs) q
 Linked-join L p q [] rs h k = k
 Linked-join L p q (a ∷ ls) rs h k = (h.0, h.1 ∙ ap (λ (n : Option ℕ). record { prev = p; next = n }) (sym (front-append ls rs q)), Linked-join L (Some a) q ls rs h.2 k)
@@ -32,15 +36,19 @@ pub Linked-same : (L M : List Link) (p q : Option ℕ) (xs : List ℕ) → lengt
 Linked-same L M p q [] len same h = tt
 Linked-same L M p q (x ∷ xs) len same h = (omega (arith, h.0, len), same x (inl refl) ∙ h.1, Linked-same L M (Some x) q xs len (λ y i. same y (inr i)) h.2)
 
+-- links that agree on the places of a list have the same list
 pub listed-same : (L M : List Link) (d : ListHead) (xs : List ℕ) → length M ≡ length L → ((x : ℕ) → IsIn x xs → link_at M x ≡ link_at L x) → IsListed L d xs → IsListed M d xs
 listed-same L M d xs len same h = record { linked = Linked-same L M None None xs len same h.linked; first = h.first; last = h.last; len = h.len }
 
+-- a link that is written leaves the others
 pub link_at-set_other : (L : List Link) (y x : ℕ) (v : Link) → (x ≡ y → ⊥) → link_at (set L y v) x ≡ link_at L x
 link_at-set_other L y x v ne = get_or-set_other L y x v no_link ne
 
+-- and is read where it was written
 pub link_at-set_same : (L : List Link) (x : ℕ) (v : Link) → x < length L → link_at (set L x v) x ≡ v
 link_at-set_same L x v lt = get_or-set_same L x v no_link lt
 
+-- a link outside a list may be written
 pub Linked-set : (L : List Link) (p q : Option ℕ) (xs : List ℕ) (y : ℕ) (v : Link) → (IsIn y xs → ⊥) → Linked L p xs q → Linked (set L y v) p xs q
 Linked-set L p q xs y v out = Linked-same L (set L y v) p q xs (length-set L y v) (λ x i. link_at-set_other L y x v (λ e. out (subst (λ z. IsIn z xs) e i)))
 
@@ -64,10 +72,12 @@ first_once L p x xs h i =
     let e = same_from L p (back (Some x) r.0) x xs r.1 h cut.1 in
     omega (arith, ap length r.2, ap length e, length-append r.0 (x ∷ r.1))
 
+-- no place stands twice on a linked list that ends
 pub NoRepeat-linked : (L : List Link) (p : Option ℕ) (xs : List ℕ) → Linked L p xs None → NoRepeat xs
 NoRepeat-linked L p [] h = tt
 NoRepeat-linked L p (x ∷ xs) h = (first_once L p x xs h, NoRepeat-linked L (Some x) xs h.2)
 
+-- each place of a linked list is one of the slice
 pub linked-below : (L : List Link) (p q : Option ℕ) (xs : List ℕ) (x : ℕ) → Linked L p xs q → IsIn x xs → x < length L
 linked-below L p q [] x h i = absurd i
 linked-below L p q (y ∷ ys) x h (inl e) = subst (λ z. z < length L) e h.0
@@ -83,12 +93,15 @@ walk-linked : (L : List Link) (p : Option ℕ) (xs : List ℕ) → Linked L p xs
 walk-linked L p [] h = refl
 walk-linked L p (x ∷ xs) h = ap (λ ys. x ∷ ys) (ap (λ (l : Link). walk L (length xs) l.next) h.1 ∙ walk-linked L (Some x) xs h.2)
 
+-- the list that is walked is the list that is linked
 pub listed : (L : List Link) (d : ListHead) (xs : List ℕ) → IsListed L d xs → list_of L d ≡ xs
 listed L d xs h = ap₂ (walk L) h.len h.first ∙ walk-linked L None xs h.linked
 
+-- so there is a list
 pub IsList-from : (L : List Link) (d : ListHead) (xs : List ℕ) → IsListed L d xs → IsList L d
 IsList-from L d xs h = subst (IsListed L d) (sym (listed L d xs h)) h
 
+-- the front of a list is its first place
 pub front-is : (xs : List ℕ) → front xs None ≡ slice_get xs 0
 front-is [] = refl
 front-is (x ∷ xs) = refl

@@ -55,24 +55,30 @@ module _ (L : List Link) (d : ListHead) (i : ℕ) (h : IsList L d) (there : Cont
   is : link_at L i ≡ record { prev = back None cut.0; next = front cut.1 None }
   is = taken-link L d cut.0 cut.1 i at
 
+  -- the place is one of the slice
   pub unlinked-within : i < length L
   unlinked-within = taken-within L d cut.0 cut.1 i at
 
+  -- the list has a place to lose
   pub unlinked-len : 0 < d.len
   unlinked-len = omega (arith, at.len, length-append cut.0 (i ∷ cut.1))
 
+  -- the place before it is one of the slice
   pub unlinked-prev : IsWithin L (link_at L i).prev
   unlinked-prev = subst (λ (l : Link). IsWithin L l.prev) (sym is) (within-back L None (Some i) cut.0 tt (Linked-split L None None cut.0 (i ∷ cut.1) at.linked).0)
 
+  -- and so is the one behind it
   pub unlinked-next : IsWithin L (link_at L i).next
   unlinked-next = subst (λ (l : Link). IsWithin L l.next) (sym is) (within-front L (Some i) cut.1 (Linked-split L None None cut.0 (i ∷ cut.1) at.linked).1.2)
 
+  -- the list lacks the place, and nothing else
   pub unlinked-listed : IsListed (set (tied (link_at L i).prev (link_at L i).next L) i no_link) (record (tied_ends (link_at L i).prev (link_at L i).next d) { len = d.len - 1 }) (without i (list_of L d))
   unlinked-listed =
       let e : cut.0 ++ cut.1 ≡ without i (list_of L d) = sym (ap (without i) cut.2 ∙ taken-without L d cut.0 cut.1 i at) in
       let at_link = λ (l : Link) (xs : List ℕ). IsListed (set (tied l.prev l.next L) i no_link) (record (tied_ends l.prev l.next d) { len = d.len - 1 }) xs in
       subst (λ (l : Link). at_link l (without i (list_of L d))) (sym is) (subst (at_link (record { prev = back None cut.0; next = front cut.1 None })) e (taken-listed L d cut.0 cut.1 i at))
 
+  -- what is not on the list keeps its link
   pub unlinked-outside : (x : ℕ) → ¬ (Contains (list_of L d) x) → link_at (set (tied (link_at L i).prev (link_at L i).next L) i no_link) x ≡ link_at L x
   unlinked-outside x out = ap (λ (l : Link). link_at (set (tied l.prev l.next L) i no_link) x) is ∙ taken-outside L d cut.0 cut.1 i at x (λ m. out (Contains-from_IsIn x (list_of L d) (subst (IsIn x) (sym cut.2) m)))
 

@@ -7,15 +7,20 @@ ghost use Rattle.bh_index_lists.specs.Ties.{IsWithin, tied, tied_ends};
 /// The neighbours of a place in its list; a place that is on no list has none.
 #[derive(Clone, Copy, Debug, Default, PartialEq, Eq)]
 pub struct Link {
+    /// The place before it; None at the first place.
     pub prev: Option<u32>,
+    /// The place behind it; None at the last place.
     pub next: Option<u32>,
 }
 
 /// The ends of a list, and how many places it has. The default is the empty list.
 #[derive(Clone, Copy, Debug, Default, PartialEq, Eq)]
 pub struct ListHead {
+    /// The first place; None of the empty list.
     pub first: Option<u32>,
+    /// The last place; None of the empty list.
     pub last: Option<u32>,
+    /// How many places there are.
     pub len: usize,
 }
 

@@ -41,6 +41,7 @@ same_metrics a b h =
 same_answer : (a b : Answer) → answer_eq.eq a b ≡ true → a ≡ b
 same_answer a b h = search rules
 
+-- two replies that compare as equal are the same
 pub same_reply : (a b : Reply) → reply_eq.eq a b ≡ true → a ≡ b
 same_reply (Queued a) (Queued b) h = search rules
 same_reply (Inline a) (Inline b) h = search rules

@@ -122,6 +122,6 @@ IsSo report passes (Mismatch group place) =
     ⊎ ((0 < place) × (place ≤ length (journal_of report group.0)) × (2 ≤ receipts_at group.0 place passes))
 
 -- what the difference says is so, and passes and report agree at every place before it
-pub record IsFirst (report : AuditReport) (passes : List PassView) (d : Difference) : Type 0 where
+pub record IsFirstDifference (report : AuditReport) (passes : List PassView) (d : Difference) : Type 0 where
   pub so : IsSo report passes d
   pub before : (group place : ℕ) → IsBefore group place (group_of d).0 (place_of d) → AgreesAt report passes group place

@@ -32,6 +32,6 @@ pub record IsRunOf (group : ℕ) (props : GroupProps) (limit : ℕ) (entries : L
   pub taken : AllByRecursion (λ e. is_refusal e.1 ≡ false) entries
 
 -- the entries are such a run, and the group shows what the run ends in
-pub record Agrees (group : ℕ) (entries : List (Step × Reply)) (shown : View) : Type 0 where
+pub record JournalAgrees (group : ℕ) (entries : List (Step × Reply)) (shown : View) : Type 0 where
   pub run : IsRunOf group shown.present.props shown.present.limit entries
   pub ends : view (state_after (opened shown.present.props shown.present.limit) (steps_of entries)) ≡ shown

@@ -23,6 +23,7 @@ use Rattle.bh_lines.specs.Lines.{Cut, line, ended, stopped, less_return, whole_l
 abbrev pub feed : List ℕ → ℕ
 feed xs = position_or_len (λ b. b == 10) xs
 
+-- where a line feed follows, a line ends there
 pub cut_from-found : (front xs : List ℕ) → feed xs < length xs → cut_from front xs ≡ whole_line (front ++ take (feed xs) xs) (cut (drop (feed xs + 1) xs))
 unfolding cut_from
 cut_from-found front [] h = absurd (omega (arith, h))
@@ -38,6 +39,7 @@ cut_from-found front (b ∷ bs) h =
           rw (one, two) (cut_from-found (front ++ b ∷ []) bs low ∙ rw append_assoc refl)
     ] h
 
+-- where none follows, all that is left is the last line
 pub cut_from-missing : (front xs : List ℕ) → length xs ≤ feed xs → cut_from front xs ≡ last_line (front ++ xs)
 unfolding cut_from
 cut_from-missing front [] h = rw append-nil refl
@@ -96,9 +98,11 @@ feed-is xs = omega arith
 newline-splits : (xs : List ℕ) → newline_from 0 xs < length xs → xs ≡ take (newline_from 0 xs) xs ++ 10 ∷ drop (newline_from 0 xs + 1) xs
 newline-splits xs h = rw (feed-is xs) (feed-splits xs (rw (feed-is xs) at h))
 
+-- the same by the place at which the codec finds the line feed
 pub cut-found : (xs : List ℕ) → newline_from 0 xs < length xs → cut xs ≡ whole_line (take (newline_from 0 xs) xs) (cut (drop (newline_from 0 xs + 1) xs))
 cut-found xs h = rw (feed-is xs) (cut_from-found [] xs (rw (feed-is xs) at h))
 
+-- the same where the codec finds none
 pub cut-missing : (xs : List ℕ) → length xs ≤ newline_from 0 xs → cut xs ≡ last_line xs
 cut-missing xs h = cut_from-missing [] xs (rw (feed-is xs) at h)
 
@@ -157,6 +161,7 @@ finds-short : (xs : List ℕ) → length xs ≤ newline_from 0 xs → length xs 
 finds-short xs h short =
     rw (read_line_short 1024 0 xs h short) (refl, refl, cut-missing xs h, rw (feed-is xs) at h, short)
 
+-- the codec finds of every text what `cut` says
 pub finds : (xs : List ℕ) → Finds xs (read_line 1024 0 xs)
 finds xs =
     elim (cases_lt 1024 (newline_from 0 xs)) [
@@ -170,6 +175,7 @@ finds xs =
       ]
     ]
 
+-- a codec that has read nothing of its line
 abbrev pub start : LinesCodec
 start = at_line_start 1024
 
@@ -263,6 +269,7 @@ last-line rest s codec left h =
           f.2 ∙ last-is rest answer.0 f.4 ∙ rw (valid, answer.1) refl
     ] (finds rest) h
 
+-- at the end of the input no byte of a line is left
 pub last-none : (rest : List ℕ) (codec : LinesCodec) (left : List ℕ)
     → gives_lines start rest (at_end (Ok None) codec left) → cut rest ≡ ended
 last-none rest codec left h =
@@ -274,6 +281,7 @@ last-none rest codec left h =
           f.2 ∙ last-empty rest answer.0
     ] (finds rest) h
 
+-- at the end of the input the last line is refused, unless memory was wanting
 pub last-error : (rest : List ℕ) (e : LinesCodecError) (codec : LinesCodec) (left : List ℕ)
     → gives_lines start rest (at_end (Err e) codec left) → ¬ (IsOutOfMemory {T = ℕ} (Err e)) → cut rest ≡ stopped
 last-error rest e codec left h other =
@@ -311,5 +319,6 @@ no_line-unfinished xs h =
 pub no_line-partial : (xs : List ℕ) → has_line xs ≡ false → gives_lines start xs partial
 no_line-partial xs h = subst (λ (found : Scan). IsUnfinished found) (sym (no_line-unfinished xs h)) tt
 
+-- where no line can be told, the codec refuses none
 pub no_line-no_error : (xs : List ℕ) (e : LinesCodecError) (codec : LinesCodec) (left : List ℕ) → has_line xs ≡ false → ¬ (gives_lines start xs (decoded (Err e) codec left))
 no_line-no_error xs e codec left h d = subst (λ (found : Scan). Answers 1024 found (Err e) codec left) (no_line-unfinished xs h) d

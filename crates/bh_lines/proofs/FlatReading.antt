@@ -1,6 +1,5 @@
 -- The members of an object that holds scalars alone: how they are put, and what is found of them.
-use Rattle.std.proofs.Common.{◌≡◌, zero, suc, ◌+◌, ◌-◌, ◌<◌, ◌≤◌, ℕ, true, false, List, [], ◌∷◌, ◌++◌, length, take, get_or, Some, refl, sym, ap, ◌∙◌, subst, arith}
-use Rattle.std.proofs.lemmas.List.{take_more}
+use Rattle.std.proofs.Common.{◌≡◌, zero, suc, ℕ, true, false, List, [], ◌∷◌, ◌++◌, Some, refl, sym, ap, ◌∙◌, subst, arith}
 use Rattle.std.specs.declared.cmp.Ordering.{Ordering}
 use Rattle.std.specs.declared.cmp.Ordering.TheVariants.{Less, Equal, Greater}
 use Rattle.std.specs.Ordering.{nat_cmp, match_ordering, is_eq}
@@ -36,20 +35,24 @@ unfolding are_members
 no_members_without_key zero ts e = rw e
 no_members_without_key (suc n) ts e = rw e
 
+-- one member more than there is room for is refused
 pub no_members_without_room : (ts r : List Token) (k : List ℕ) → json.read_key ts ≡ Some (Some k, r) → are_members 0 ts ≡ false
 unfolding are_members
 no_members_without_room ts r k e = rw e
 
+-- a member whose value is no scalar is refused
 pub no_members_without_scalar : (n : ℕ) (ts r : List Token) (k : List ℕ) → json.read_key ts ≡ Some (Some k, r) → ((rest : List Token → Bool) → is_scalar_then rest r ≡ false) → are_members n ts ≡ false
 unfolding are_members
 no_members_without_scalar zero ts r k e none = rw e
 no_members_without_scalar (suc n) ts r k e none = rw e (none (are_members n))
 
+-- behind the bracket that closes the object nothing may stand
 pub members_over : (n : ℕ) (ts r : List Token) → json.read_key ts ≡ Some (None, r) → are_members n ts ≡ is_over r
 unfolding are_members
 members_over zero ts r e = rw e
 members_over (suc n) ts r e = rw e
 
+-- behind a member one fewer may stand
 pub members_after_one : (n m : ℕ) (ts s r : List Token) (k : List ℕ) → json.read_key ts ≡ Some (Some k, s) → n ≡ suc m → ((rest : List Token → Bool) → is_scalar_then rest s ≡ rest r) → are_members n ts ≡ are_members m r
 unfolding are_members
 members_after_one n m ts s r k e more one = ap (λ x. are_members x ts) more ∙ rw e (one (are_members m))
@@ -83,6 +86,7 @@ put_at q k l d e ms o Less is less found = rw (less, is)
 put_at q k l d e ms o Equal is equal found = let same = exact_bytes k l equal in rw equal (same_place q l d e ms o (subst (λ x. slice_cmp nat_cmp q x ≡ o) same is))
 put_at q k l d e ms o Greater is greater found = rw greater (later_place q k l d e ms o is greater found)
 
+-- a member that is put is found by the order of its name and the one that is looked up
 pub found_put : (q k : List ℕ) (d : Data) (ms : Members) (o : Ordering) → slice_cmp nat_cmp q k ≡ o → Found q o d ms (put k d ms)
 found_put q k d no_members o is = rw is
 found_put q k d (member l e ms) o is = put_at q k l d e ms o _ is refl (found_put q k d ms o is)
@@ -97,27 +101,18 @@ not_here Less d before after q is found = found
 not_here Equal d before after q is found = absurd cc
 not_here Greater d before after q is found = found
 
-module _ (q : List ℕ) (ms : List FlatMember) (left : ℕ) (blank : FlatMember) (some : 0 < left) (within : left ≤ length ms) where
-  last : FlatMember
-  last = get_or ms (left - 1) blank
+put_last : (q : List ℕ) (ms : List FlatMember) (m : FlatMember) (o : Ordering) → slice_cmp nat_cmp q m.name.now ≡ o
+    → Found q o (scalar_data m.value) (put_all ms no_members) (put_all (ms ++ m ∷ []) no_members)
+put_last q ms m o is =
+    subst (Found q o (scalar_data m.value) (put_all ms no_members)) (sym (put_all_push ms m no_members)) (found_put q m.name.now (scalar_data m.value) _ o is)
 
-  put_last : (o : Ordering) → slice_cmp nat_cmp q last.name.now ≡ o → Found q o (scalar_data last.value) (put_all (take (left - 1) ms) no_members) (put_all (take left ms) no_members)
-  unfolding last
-  put_last o is =
-      let more : take (left - 1 + 1) ms ≡ take (left - 1) ms ++ last ∷ [] = take_more ms (left - 1) blank (omega arith) in
-      let same : left - 1 + 1 ≡ left = omega arith in
-      let all = ap (λ n. put_all (take n ms) no_members) (sym same) ∙ ap (λ found. put_all found no_members) more ∙ put_all_push (take (left - 1) ms) last no_members in
-      subst (Found q o (scalar_data last.value) (put_all (take (left - 1) ms) no_members)) (sym all) (found_put q last.name.now (scalar_data last.value) _ o is)
+-- where the last member has the name, it is what is found
+pub found_last : (q : List ℕ) (ms : List FlatMember) (m : FlatMember) → bytes_eq q m.name.now ≡ true → get_member q (put_all (ms ++ m ∷ []) no_members) ≡ Some (scalar_data m.value)
+found_last q ms m is = here _ _ _ _ q (is_eq-slice_cmp q m.name.now ∙ is) (put_last q ms m _ refl)
 
-  -- where the last of so many members has the name, it is what is found
-  pub found_last : bytes_eq q (get_or ms (left - 1) blank).name.now ≡ true → get_member q (put_all (take left ms) no_members) ≡ Some (scalar_data (get_or ms (left - 1) blank).value)
-  unfolding last
-  found_last is = here _ _ _ _ q (is_eq-slice_cmp q last.name.now ∙ is) (put_last _ refl)
-
-  -- where it has another name, it plays no part
-  pub found_before : bytes_eq q (get_or ms (left - 1) blank).name.now ≡ false → get_member q (put_all (take left ms) no_members) ≡ get_member q (put_all (take (left - 1) ms) no_members)
-  unfolding last
-  found_before is = not_here _ _ _ _ q (is_eq-slice_cmp q last.name.now ∙ is) (put_last _ refl)
+-- where it has another name, it plays no part
+pub found_before : (q : List ℕ) (ms : List FlatMember) (m : FlatMember) → bytes_eq q m.name.now ≡ false → get_member q (put_all (ms ++ m ∷ []) no_members) ≡ get_member q (put_all ms no_members)
+found_before q ms m is = not_here _ _ _ _ q (is_eq-slice_cmp q m.name.now ∙ is) (put_last q ms m _ refl)
 
 -- a line that is an opening bracket and members and no more is their object
 pub read_flat : (line : List ℕ) (found : List FlatMember) (ts : List Token) → tokens line ≡ Token.begin_object ∷ ts → ReadsMembers found ts []

@@ -2,3 +2,6 @@ pub mod Cutting
 pub mod Taking
 pub mod Sending
 pub mod FlatReading
+pub mod LinesThen
+pub mod GroupNumber
+pub mod PortErrors

@@ -1,5 +1,5 @@
 -- What is printed of the tokens that were sent.
-use Rattle.std.proofs.Common.{◌≡◌, ℕ, ◌==◌, true, false, List, [], ◌∷◌, ◌++◌, refl, ap, ◌∙◌, Result, Ok, Err, OnOk, append_assoc, if◌then◌else◌, decimal}
+use Rattle.std.proofs.Common.{◌≡◌, ◌⊎◌, ℕ, ◌==◌, true, false, List, [], ◌∷◌, ◌++◌, length, refl, ap, ◌∙◌, inl, inr, arith, Result, Ok, Err, OnOk, append_assoc, if◌then◌else◌, decimal, map, Bor}
 use Rattle.std.specs.declared.alloc.AllocError.{AllocError}
 use Rattle.json.specs.Token.{Token, begin_object, end_object}
 use Rattle.json.specs.Token as token
@@ -10,7 +10,7 @@ use Rattle.serde_json.specs.Data.{Data}
 use Rattle.serde_json.specs.Written.{compact_text, members_outline}
 use Rattle.serde_json.proofs.Texts.{print-outline}
 use Rattle.bh_base.specs.declared.event.Counts.{Counts}
-use Rattle.bh_lines.specs.ReplyLine.{counts_members, kind_names, counts_listed, events_data, line_of, count}
+use Rattle.bh_lines.specs.ReplyLine.{counts_members, kind_names, counts_listed, events_data, json_line, number_member}
 use Rattle.bh_lines.specs.Sent.{Sends, data_tokens, counts_tokens}
 
 -- what was sent first, and then perhaps the rest
@@ -23,19 +23,26 @@ sent-first (Err e) a b c first rest one other = tt
 
 -- a writer that began with nothing was sent a value, and what it printed got a line feed
 pub line-sent : (d : Data) (made wrote : Written) (start : List ℕ) → start ≡ [] → made.before ≡ start → made.tokens ≡ [] → Sends made wrote (data_tokens d)
-    → (wrote.before ++ print wrote.tokens) ++ 10 ∷ [] ≡ line_of d
+    → (wrote.before ++ print wrote.tokens) ++ 10 ∷ [] ≡ json_line d
 line-sent d made wrote start none before tokens sent =
     let whole : wrote.tokens ≡ data_tokens d = sent.tokens ∙ ap (λ ts. ts ++ data_tokens d) tokens in
     let printed : wrote.before ++ print wrote.tokens ≡ compact_text d =
     ap (λ bs. bs ++ print wrote.tokens) (sent.before ∙ before ∙ none) ∙ ap print whole ∙ print-outline d in
     ap (λ bs. bs ++ 10 ∷ []) printed
 
+-- where the names or the counts are over, no token is left
+pub no_counts-left : (names : List (Bor (List ℕ))) (counts : List ℕ) → (length names ≡ 0) ⊎ (length counts ≡ 0) → counts_tokens (map (λ name. name.now) names) counts ≡ []
+no_counts-left [] counts over = refl
+no_counts-left (name ∷ names) [] over = refl
+no_counts-left (name ∷ names) (n ∷ counts) (inl none) = absurd (omega (arith, none))
+no_counts-left (name ∷ names) (n ∷ counts) (inr none) = absurd (omega (arith, none))
+
 counts-sent : (names : List (List ℕ)) (counts : List ℕ) → counts_tokens names counts ++ end_object ∷ [] ≡ members_tokens (members_outline (counts_members names counts))
 counts-sent [] counts = refl
 counts-sent (name ∷ names) [] = refl
 counts-sent (name ∷ names) (n ∷ counts) =
     elim (n == 0) as (λ b. (if b then counts_tokens names counts else token.key name ∷ token.number (decimal n) ∷ counts_tokens names counts) ++ end_object ∷ []
-    ≡ members_tokens (members_outline (if b then counts_members names counts else count name n (counts_members names counts)))) [
+    ≡ members_tokens (members_outline (if b then counts_members names counts else number_member name n (counts_members names counts)))) [
       | true ↦ counts-sent names counts
       | false ↦ ap (λ ts. token.key name ∷ token.number (decimal n) ∷ ts) (counts-sent names counts)
     ]

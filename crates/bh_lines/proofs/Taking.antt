@@ -38,6 +38,7 @@ pub takes-ok : (was : LinesCodec) (old : List ℕ) (found : Option (String Globa
 takes-ok was old found codec new was-start some h =
     ok-from-start old found codec new some (subst (λ (k : LinesCodec). Decodes gives_lines k old (Ok found) codec new) was-start h)
 
+-- the same of an error
 pub takes-err : (was : LinesCodec) (old : List ℕ) (error : LinesCodecError) (refused : PortError) (codec : LinesCodec) (new : List ℕ)
     → was ≡ start → (refused ≡ Memory ↔ IsOutOfMemory {T = ℕ} (Err error)) → IsMemoryOrLine refused
     → Decodes gives_lines was old (Err error) codec new → TakesLine old (Err refused) new
@@ -66,11 +67,13 @@ last-err-from-start old error Memory codec new none memory kind h = tt
 last-err-from-start old error Read codec new none memory kind h = kind
 last-err-from-start old error Write codec new none memory kind h = kind
 
+-- the same at the end of the input
 pub last-ok : (was : LinesCodec) (old : List ℕ) (found : Option (String Global)) (codec : LinesCodec) (new : List ℕ)
     → was ≡ start → has_line old ≡ false → DecodesAtEnd gives_lines was old (Ok found) codec new → IsLast old (Ok found)
 last-ok was old found codec new was-start none h =
     last-ok-from-start old found codec new none (subst (λ (k : LinesCodec). DecodesAtEnd gives_lines k old (Ok found) codec new) was-start h)
 
+-- the same of an error at the end of the input
 pub last-err : (was : LinesCodec) (old : List ℕ) (error : LinesCodecError) (refused : PortError) (codec : LinesCodec) (new : List ℕ)
     → was ≡ start → has_line old ≡ false → (refused ≡ Memory ↔ IsOutOfMemory {T = ℕ} (Err error)) → IsMemoryOrLine refused
     → DecodesAtEnd gives_lines was old (Err error) codec new → IsLast old (Err refused)

@@ -3,7 +3,7 @@ use Rattle.std.specs.Prelude.{ℕ, List, codes}
 use Rattle.serde_json.specs.Data.{Data, object, no_members}
 use Rattle.bh_lines.specs.declared.fault.Fault.{Fault}
 use Rattle.bh_lines.specs.declared.fault.Fault.TheVariants as faults
-use Rattle.bh_lines.specs.ReplyLine.{word, line_of}
+use Rattle.bh_lines.specs.ReplyLine.{text_member, json_line}
 
 -- the word of each fault
 abbrev pub fault_word : Fault → List ℕ
@@ -15,8 +15,8 @@ fault_word faults.Long = codes "long"
 
 -- the object of a line that says why nothing was done
 abbrev pub error_data : List ℕ → Data
-error_data why = object (word (codes "error") why no_members)
+error_data why = object (text_member (codes "error") why no_members)
 
 -- the line of a fault
 unfoldable pub fault_line : Fault → List ℕ
-fault_line fault = line_of (error_data (fault_word fault))
+fault_line fault = json_line (error_data (fault_word fault))

@@ -9,6 +9,11 @@ pub data Cut : Type 0 where
   ended : Cut
   stopped : Cut
 
+-- these lines, and then the rest
+abbrev pub lines_then : List (List ℕ) → Cut → Cut
+lines_then [] rest = rest
+lines_then (bytes ∷ lines) rest = line bytes (lines_then lines rest)
+
 -- the most bytes of a line, its carriage return counted
 abbrev pub line_limit : ℕ
 line_limit = 1024

@@ -37,20 +37,20 @@ circuit_word (circuit.Open since) = codes "open"
 circuit_word (circuit.HalfOpen since serial) = codes "half-open"
 
 -- a member that is a text
-abbrev pub word : List ℕ → List ℕ → Members → Members
-word name text rest = member name (string text) rest
+abbrev pub text_member : List ℕ → List ℕ → Members → Members
+text_member name text rest = member name (string text) rest
 
 -- a member that is a number
-abbrev pub count : List ℕ → ℕ → Members → Members
-count name n rest = member name (number (unsigned n)) rest
+abbrev pub number_member : List ℕ → ℕ → Members → Members
+number_member name n rest = member name (number (unsigned n)) rest
 
 -- the object of a reply that is its name alone
 abbrev pub named : List ℕ → Data
-named name = object (word (codes "reply") name no_members)
+named name = object (text_member (codes "reply") name no_members)
 
 -- the object of a reply of a name and a ticket
 abbrev pub numbered : List ℕ → ℕ → Data
-numbered name ticket = object (word (codes "reply") name (count (codes "ticket") ticket no_members))
+numbered name ticket = object (text_member (codes "reply") name (number_member (codes "ticket") ticket no_members))
 
 -- the names of the kinds of events, in their order
 abbrev pub kind_names : List (List ℕ)
@@ -70,7 +70,7 @@ counts_listed c =
 abbrev pub counts_members : List (List ℕ) → List ℕ → Members
 counts_members [] counts = no_members
 counts_members (name ∷ names) [] = no_members
-counts_members (name ∷ names) (n ∷ counts) = let rest = counts_members names counts in if n == 0 then rest else count name n rest
+counts_members (name ∷ names) (n ∷ counts) = let rest = counts_members names counts in if n == 0 then rest else number_member name n rest
 
 -- the object of the events of the rolling window
 unfoldable pub events_data : Counts → Data
@@ -79,23 +79,23 @@ events_data counts = object (counts_members kind_names (counts_listed counts))
 -- the object of the metrics of a group
 abbrev pub metrics_data : Metrics → Data
 metrics_data m = object (
-    count (codes "busy") m.busy (word (codes "circuit") (circuit_word m.circuit) (count (codes "errors") m.errors (
-    member (codes "events") (events_data m.counts) (count (codes "free") m.free (count (codes "percent") m.percent (
-    count (codes "queued") m.queued (word (codes "reply") (codes "metrics") (count (codes "total") m.total no_members)))))))))
+    number_member (codes "busy") m.busy (text_member (codes "circuit") (circuit_word m.circuit) (number_member (codes "errors") m.errors (
+    member (codes "events") (events_data m.counts) (number_member (codes "free") m.free (number_member (codes "percent") m.percent (
+    number_member (codes "queued") m.queued (text_member (codes "reply") (codes "metrics") (number_member (codes "total") m.total no_members)))))))))
 
 -- the object of the value of a run
 abbrev pub value_data : List ℕ → Data
-value_data body = object (word (codes "body") body (word (codes "reply") (codes "value") no_members))
+value_data body = object (text_member (codes "body") body (text_member (codes "reply") (codes "value") no_members))
 
 -- the object of the value of a fallback
 abbrev pub fallback_value_data : Cause → List ℕ → Data
 fallback_value_data cause body =
-    object (word (codes "body") body (word (codes "cause") (cause_word cause) (word (codes "reply") (codes "fallback-value") no_members)))
+    object (text_member (codes "body") body (text_member (codes "cause") (cause_word cause) (text_member (codes "reply") (codes "fallback-value") no_members)))
 
 -- the object of a request with no value
 abbrev pub error_answer_data : Cause → FallbackFault → Data
 error_answer_data cause fallback =
-    object (word (codes "cause") (cause_word cause) (word (codes "fallback") (fallback_word fallback) (word (codes "reply") (codes "error") no_members)))
+    object (text_member (codes "cause") (cause_word cause) (text_member (codes "fallback") (fallback_word fallback) (text_member (codes "reply") (codes "error") no_members)))
 
 -- the object of the answer to a request
 abbrev pub answer_data : Answer → Data
@@ -107,24 +107,24 @@ answer_data answer.BadRequest = named (codes "bad-request")
 -- the object of a ticket that needs a fallback
 abbrev pub fallback_due_data : ℕ → Cause → Data
 fallback_due_data ticket cause =
-    object (word (codes "cause") (cause_word cause) (word (codes "reply") (codes "fallback-due") (count (codes "ticket") ticket no_members)))
+    object (text_member (codes "cause") (cause_word cause) (text_member (codes "reply") (codes "fallback-due") (number_member (codes "ticket") ticket no_members)))
 
 -- the object of a run that a worker is to do
 abbrev pub assigned_data : ℕ → List ℕ → Data
 assigned_data ticket arg =
-    object (word (codes "arg") arg (word (codes "reply") (codes "assigned") (count (codes "ticket") ticket no_members)))
+    object (text_member (codes "arg") arg (text_member (codes "reply") (codes "assigned") (number_member (codes "ticket") ticket no_members)))
 
 -- the object of how many tickets timed out
 abbrev pub expired_data : ℕ → Data
-expired_data n = object (count (codes "count") n (word (codes "reply") (codes "expired") no_members))
+expired_data n = object (number_member (codes "count") n (text_member (codes "reply") (codes "expired") no_members))
 
 -- the object of a fallback that the holder is to run
 abbrev pub run_fallback_data : Cause → Data
-run_fallback_data cause = object (word (codes "cause") (cause_word cause) (word (codes "reply") (codes "run-fallback") no_members))
+run_fallback_data cause = object (text_member (codes "cause") (cause_word cause) (text_member (codes "reply") (codes "run-fallback") no_members))
 
 -- the object of how many tickets are cached no longer
 abbrev pub closed_data : ℕ → Data
-closed_data n = object (count (codes "released") n (word (codes "reply") (codes "closed") no_members))
+closed_data n = object (number_member (codes "released") n (text_member (codes "reply") (codes "closed") no_members))
 
 -- the object of a reply, its members in the order of their names
 abbrev pub reply_data : Reply → Data
@@ -150,9 +150,9 @@ reply_data reply.Worn = named (codes "worn")
 reply_data reply.NoGroup = named (codes "no-group")
 
 -- a line is the compact text and a line feed
-abbrev pub line_of : Data → List ℕ
-line_of d = compact_text d ++ 10 ∷ []
+abbrev pub json_line : Data → List ℕ
+json_line d = compact_text d ++ 10 ∷ []
 
 -- the line of a reply
 unfoldable pub reply_line : Reply → List ℕ
-reply_line r = line_of (reply_data r)
+reply_line r = json_line (reply_data r)

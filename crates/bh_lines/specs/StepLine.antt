@@ -68,8 +68,8 @@ cache_of (Some c) None = Err faults.Field
 cache_of None (Some k) = Err faults.Field
 
 -- how a fallback ended, by its word: the value stands beside a success, and nothing is read beside another end
-abbrev pub end_of : List ℕ → Data → Result FallbackEnd Fault
-end_of word d =
+abbrev pub fallback_end_of : List ℕ → Data → Result FallbackEnd Fault
+fallback_end_of word d =
     if bytes_eq word (codes "success") then or_fault faults.Field (option_map ends.Success (text_at (codes "body") d)) else
     (if bytes_eq word (codes "failure") then Ok ends.Failure else
     (if bytes_eq word (codes "missing") then Ok ends.Missing else Err faults.Field))
@@ -96,7 +96,7 @@ op_at words.Collect d = do
 op_at words.FallbackDone d = do
   ticket ← or_fault faults.Field (number_at (codes "ticket") d)
   word ← or_fault faults.Field (text_at (codes "end") d)
-  end ← end_of word d
+  end ← fallback_end_of word d
   Ok (op.FallbackDone ticket end)
 op_at words.Close d = do
   context ← or_fault faults.Field (number_at (codes "context") d)
@@ -158,8 +158,8 @@ step_in names None = Err faults.Syntax
 step_in names (Some d) = step_at names d
 
 -- the step that a line says to a service of groups with these names
-unfoldable pub step_of : List (List ℕ) → List ℕ → Result Step Fault
-step_of names bytes = step_in names (read bytes)
+unfoldable pub line_step : List (List ℕ) → List ℕ → Result Step Fault
+line_step names bytes = step_in names (read bytes)
 
 -- the context and the key that the code found
 abbrev pub cache_view : Option (ℕ × Bor (List ℕ)) → Option (ℕ × List ℕ)

@@ -1,5 +1,5 @@
 -- What is taken of the bytes that have come.
-use Rattle.std.specs.Prelude.{◌≡◌, ℕ, ◌<◌, false, List, ◌∷◌, ◌++◌, length, String, string_bytes, Option, Some, None, Result, Ok, Err}
+use Rattle.std.specs.Prelude.{◌≡◌, ◌⊎◌, ℕ, ◌<◌, false, List, ◌∷◌, ◌++◌, length, String, string_bytes, Option, Some, None, Result, Ok, Err}
 use Rattle.std.specs.declared.alloc.Global.{Global}
 use Rattle.bh_lines.specs.declared.port_error.PortError.{PortError}
 use Rattle.bh_lines.specs.declared.port_error.PortError.TheVariants.{Read, Write, Line, Memory}
@@ -8,6 +8,10 @@ use Rattle.bh_lines.specs.Lines.{line, ended, stopped, cut, has_line}
 -- `new` is what stands in `old` behind a line feed
 abbrev pub IsBehindFeed : List ℕ → List ℕ → Type 0
 IsBehindFeed old new = (front : List ℕ) × (old ≡ front ++ 10 ∷ new)
+
+-- `rest` is all of the bytes, or what stands in them behind a line feed
+abbrev pub IsBehind : List ℕ → List ℕ → Type 0
+IsBehind all rest = (rest ≡ all) ⊎ IsBehindFeed all rest
 
 -- what the next line of `old` is, whatever bytes follow, and what is left behind it
 abbrev pub TakesLine : List ℕ → Result (Option (String Global)) PortError → List ℕ → Type 0

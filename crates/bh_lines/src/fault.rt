@@ -32,6 +32,7 @@ pub fn fault_line(alloc: Global, fault: Fault) -> Result<String, AllocError>
     error_line(alloc, fault_word(fault))
 }
 
+/// The word of a fault.
 fn fault_word(fault: Fault) -> &'static str
     ensures { result.now ≡ fault_word fault }
 {

@@ -15,7 +15,7 @@ use fast_float::Numeral;
 use json::{Reader, Scratch, Token};
 use std::alloc::AllocError;
 
-// More than a step has; `is_flat` has the same number.
+/// More than a step has; `is_flat` has the same number.
 const MOST_MEMBERS: usize = 8;
 
 /// A value that holds no others. A number is whole and of 64 bits.
@@ -54,10 +54,9 @@ impl<'a> FlatObject<'a> {
         ensures value { IfOk result (λ object. IfSome object (λ object. read line.now ≡ Some (flat_data object.members.items))) }
     {
         let mut reader = Reader::new(line, scratch)?;
-        match reader.next() {
-            Some(Token::BeginObject) => {}
-            _ => return Ok(None),
-        }
+        let Some(Token::BeginObject) = reader.next() else {
+            return Ok(None);
+        };
         let Some(object) = next_members(&mut reader) else {
             return Ok(None);
         };
@@ -71,11 +70,7 @@ impl<'a> FlatObject<'a> {
     pub fn get(&self, name: &str) -> Option<Scalar<'a>>
         ensures { option_map scalar_data result ≡ get name.now (flat_data self.now.members.items) }
     {
-        let members = self.members.as_slice();
-        let mut left = members.len();
-        while left > 0 {
-            left -= 1;
-            let member = members[left];
+        for member in self.members.as_slice().iter().rev() {
             if name == member.name {
                 return Some(member.value);
             }
@@ -84,7 +79,7 @@ impl<'a> FlatObject<'a> {
     }
 }
 
-// The members up to the bracket that closes their object.
+/// The members up to the bracket that closes their object.
 fn next_members<'a>(reader: &mut Reader<'a>) -> Option<FlatObject<'a>>
     ensures found { MatchOption result (are_members 8 reader.old ≡ false) (λ _. are_members 8 reader.old ≡ is_over reader.new) }
     ensures value { IfSome result (λ object. ReadsMembers object.members.items reader.old reader.new) }
@@ -97,7 +92,7 @@ fn next_members<'a>(reader: &mut Reader<'a>) -> Option<FlatObject<'a>>
     Some(FlatObject { members: found })
 }
 
-// The scalar that is next.
+/// The scalar that is next.
 fn next_scalar<'a>(reader: &mut Reader<'a>) -> Option<Scalar<'a>>
     ensures found { (rest : List JsonToken → Bool) → is_scalar_then rest reader.old ≡ (is_some result && rest reader.new) }
     ensures value { IfSome result (λ scalar. ReadsScalar scalar reader.old reader.new) }
@@ -105,17 +100,14 @@ fn next_scalar<'a>(reader: &mut Reader<'a>) -> Option<Scalar<'a>>
 {
     match reader.next()? {
         Token::String(text) => Some(Scalar::Text(text)),
-        Token::Number(text) => match whole_number(text) {
-            Some(n) => Some(Scalar::Number(n)),
-            None => None,
-        },
+        Token::Number(text) => Some(Scalar::Number(whole_number(text)?)),
         Token::Bool(truth) => Some(Scalar::Truth(truth)),
         Token::Null => Some(Scalar::Null),
         _ => None,
     }
 }
 
-// The number that a number's text says, where it is whole and of 64 bits.
+/// The number that a number's text says, where it is whole and of 64 bits.
 fn whole_number(text: &str) -> Option<u64>
     ensures found { is_some result ≡ is_whole (number_of text.now) }
     ensures value { IfSome result (λ n. number_of text.now ≡ Some (unsigned n)) }
@@ -127,13 +119,14 @@ fn whole_number(text: &str) -> Option<u64>
     whole_numeral(&Numeral::scan(bytes))
 }
 
+/// Whether the text of a number begins with a minus.
 fn has_minus(bytes: &[u8]) -> bool
     ensures { result ≡ (slice_index bytes.now 0 == 45) }
 {
     !bytes.is_empty() && bytes[0] == b'-'
 }
 
-// The number that a numeral without a sign says, where it is whole and of 64 bits.
+/// The number that a numeral without a sign says, where it is whole and of 64 bits.
 fn whole_numeral(numeral: &Numeral<'_>) -> Option<u64>
     ensures found { is_some result ≡ is_whole (number_from false numeral.now) }
     ensures value { IfSome result (λ n. number_from false numeral.now ≡ Some (unsigned n)) }

@@ -13,4 +13,4 @@ mod writing;
 pub use fault::{Fault, fault_line};
 pub use lines::{last_line, next_line};
 pub use port_error::PortError;
-pub use replies::{error_line, line_of, reply_line};
+pub use replies::{error_line, json_line, reply_line};

@@ -16,7 +16,7 @@ use tokio_util::codec::{Decoder, LinesCodec, LinesCodecError};
 /// The most bytes of a line, its carriage return counted.
 pub const LINE_LIMIT: usize = 1024;
 
-// Whether a line, good or refused, stands in front.
+/// Whether a line, good or refused, stands in front.
 fn has_line(bytes: &[u8]) -> bool
     ensures { result ≡ has_line bytes.now }
 {
@@ -34,10 +34,7 @@ pub fn next_line(buffer: &mut BytesMut) -> Result<Option<String>, PortError>
         return Ok(None);
     }
     let mut codec = LinesCodec::new_with_max_length(LINE_LIMIT);
-    match codec.decode(buffer) {
-        Ok(line) => Ok(line),
-        Err(error) => Err(line_error(error)),
-    }
+    Ok(codec.decode(buffer)?)
 }
 
 /// The line that stands at the end of the input with no line feed behind it, less a carriage return at its end, if any
@@ -49,21 +46,24 @@ pub fn last_line(buffer: &mut BytesMut) -> Result<Option<String>, PortError>
     ensures { IsLast buffer.old.items result }
 {
     let mut codec = LinesCodec::new_with_max_length(LINE_LIMIT);
-    match codec.decode_eof(buffer) {
-        Ok(line) => Ok(line),
-        Err(error) => Err(line_error(error)),
-    }
+    Ok(codec.decode_eof(buffer)?)
 }
 
-fn line_error(error: LinesCodecError) -> PortError
-    ensures memory { result ≡ PortError.Memory ↔ IsOutOfMemory {T = ℕ} (Err error) }
-    ensures kinds { IsMemoryOrLine result }
-{
-    match error {
-        LinesCodecError::MaxLineLengthExceeded => PortError::Line,
-        LinesCodecError::Io(error) => match error.kind() {
-            ErrorKind::OutOfMemory => PortError::Memory,
-            _ => PortError::Line,
-        },
+impl From<LinesCodecError> for PortError {
+    ghost use Rattle.std.specs.Prelude.{◌≡◌, ◌↔◌, ℕ, Err};
+    ghost use Rattle.tokio_util.specs.Codec.Lines.{IsOutOfMemory};
+    ghost use Rattle.bh_lines.specs.declared.port_error.PortError.TheVariants.{Memory};
+    ghost use Rattle.bh_lines.specs.Taken.{IsMemoryOrLine};
+
+    ghost from_gives = { λ error refused. (refused ≡ Memory ↔ IsOutOfMemory {T = ℕ} (Err error)) × IsMemoryOrLine refused };
+
+    fn from(error: LinesCodecError) -> PortError {
+        match error {
+            LinesCodecError::MaxLineLengthExceeded => PortError::Line,
+            LinesCodecError::Io(error) => match error.kind() {
+                ErrorKind::OutOfMemory => PortError::Memory,
+                _ => PortError::Line,
+            },
+        }
     }
 }

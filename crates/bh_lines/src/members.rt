@@ -71,6 +71,7 @@ impl<'a> Members<'a> {
     }
 }
 
+/// The value, where it is a text.
 fn scalar_text(scalar: Scalar<'_>) -> Option<&str>
     ensures { option_map (λ s. s.now) result ≡ as_str (scalar_data scalar.entry) }
 {
@@ -80,6 +81,7 @@ fn scalar_text(scalar: Scalar<'_>) -> Option<&str>
     }
 }
 
+/// The value, where it is a number.
 fn scalar_number(scalar: Scalar<'_>) -> Option<u64>
     ensures { result ≡ option_and_then as_u64 (as_number (scalar_data scalar.entry)) }
 {
@@ -89,6 +91,7 @@ fn scalar_number(scalar: Scalar<'_>) -> Option<u64>
     }
 }
 
+/// The value, where it is a truth value.
 fn scalar_truth(scalar: Scalar<'_>) -> Option<bool>
     ensures { result ≡ as_bool (scalar_data scalar.entry) }
 {

@@ -1,5 +1,6 @@
 //! Why a script ended before its input did.
 
+use std::alloc::AllocError;
 use thiserror::Error;
 
 /// Why a script ended before its input did.
@@ -17,4 +18,15 @@ pub enum PortError {
     /// Memory was refused.
     #[error("fault: memory")]
     Memory,
+}
+
+impl From<AllocError> for PortError {
+    ghost use Rattle.std.specs.Prelude.{◌≡◌};
+    ghost use Rattle.bh_lines.specs.declared.port_error.PortError.TheVariants.{Memory};
+
+    ghost from_gives = { λ _ error. error ≡ Memory };
+
+    fn from(_refused: AllocError) -> PortError {
+        PortError::Memory
+    }
 }

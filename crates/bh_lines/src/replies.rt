@@ -6,7 +6,7 @@ ghost use Rattle.json.specs.Token.{end_object};
 ghost use Rattle.json.specs.Tree.{members_tokens};
 ghost use Rattle.serde_json.specs.View.{view};
 ghost use Rattle.serde_json.specs.Written.{has_float, members_outline};
-ghost use Rattle.bh_lines.specs.ReplyLine.{cause_word, fallback_word, circuit_word, kind_names, named, numbered, fallback_due_data, assigned_data, expired_data, run_fallback_data, closed_data, value_data, fallback_value_data, error_answer_data, events_data, metrics_data, answer_data, reply_data, line_of, reply_line};
+ghost use Rattle.bh_lines.specs.ReplyLine.{cause_word, fallback_word, circuit_word, kind_names, named, numbered, fallback_due_data, assigned_data, expired_data, run_fallback_data, closed_data, value_data, fallback_value_data, error_answer_data, events_data, metrics_data, answer_data, reply_data, json_line, reply_line};
 ghost use Rattle.bh_lines.specs.FaultLine.{error_data};
 ghost use Rattle.bh_lines.specs.Sent.{Sends, data_tokens, counts_tokens};
 
@@ -18,7 +18,7 @@ use json::Writer;
 use serde_json::Value;
 use std::alloc::{AllocError, Global};
 
-// So many bytes are asked for a line at first.
+/// So many bytes are asked for a line at first.
 const LINE_ROOM: usize = 128;
 
 /// The line of a reply, with its line feed. It fails only for want of memory.
@@ -34,7 +34,7 @@ pub fn reply_line(alloc: Global, reply: &Reply) -> Result<String, AllocError>
 /// The line that says why nothing was done, with its line feed: an object whose one member `error` is the text. It fails
 /// only for want of memory.
 pub fn error_line(alloc: Global, why: &str) -> Result<String, AllocError>
-    ensures { IfOk result (λ s. string_bytes s ≡ line_of (error_data why.now)) }
+    ensures { IfOk result (λ s. string_bytes s ≡ json_line (error_data why.now)) }
 {
     let mut writer = Writer::new(Vec::with_capacity(alloc, LINE_ROOM)?);
     let members = [Member::Text("error", why)];
@@ -42,7 +42,7 @@ pub fn error_line(alloc: Global, why: &str) -> Result<String, AllocError>
     into_line(writer)
 }
 
-// What the writer printed, and a line feed.
+/// What the writer printed, and a line feed.
 fn into_line(writer: Writer) -> Result<String, AllocError>
     requires { writer.before ≡ [] }
     ensures { IfOk result (λ s. string_bytes s ≡ (writer.before ++ print writer.tokens) ++ 10 ∷ []) }
@@ -53,15 +53,16 @@ fn into_line(writer: Writer) -> Result<String, AllocError>
 }
 
 /// The compact text of a value with no float, and a line feed. It fails only for want of memory.
-pub fn line_of(alloc: Global, value: &Value) -> Result<String, AllocError>
+pub fn json_line(alloc: Global, value: &Value) -> Result<String, AllocError>
     requires { has_float (view value.now) ≡ false }
-    ensures { IfOk result (λ s. string_bytes s ≡ line_of (view value.now)) }
+    ensures { IfOk result (λ s. string_bytes s ≡ json_line (view value.now)) }
 {
     let mut line = value.to_string(alloc)?;
     line.push('\n')?;
     Ok(line)
 }
 
+/// The object of a reply.
 fn write_reply(writer: &mut Writer, reply: &Reply) -> Result<(), AllocError>
     ensures { OnOk result (Sends writer.old writer.new (data_tokens (reply_data reply.now))) }
 {
@@ -89,7 +90,7 @@ fn write_reply(writer: &mut Writer, reply: &Reply) -> Result<(), AllocError>
     }
 }
 
-// A reply that is its name alone.
+/// A reply that is its name alone.
 fn write_named(writer: &mut Writer, name: &str) -> Result<(), AllocError>
     ensures { OnOk result (Sends writer.old writer.new (data_tokens (named name.now))) }
 {
@@ -97,7 +98,7 @@ fn write_named(writer: &mut Writer, name: &str) -> Result<(), AllocError>
     write_object(writer, &members)
 }
 
-// A reply of a name and a ticket.
+/// A reply of a name and a ticket.
 fn write_numbered(writer: &mut Writer, name: &str, ticket: u64) -> Result<(), AllocError>
     ensures { OnOk result (Sends writer.old writer.new (data_tokens (numbered name.now ticket))) }
 {
@@ -108,6 +109,7 @@ fn write_numbered(writer: &mut Writer, name: &str, ticket: u64) -> Result<(), Al
     write_object(writer, &members)
 }
 
+/// A ticket that needs a fallback.
 fn write_fallback_due(writer: &mut Writer, ticket: u64, cause: Cause) -> Result<(), AllocError>
     ensures { OnOk result (Sends writer.old writer.new (data_tokens (fallback_due_data ticket cause))) }
 {
@@ -119,6 +121,7 @@ fn write_fallback_due(writer: &mut Writer, ticket: u64, cause: Cause) -> Result<
     write_object(writer, &members)
 }
 
+/// A run that a worker is to do.
 fn write_assigned(writer: &mut Writer, ticket: u64, arg: &str) -> Result<(), AllocError>
     ensures { OnOk result (Sends writer.old writer.new (data_tokens (assigned_data ticket arg.now))) }
 {
@@ -130,6 +133,7 @@ fn write_assigned(writer: &mut Writer, ticket: u64, arg: &str) -> Result<(), All
     write_object(writer, &members)
 }
 
+/// How many tickets timed out.
 fn write_expired(writer: &mut Writer, count: u64) -> Result<(), AllocError>
     ensures { OnOk result (Sends writer.old writer.new (data_tokens (expired_data count))) }
 {
@@ -140,6 +144,7 @@ fn write_expired(writer: &mut Writer, count: u64) -> Result<(), AllocError>
     write_object(writer, &members)
 }
 
+/// A fallback that the holder is to run.
 fn write_run_fallback(writer: &mut Writer, cause: Cause) -> Result<(), AllocError>
     ensures { OnOk result (Sends writer.old writer.new (data_tokens (run_fallback_data cause))) }
 {
@@ -150,6 +155,7 @@ fn write_run_fallback(writer: &mut Writer, cause: Cause) -> Result<(), AllocErro
     write_object(writer, &members)
 }
 
+/// How many tickets are cached no longer.
 fn write_closed(writer: &mut Writer, count: u64) -> Result<(), AllocError>
     ensures { OnOk result (Sends writer.old writer.new (data_tokens (closed_data count))) }
 {
@@ -160,6 +166,7 @@ fn write_closed(writer: &mut Writer, count: u64) -> Result<(), AllocError>
     write_object(writer, &members)
 }
 
+/// The answer to a request.
 fn write_answer(writer: &mut Writer, answer: &Answer) -> Result<(), AllocError>
     ensures { OnOk result (Sends writer.old writer.new (data_tokens (answer_data answer.now))) }
 {
@@ -175,6 +182,7 @@ fn write_answer(writer: &mut Writer, answer: &Answer) -> Result<(), AllocError>
     }
 }
 
+/// The value of a run.
 fn write_value(writer: &mut Writer, body: &str) -> Result<(), AllocError>
     ensures { OnOk result (Sends writer.old writer.new (data_tokens (value_data body.now))) }
 {
@@ -182,6 +190,7 @@ fn write_value(writer: &mut Writer, body: &str) -> Result<(), AllocError>
     write_object(writer, &members)
 }
 
+/// The value of a fallback.
 fn write_fallback_value(writer: &mut Writer, cause: Cause, body: &str) -> Result<(), AllocError>
     ensures { OnOk result (Sends writer.old writer.new (data_tokens (fallback_value_data cause body.now))) }
 {
@@ -193,6 +202,7 @@ fn write_fallback_value(writer: &mut Writer, cause: Cause, body: &str) -> Result
     write_object(writer, &members)
 }
 
+/// A request with no value.
 fn write_error(writer: &mut Writer, cause: Cause, fallback: FallbackFault) -> Result<(), AllocError>
     ensures { OnOk result (Sends writer.old writer.new (data_tokens (error_answer_data cause fallback))) }
 {
@@ -204,6 +214,7 @@ fn write_error(writer: &mut Writer, cause: Cause, fallback: FallbackFault) -> Re
     write_object(writer, &members)
 }
 
+/// The metrics of a group.
 fn write_metrics(writer: &mut Writer, metrics: &Metrics) -> Result<(), AllocError>
     ensures { OnOk result (Sends writer.old writer.new (data_tokens (metrics_data metrics.now))) }
 {
@@ -227,7 +238,7 @@ fn write_metrics(writer: &mut Writer, metrics: &Metrics) -> Result<(), AllocErro
     end_object(writer)
 }
 
-// The names of the kinds of events, in their order.
+/// The names of the kinds of events, in their order.
 const KIND_NAMES: [&str; 13] = [
     "BAD_REQUEST",
     "EXCEPTION_THROWN",
@@ -244,7 +255,7 @@ const KIND_NAMES: [&str; 13] = [
     "TIMEOUT",
 ];
 
-// Each kind of event that there was, and how often.
+/// Each kind of event that there was, and how often.
 fn write_events(writer: &mut Writer, counts: &Counts) -> Result<(), AllocError>
     ensures { OnOk result (Sends writer.old writer.new (data_tokens (events_data counts.now))) }
 {
@@ -268,27 +279,29 @@ fn write_events(writer: &mut Writer, counts: &Counts) -> Result<(), AllocError>
     end_object(writer)
 }
 
-// A member for each count under its name, unless it is 0.
+/// A member for each count under its name, unless it is 0.
 fn write_counts(writer: &mut Writer, names: &[&str], counts: &[u64]) -> Result<(), AllocError>
     requires { length names.now ≡ length counts.now }
     ensures { OnOk result (Sends writer.old writer.new (counts_tokens (map (λ name. name.now) names.now) counts.now)) }
 {
-    for i in 0..names.len() {
-        write_count(writer, names[i], counts[i])?;
+    for (name, count) in names.iter().zip(counts) {
+        write_count(writer, name, *count)?;
     }
     Ok(())
 }
 
-// The count under the name, unless it is 0.
+/// The count under the name, unless it is 0.
 fn write_count(writer: &mut Writer, name: &str, count: u64) -> Result<(), AllocError>
     ensures { OnOk result (Sends writer.old writer.new (counts_tokens (name.now ∷ []) (count ∷ []))) }
 {
     if count > 0 {
-        return write_number(writer, name, count);
+        write_number(writer, name, count)
+    } else {
+        Ok(())
     }
-    Ok(())
 }
 
+/// The word of the cause of a fallback.
 fn cause_word(cause: Cause) -> &'static str
     ensures { result.now ≡ cause_word cause }
 {
@@ -301,6 +314,7 @@ fn cause_word(cause: Cause) -> &'static str
     }
 }
 
+/// The word of the reason why no fallback gave a value.
 fn fallback_word(fault: FallbackFault) -> &'static str
     ensures { result.now ≡ fallback_word fault }
 {
@@ -312,6 +326,7 @@ fn fallback_word(fault: FallbackFault) -> &'static str
     }
 }
 
+/// The word of the state of a circuit.
 fn circuit_word(circuit: CircuitState) -> &'static str
     ensures { result.now ≡ circuit_word circuit }
 {

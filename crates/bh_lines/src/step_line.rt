@@ -3,7 +3,7 @@
 ghost use Rattle.std.specs.Prelude.{◌≡◌, Ok, if◌then◌else◌, Err, codes};
 ghost use Rattle.serde_json.specs.Find.{get};
 ghost use Rattle.bh_lines.specs.Flat.{members_data};
-ghost use Rattle.bh_lines.specs.StepLine.{op_word, cache_of, op_at, if_short, said_at, op_view, cache_view, found_op, found_cache, found_said, is_short_name, end_of, end_view, found_end, is_short_end};
+ghost use Rattle.bh_lines.specs.StepLine.{op_word, cache_of, op_at, if_short, said_at, op_view, cache_view, found_op, found_cache, found_said, is_short_name, fallback_end_of, end_view, found_end, is_short_end};
 
 use crate::fault::Fault;
 use crate::members::Members;
@@ -82,6 +82,7 @@ pub fn said_at(members: Members<'_>) -> Result<StepLine<'_>, Fault>
     Ok(StepLine { group, now, op })
 }
 
+/// The operation that a line names by this word.
 fn op_word(word: &str) -> Option<OpWord>
     ensures { result ≡ op_word word.now }
 {
@@ -123,7 +124,7 @@ pub fn op_at(word: OpWord, members: Members<'_>) -> Result<OpLine<'_>, Fault>
         },
         OpWord::FallbackDone => OpLine::FallbackDone {
             ticket: members.number("ticket").ok_or(Fault::Field)?,
-            end: end_of(members.text("end").ok_or(Fault::Field)?, members)?,
+            end: fallback_end_of(members.text("end").ok_or(Fault::Field)?, members)?,
         },
         OpWord::Close => OpLine::Close {
             context: members.number("context").ok_or(Fault::Field)?,
@@ -132,9 +133,9 @@ pub fn op_at(word: OpWord, members: Members<'_>) -> Result<OpLine<'_>, Fault>
     })
 }
 
-// How a fallback ended, by its word; only a success has a body.
-fn end_of<'a>(word: &str, members: Members<'a>) -> Result<EndLine<'a>, Fault>
-    ensures { found_end result ≡ end_of word.now (members_data members.entry) }
+/// How a fallback ended, by its word; only a success has a body.
+fn fallback_end_of<'a>(word: &str, members: Members<'a>) -> Result<EndLine<'a>, Fault>
+    ensures { found_end result ≡ fallback_end_of word.now (members_data members.entry) }
 {
     match word {
         "success" => match members.text("body") {
@@ -213,7 +214,7 @@ pub fn short_name(cache: Option<(u64, &str)>) -> Result<Option<(u64, Text<32>)>,
     }
 }
 
-// How the fallback ended, unless its value is too long.
+/// How the fallback ended, unless its value is too long.
 fn short_end(end: EndLine<'_>) -> Result<FallbackEnd, Fault>
     ensures { result ≡ (if is_short_end (end_view end.entry) then Ok (end_view end.entry) else Err Fault.Long) }
 {

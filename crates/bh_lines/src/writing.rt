@@ -7,14 +7,14 @@ ghost use Rattle.bh_lines.specs.Sent.{Sends, member_tokens};
 use json::Writer;
 use std::alloc::AllocError;
 
-// A member of an object: its name, and a text or a number.
+/// A member of an object: its name, and a text or a number.
 #[derive(Clone, Copy, Debug)]
 pub enum Member<'a> {
     Text(&'a str, &'a str),
     Number(&'a str, u64),
 }
 
-// An object of the members, in their order.
+/// An object of the members, in their order.
 pub fn write_object(writer: &mut Writer, members: &[Member<'_>]) -> Result<(), AllocError>
     ensures { OnOk result (Sends writer.old writer.new (begin_object ∷ (member_tokens members.now ++ end_object ∷ []))) }
 {
@@ -23,28 +23,28 @@ pub fn write_object(writer: &mut Writer, members: &[Member<'_>]) -> Result<(), A
     end_object(writer)
 }
 
-// The opening bracket of an object.
+/// The opening bracket of an object.
 pub fn begin_object(writer: &mut Writer) -> Result<(), AllocError>
     ensures { OnOk result (Sends writer.old writer.new (begin_object ∷ [])) }
 {
     writer.begin_object()
 }
 
-// The closing bracket of an object.
+/// The closing bracket of an object.
 pub fn end_object(writer: &mut Writer) -> Result<(), AllocError>
     ensures { OnOk result (Sends writer.old writer.new (end_object ∷ [])) }
 {
     writer.end_object()
 }
 
-// The name of a member whose value is written next.
+/// The name of a member whose value is written next.
 pub fn write_key(writer: &mut Writer, name: &str) -> Result<(), AllocError>
     ensures { OnOk result (Sends writer.old writer.new (key name.now ∷ [])) }
 {
     writer.key(name)
 }
 
-// The members of an object that has begun.
+/// The members of an object that has begun.
 pub fn write_members(writer: &mut Writer, members: &[Member<'_>]) -> Result<(), AllocError>
     ensures { OnOk result (Sends writer.old writer.new (member_tokens members.now)) }
 {
@@ -54,6 +54,7 @@ pub fn write_members(writer: &mut Writer, members: &[Member<'_>]) -> Result<(), 
     Ok(())
 }
 
+/// A member: its name, and its value.
 fn write_member(writer: &mut Writer, member: Member<'_>) -> Result<(), AllocError>
     ensures { OnOk result (Sends writer.old writer.new (member_tokens (member.entry ∷ []))) }
 {
@@ -63,6 +64,7 @@ fn write_member(writer: &mut Writer, member: Member<'_>) -> Result<(), AllocErro
     }
 }
 
+/// A member that is a text.
 fn write_text(writer: &mut Writer, name: &str, text: &str) -> Result<(), AllocError>
     ensures { OnOk result (Sends writer.old writer.new (key name.now ∷ string text.now ∷ [])) }
 {
@@ -70,7 +72,7 @@ fn write_text(writer: &mut Writer, name: &str, text: &str) -> Result<(), AllocEr
     writer.string(text)
 }
 
-// A member that is a number.
+/// A member that is a number.
 pub fn write_number(writer: &mut Writer, name: &str, n: u64) -> Result<(), AllocError>
     ensures { OnOk result (Sends writer.old writer.new (key name.now ∷ number (decimal n) ∷ [])) }
 {

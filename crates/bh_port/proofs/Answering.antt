@@ -1,8 +1,5 @@
 -- A run of answers, from the bytes that had come to those that are left.
-use Rattle.std.proofs.Common.{◌≡◌, ℕ, ◌≤◌, min, List, [], length, take, ◌++◌, Option, Some, None, Result, Ok, Err, IfErr, String, string_bytes, arith, refl, sym, ◌∙◌, subst, ap, append-nil, append_assoc}
-use Rattle.std.proofs.lemmas.Grind.{common_steps}
-use Rattle.std.proofs.lemmas.List.{take-append-le}
-use Rattle.std.proofs.Math.Seq.{take-length}
+use Rattle.std.proofs.Common.{◌≡◌, ℕ, min, List, [], take, ◌++◌, Option, Some, None, Result, Ok, Err, IfErr, String, string_bytes, refl, sym, ◌∙◌, subst, ap, append-nil, append_assoc}
 use Rattle.std.proofs.KnownBytes.{Appends-trans, Appends-nil}
 use Rattle.std.specs.Io.KnownBytes.{Appends}
 use Rattle.std.specs.declared.alloc.Global.{Global}
@@ -11,30 +8,20 @@ use Rattle.bh_core.specs.Groups.{Groups}
 use Rattle.bh_lines.specs.declared.port_error.PortError.{PortError}
 use Rattle.bh_lines.specs.declared.port_error.PortError.TheVariants.{Read, Write, Line, Memory}
 use Rattle.bh_lines.specs.Lines.{Cut, line, ended, cut, stops}
-use Rattle.bh_lines.specs.StepLine.{step_of}
+use Rattle.bh_lines.specs.StepLine.{line_step}
 use Rattle.bh_lines.specs.Taken.{TakesLine, IsLast, IsMemoryOrLine}
 use Rattle.bh_streams.specs.Watched.{WritesFront}
+use Rattle.bh_streams.proofs.Fronts.{front-of-more, whole-front, take-front}
 use Rattle.bh_port.specs.Text.{names_in, answer_to, steps_with, text}
-use Rattle.bh_port.specs.Port.{Agrees, AnswersLine, Answered, Outcome}
+use Rattle.bh_port.specs.Script.{GroupsShow, AnswersLine, ScriptAnswered, ScriptOutcome}
 use Rattle.bh_port.proofs.TextLaws.{text-line, text-ended, text-stopped}
 use Rattle.bh_props.specs.Settings.{GroupSettings}
-
-fits-in-front : (n : ℕ) (bytes more : List ℕ) → take n bytes ≡ take (min n (length bytes)) (bytes ++ more)
-fits-in-front n bytes more =
-    let low : min n (length bytes) ≤ length bytes = omega arith in
-    rw take-append-le (grind (arith, common_steps))
-
-pub front-of-more : (a b : Option (List ℕ)) (bytes more : List ℕ) → WritesFront a b bytes → WritesFront a b (bytes ++ more)
-front-of-more a b bytes more w = (min w.0 (length bytes), subst (λ (ys : List ℕ). Appends a b ys) (fits-in-front w.0 bytes more) w.1)
-
--- all of it is a front of it, and of what it begins
-pub whole-front : (a b : Option (List ℕ)) (bytes more : List ℕ) → Appends a b bytes → WritesFront a b (bytes ++ more)
-whole-front a b bytes more h = front-of-more a b bytes more (length bytes, subst (λ (ys : List ℕ). Appends a b ys) (sym (take-length bytes)) h)
 
 kept-appends : (old new : List ℕ) → new ≡ old → Appends (Some old) (Some new) []
 kept-appends old new kept = kept ∙ sym (append-nil old)
 
-pub answered-none : (a : Option (List ℕ)) (service : GroupSettings) (before : List Step) (core : Groups) (old : List ℕ) → Agrees service core before → Answered a a service before core old old
+-- nothing was answered yet
+pub answered-none : (a : Option (List ℕ)) (service : GroupSettings) (before : List Step) (core : Groups) (old : List ℕ) → GroupsShow service core before → ScriptAnswered a a service before core old old
 answered-none a service before core old agrees = record {
   out = [];
   later = before;
@@ -45,10 +32,10 @@ answered-none a service before core old agrees = record {
 }
 
 answered-one : (o m n : List ℕ) (service : GroupSettings) (before : List Step) (was now : Groups) (old mid new : List ℕ) (s : String Global)
-    → (done : Answered (Some o) (Some m) service before was old mid) → TakesLine mid (Ok (Some s)) new → AnswersLine service done.later (string_bytes s) now m n
-    → Answered (Some o) (Some n) service before now old new
+    → (done : ScriptAnswered (Some o) (Some m) service before was old mid) → TakesLine mid (Ok (Some s)) new → AnswersLine service done.later (string_bytes s) now m n
+    → ScriptAnswered (Some o) (Some n) service before now old new
 answered-one o m n service before was now old mid new s done taken answer =
-    let said = step_of (names_in service) (string_bytes s) in
+    let said = line_step (names_in service) (string_bytes s) in
     let reply = answer_to service done.later said in record {
       out = done.out ++ reply;
       later = steps_with done.later said;
@@ -64,11 +51,12 @@ answered-one o m n service before was now old mid new s done taken answer =
 
 -- what a line does, whatever came before
 abbrev pub DoesLine : GroupSettings → Groups → List ℕ → Groups → List ℕ → List ℕ → Type 0
-DoesLine service was bytes now m n = (before : List Step) → Agrees service was before → AnswersLine service before bytes now m n
+DoesLine service was bytes now m n = (before : List Step) → GroupsShow service was before → AnswersLine service before bytes now m n
 
+-- one line more was taken and answered
 pub answered-found : (o m n : List ℕ) (service : GroupSettings) (before : List Step) (was now : Groups) (old mid new bytes : List ℕ) (found : Option (String Global)) (s : String Global)
-    → Answered (Some o) (Some m) service before was old mid → found ≡ Some s → TakesLine mid (Ok found) new → bytes ≡ string_bytes s → DoesLine service was bytes now m n
-    → Answered (Some o) (Some n) service before now old new
+    → ScriptAnswered (Some o) (Some m) service before was old mid → found ≡ Some s → TakesLine mid (Ok found) new → bytes ≡ string_bytes s → DoesLine service was bytes now m n
+    → ScriptAnswered (Some o) (Some n) service before now old new
 answered-found o m n service before was now old mid new bytes found s done is taken same does =
     answered-one o m n service before was now old mid new s done
     (subst (λ (f : Option (String Global)). TakesLine mid (Ok f) new) is taken)
@@ -76,7 +64,7 @@ answered-found o m n service before was now old mid new bytes found s done is ta
 
 -- no line could be taken
 pub refused-next : (a b : Option (List ℕ)) (service : GroupSettings) (before : List Step) (core : Groups) (old mid new more : List ℕ) (e : PortError)
-    → Answered a b service before core old mid → TakesLine mid (Err e) new → Outcome a b service before (cut (old ++ more)) (Err e)
+    → ScriptAnswered a b service before core old mid → TakesLine mid (Err e) new → ScriptOutcome a b service before (cut (old ++ more)) (Err e)
 refused-next a b service before core old mid new more Line done taken =
     let all : text service before (cut (old ++ more)) ≡ done.out =
     done.text_is more ∙ ap (λ k. done.out ++ text service done.later k) (taken more) ∙ ap (λ ys. done.out ++ ys) (text-stopped service done.later) ∙ append-nil done.out in
@@ -88,32 +76,35 @@ refused-next a b service before core old mid new more Write done taken = absurd 
 
 -- a line was taken, and there was no memory to answer it
 pub unanswered : (o m n : List ℕ) (service : GroupSettings) (before : List Step) (core : Groups) (old mid more : List ℕ)
-    → Answered (Some o) (Some m) service before core old mid → n ≡ m → Outcome (Some o) (Some n) service before (cut (old ++ more)) (Err Memory)
+    → ScriptAnswered (Some o) (Some m) service before core old mid → n ≡ m → ScriptOutcome (Some o) (Some n) service before (cut (old ++ more)) (Err Memory)
 unanswered o m n service before core old mid more done kept =
     let wrote : Appends (Some o) (Some n) done.out = subst (λ (ys : List ℕ). Appends (Some o) (Some ys) done.out) (sym kept) done.wrote in
     subst (λ (ys : List ℕ). WritesFront (Some o) (Some n) ys) (sym (done.text_is more)) (whole-front (Some o) (Some n) done.out _ wrote)
 
 -- the last line of an input
 pub last-found : (o n : List ℕ) (service : GroupSettings) (before : List Step) (was now : Groups) (rest bytes : List ℕ) (found : Option (String Global)) (s : String Global) (x : Unit {0})
-    → found ≡ Some s → IsLast rest (Ok found) → bytes ≡ string_bytes s → DoesLine service was bytes now o n → Agrees service was before
-    → Outcome (Some o) (Some n) service before (cut rest) (Ok x)
+    → found ≡ Some s → IsLast rest (Ok found) → bytes ≡ string_bytes s → DoesLine service was bytes now o n → GroupsShow service was before
+    → ScriptOutcome (Some o) (Some n) service before (cut rest) (Ok x)
 last-found o n service before was now rest bytes found s x is last same does agrees =
-    let said = step_of (names_in service) bytes in
+    let said = line_step (names_in service) bytes in
     let is_line : cut rest ≡ line bytes ended = subst (λ (f : Option (String Global)). IsLast rest (Ok f)) is last ∙ ap (λ ys. line ys ended) (sym same) in
     let all : text service before (cut rest) ≡ answer_to service before said =
     ap (text service before) is_line ∙ text-line service before bytes ended ∙ ap (λ ys. answer_to service before said ++ ys) (text-ended service (steps_with before said)) ∙ append-nil _ in
     (subst (λ (ys : List ℕ). Appends (Some o) (Some n) ys) (sym all) (does before agrees).wrote, ap stops is_line)
 
-pub last-unanswered : (o n : List ℕ) (service : GroupSettings) (before : List Step) (c : Cut) → n ≡ o → Outcome (Some o) (Some n) service before c (Err Memory)
+-- there was no memory to answer the last line
+pub last-unanswered : (o n : List ℕ) (service : GroupSettings) (before : List Step) (c : Cut) → n ≡ o → ScriptOutcome (Some o) (Some n) service before c (Err Memory)
 last-unanswered o n service before c kept = (0, kept-appends o n kept)
 
+-- there is no last line
 pub last-none : (o : List ℕ) (service : GroupSettings) (before : List Step) (rest : List ℕ) (found : Option (String Global)) (x : Unit {0})
-    → found ≡ None → IsLast rest (Ok found) → Outcome (Some o) (Some o) service before (cut rest) (Ok x)
+    → found ≡ None → IsLast rest (Ok found) → ScriptOutcome (Some o) (Some o) service before (cut rest) (Ok x)
 last-none o service before rest found x is last =
     let is_end : cut rest ≡ ended = subst (λ (f : Option (String Global)). IsLast rest (Ok f)) is last in
     (subst (λ (ys : List ℕ). Appends (Some o) (Some o) ys) (sym (ap (text service before) is_end ∙ text-ended service before)) (Appends-nil (Some o)), ap stops is_end)
 
-pub last-refused : (o : List ℕ) (service : GroupSettings) (before : List Step) (rest : List ℕ) (e : PortError) → IsLast rest (Err e) → Outcome (Some o) (Some o) service before (cut rest) (Err e)
+-- the last line is refused, or memory was wanting
+pub last-refused : (o : List ℕ) (service : GroupSettings) (before : List Step) (rest : List ℕ) (e : PortError) → IsLast rest (Err e) → ScriptOutcome (Some o) (Some o) service before (cut rest) (Err e)
 last-refused o service before rest Line last =
     (subst (λ (ys : List ℕ). Appends (Some o) (Some o) ys) (sym (ap (text service before) last ∙ text-stopped service before)) (Appends-nil (Some o)), ap stops last)
 last-refused o service before rest Memory last = (0, Appends-nil (Some o))
@@ -122,8 +113,9 @@ last-refused o service before rest Write last = absurd last
 
 -- What was answered from nothing on is then written, or a front of it.
 
+-- all of the answers to the lines that had ended
 pub written-answered : (items : List ℕ) (w0 w1 : Option (List ℕ)) (service : GroupSettings) (before : List Step) (core : Groups) (old new : List ℕ)
-    → Answered (Some []) (Some items) service before core old new → Appends w0 w1 items → Answered w0 w1 service before core old new
+    → ScriptAnswered (Some []) (Some items) service before core old new → Appends w0 w1 items → ScriptAnswered w0 w1 service before core old new
 written-answered items w0 w1 service before core old new done wrote = record {
   out = done.out;
   later = done.later;
@@ -133,19 +125,18 @@ written-answered items w0 w1 service before core old new done wrote = record {
   stops_is = done.stops_is;
 }
 
-take-front : (m n : ℕ) (bytes : List ℕ) → take m (take n bytes) ≡ take (min m n) bytes
-take-front m n bytes = grind (arith, common_steps)
-
+-- all that a run had answered
 pub written : (items : List ℕ) (w0 w1 : Option (List ℕ)) (service : GroupSettings) (before : List Step) (c : Cut) (r : Result (Unit {0}) PortError)
-    → Outcome (Some []) (Some items) service before c r → IfErr r IsMemoryOrLine → Appends w0 w1 items → Outcome w0 w1 service before c r
+    → ScriptOutcome (Some []) (Some items) service before c r → IfErr r IsMemoryOrLine → Appends w0 w1 items → ScriptOutcome w0 w1 service before c r
 written items w0 w1 service before c (Ok x) o kind wrote = (subst (λ (ys : List ℕ). Appends w0 w1 ys) o.0 wrote, o.1)
 written items w0 w1 service before c (Err Line) o kind wrote = (subst (λ (ys : List ℕ). Appends w0 w1 ys) o.0 wrote, o.1)
 written items w0 w1 service before c (Err Memory) o kind wrote = (o.0, subst (λ (ys : List ℕ). Appends w0 w1 ys) o.1 wrote)
 written items w0 w1 service before c (Err Read) o kind wrote = absurd kind
 written items w0 w1 service before c (Err Write) o kind wrote = absurd kind
 
+-- a front of what a run had answered
 pub unwritten : (items : List ℕ) (w0 w1 : Option (List ℕ)) (service : GroupSettings) (before : List Step) (c : Cut) (r : Result (Unit {0}) PortError)
-    → Outcome (Some []) (Some items) service before c r → IfErr r IsMemoryOrLine → WritesFront w0 w1 items → WritesFront w0 w1 (text service before c)
+    → ScriptOutcome (Some []) (Some items) service before c r → IfErr r IsMemoryOrLine → WritesFront w0 w1 items → WritesFront w0 w1 (text service before c)
 unwritten items w0 w1 service before c (Ok x) o kind front = subst (λ (ys : List ℕ). WritesFront w0 w1 ys) o.0 front
 unwritten items w0 w1 service before c (Err Line) o kind front = subst (λ (ys : List ℕ). WritesFront w0 w1 ys) o.0 front
 unwritten items w0 w1 service before c (Err Memory) o kind front =
@@ -154,7 +145,8 @@ unwritten items w0 w1 service before c (Err Memory) o kind front =
 unwritten items w0 w1 service before c (Err Read) o kind front = absurd kind
 unwritten items w0 w1 service before c (Err Write) o kind front = absurd kind
 
+-- a front of the answers to the lines that had ended
 pub unwritten-answered : (items : List ℕ) (w0 w1 : Option (List ℕ)) (service : GroupSettings) (before : List Step) (core : Groups) (old new more : List ℕ)
-    → Answered (Some []) (Some items) service before core old new → WritesFront w0 w1 items → WritesFront w0 w1 (text service before (cut (old ++ more)))
+    → ScriptAnswered (Some []) (Some items) service before core old new → WritesFront w0 w1 items → WritesFront w0 w1 (text service before (cut (old ++ more)))
 unwritten-answered items w0 w1 service before core old new more done front =
     subst (λ (ys : List ℕ). WritesFront w0 w1 ys) (sym (done.text_is more)) (front-of-more w0 w1 done.out _ (subst (λ (ys : List ℕ). WritesFront w0 w1 ys) done.wrote front))

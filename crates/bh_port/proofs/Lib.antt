@@ -1,4 +1,3 @@
-pub mod Named
 pub mod TextLaws
 pub mod OwnSteps
 pub mod Answering

@@ -8,10 +8,11 @@ use Rattle.bh_base.specs.declared.step.Step.{Step}
 use Rattle.bh_base.specs.declared.reply.Reply.{Reply}
 use Rattle.bh_base.specs.Runs.{State, View, IsSound, view, opened, step, state_after, own}
 use Rattle.bh_core.specs.Groups.{Groups, Shows}
+use Rattle.bh_core.specs.Step.{IsStep}
 use Rattle.bh_props.specs.Settings.{GroupSettings}
 use Rattle.bh_port.specs.Text.{step_limit}
 use Rattle.bh_port.specs.Text.{opened_group, group_after, reply_of, reply_to}
-use Rattle.bh_port.specs.Port.{Agrees}
+use Rattle.bh_port.specs.Script.{GroupsShow}
 
 state_after-push : (s : State) (xs : List Step) (x : Step) → state_after s (xs ++ x ∷ []) ≡ (step (state_after s xs) x.op x.now).state
 state_after-push s [] x = refl
@@ -36,13 +37,9 @@ group_after-other service props group xs x test =
     let mine : own group (xs ++ x ∷ []) ≡ own group xs = own-push group xs x ∙ ap (λ b. own group xs ++ (if b then x ∷ [] else [])) test ∙ append-nil (own group xs) in
     ap (state_after s) mine
 
--- what a step does to the groups
-pub record IsApplied (old new : Groups) (x : Step) : Type 0 where
-  pub own : (s : State) → Shows old x.group.0 s → Shows new x.group.0 (step s x.op x.now).state
-  pub others : (group : ℕ) → group ≢ x.group.0 → slice_get new.views group ≡ slice_get old.views group
-
-pub agrees-after : (service : GroupSettings) (old new : Groups) (xs : List Step) (x : Step) → Agrees service old xs → IsApplied old new x → Agrees service new (xs ++ x ∷ [])
-agrees-after service old new xs x agrees applied = record { shows = λ group g there. at group g there (x.group.0 == group) refl }
+-- after one step more the groups show one step more
+pub agrees-after : (service : GroupSettings) (old new : Groups) (xs : List Step) (x : Step) (r : Reply) → GroupsShow service old xs → IsStep old x r new → GroupsShow service new (xs ++ x ∷ [])
+agrees-after service old new xs x r agrees applied = record { shows = λ group g there. at group g there (x.group.0 == group) refl }
   where
     at : (group : ℕ) (g : List ℕ × GroupProps) → slice_get service.groups group ≡ Some g → (b : Bool) → (x.group.0 == group) ≡ b
         → Shows new group (group_after service g.1 group (xs ++ x ∷ []))
@@ -64,7 +61,8 @@ slice_get-within [] i inside = absurd (omega arith)
 slice_get-within (x ∷ xs) zero inside = (x, refl)
 slice_get-within (x ∷ xs) (suc i) inside = slice_get-within xs i (omega arith)
 
-pub reply_to-shown : (service : GroupSettings) (core : Groups) (xs : List Step) (x : Step) (r : Reply) → x.group.0 < length service.groups → Agrees service core xs
+-- the reply of the groups is the one that the definition has
+pub reply_to-shown : (service : GroupSettings) (core : Groups) (xs : List Step) (x : Step) (r : Reply) → x.group.0 < length service.groups → GroupsShow service core xs
     → ((s : State) → Shows core x.group.0 s → r ≡ (step s x.op x.now).reply) → r ≡ reply_to service xs x
 unfolding reply_to
 reply_to-shown service core xs x r inside agrees replies =
@@ -98,7 +96,7 @@ unfolding group_after
 group_after-none service props group = refl
 
 -- all groups stand, and are new
-pub agrees-opened : (service : GroupSettings) (core : Groups) → core.views ≡ map (opened_view service) service.groups → Agrees service core []
+pub agrees-opened : (service : GroupSettings) (core : Groups) → core.views ≡ map (opened_view service) service.groups → GroupsShow service core []
 agrees-opened service core is = record {
   shows = λ group g there.
       subst (Shows core group) (sym (group_after-none service g.1 group)) (record {

@@ -9,28 +9,31 @@ use Rattle.bh_lines.specs.declared.port_error.PortError.TheVariants.{Read, Write
 use Rattle.bh_lines.specs.Lines.{Cut, cut, stops, has_line}
 use Rattle.bh_streams.specs.Watched.{WritesFront}
 use Rattle.bh_port.specs.Text.{text}
-use Rattle.bh_port.specs.Port.{Agrees, Answered, HasAnswered, Outcome, IsMemoryOrRead}
-use Rattle.bh_streams.proofs.Fronts.{front-after}
-use Rattle.bh_port.proofs.Answering.{answered-none, whole-front}
+use Rattle.bh_port.specs.Script.{GroupsShow, ScriptAnswered, ScriptHasAnswered, ScriptOutcome, IsMemoryOrRead}
+use Rattle.bh_streams.proofs.Fronts.{front-after, whole-front}
+use Rattle.bh_port.proofs.Answering.{answered-none}
 use Rattle.bh_props.specs.Settings.{GroupSettings}
 
 -- what was written for `all` while `left` and the buffer are left of it
 pub record Underway (all left : List ℕ) (w0 w1 : Option (List ℕ)) (service : GroupSettings) (core : Groups) (buffer : List ℕ) : Type 0 where
   pub read : List ℕ
   pub all_is : all ≡ read ++ left
-  pub answered : Answered w0 w1 service [] core read buffer
+  pub answered : ScriptAnswered w0 w1 service [] core read buffer
 
+-- the same of a reader whose bytes may not be known
 abbrev pub Progress : Option (List ℕ) → Option (List ℕ) → Option (List ℕ) → Option (List ℕ) → GroupSettings → Groups → List ℕ → Type 0
-Progress None now w0 w1 service core buffer = (before : List Step) × Agrees service core before
+Progress None now w0 w1 service core buffer = (before : List Step) × GroupsShow service core before
 Progress (Some all) None w0 w1 service core buffer = ⊥
 Progress (Some all) (Some left) w0 w1 service core buffer = Underway all left w0 w1 service core buffer
 
-pub progress-start : (all w : Option (List ℕ)) (service : GroupSettings) (core : Groups) → Agrees service core [] → Progress all all w w service core []
+-- nothing was read or written yet
+pub progress-start : (all w : Option (List ℕ)) (service : GroupSettings) (core : Groups) → GroupsShow service core [] → Progress all all w w service core []
 progress-start None w service core agrees = ([], agrees)
 progress-start (Some all) w service core agrees = record { read = []; all_is = refl; answered = answered-none w service [] core [] agrees }
 
+-- the lines that had ended were answered, and the answers written
 pub progress-lines : (all now w0 w1 w2 : Option (List ℕ)) (service : GroupSettings) (was core : Groups) (old new : List ℕ) → Progress all now w0 w1 service was old
-    → ((before : List Step) → Agrees service was before → Answered w1 w2 service before core old new) → Progress all now w0 w2 service core new
+    → ((before : List Step) → GroupsShow service was before → ScriptAnswered w1 w2 service before core old new) → Progress all now w0 w2 service core new
 progress-lines None now w0 w1 w2 service was core old new p answers = let a = answers p.0 p.1 in (a.later, a.agrees)
 progress-lines (Some all) None w0 w1 w2 service was core old new p answers = absurd p
 progress-lines (Some all) (Some left) w0 w1 w2 service was core old new p answers =
@@ -48,6 +51,7 @@ progress-lines (Some all) (Some left) w0 w1 w2 service was core old new p answer
       };
     }
 
+-- a piece more was read
 pub progress-read : (all now next w0 w1 : Option (List ℕ)) (service : GroupSettings) (core : Groups) (old new piece : List ℕ) → Progress all now w0 w1 service core old → Consumes now next piece → new ≡ old ++ piece
     → Progress all next w0 w1 service core new
 progress-read None now next w0 w1 service core old new piece p r e = p
@@ -80,7 +84,7 @@ all-stops : (all left : List ℕ) (w0 w1 : Option (List ℕ)) (service : GroupSe
 all-stops all left w0 w1 service core buffer p = ap (λ ys. stops (cut ys)) p.all_is ∙ p.answered.stops_is left
 
 outcome-after : (a b c : Option (List ℕ)) (service : GroupSettings) (out : List ℕ) (first later : List Step) (all rest : Cut) (r : Result (Unit {0}) PortError)
-    → Appends a b out → text service first all ≡ out ++ text service later rest → stops all ≡ stops rest → Outcome b c service later rest r → Outcome a c service first all r
+    → Appends a b out → text service first all ≡ out ++ text service later rest → stops all ≡ stops rest → ScriptOutcome b c service later rest r → ScriptOutcome a c service first all r
 outcome-after a b c service out first later all rest (Ok x) h e s o = (subst (λ (ys : List ℕ). Appends a c ys) (sym e) (Appends-trans a b c _ _ h o.0), s ∙ o.1)
 outcome-after a b c service out first later all rest (Err Line) h e s o = (subst (λ (ys : List ℕ). Appends a c ys) (sym e) (Appends-trans a b c _ _ h o.0), s ∙ o.1)
 outcome-after a b c service out first later all rest (Err Memory) h e s o = subst (λ (ys : List ℕ). WritesFront a c ys) (sym e) (front-after a b c _ _ h o)
@@ -89,8 +93,8 @@ outcome-after a b c service out first later all rest (Err Write) h e s o = subst
 
 -- the run stops whatever bytes follow
 pub progress-stops : (all now w0 w1 w2 : Option (List ℕ)) (service : GroupSettings) (core : Groups) (buffer : List ℕ) (r : Result (Unit {0}) PortError)
-    → Progress all now w0 w1 service core buffer → ((before : List Step) (more : List ℕ) → Agrees service core before → Outcome w1 w2 service before (cut (buffer ++ more)) r)
-    → IfSome all (λ input. Outcome w0 w2 service [] (cut input) r)
+    → Progress all now w0 w1 service core buffer → ((before : List Step) (more : List ℕ) → GroupsShow service core before → ScriptOutcome w1 w2 service before (cut (buffer ++ more)) r)
+    → IfSome all (λ input. ScriptOutcome w0 w2 service [] (cut input) r)
 progress-stops None now w0 w1 w2 service core buffer r p o = tt
 progress-stops (Some all) None w0 w1 w2 service core buffer r p o = absurd p
 progress-stops (Some all) (Some left) w0 w1 w2 service core buffer r p o =
@@ -99,24 +103,24 @@ progress-stops (Some all) (Some left) w0 w1 w2 service core buffer r p o =
 
 -- the run stops where the input ends
 pub progress-ends : (all now w0 w1 w2 : Option (List ℕ)) (service : GroupSettings) (core : Groups) (buffer : List ℕ) (r : Result (Unit {0}) PortError)
-    → Progress all now w0 w1 service core buffer → IsAtEnd now → ((before : List Step) → Agrees service core before → Outcome w1 w2 service before (cut buffer) r)
-    → IfSome all (λ input. Outcome w0 w2 service [] (cut input) r)
+    → Progress all now w0 w1 service core buffer → IsAtEnd now → ((before : List Step) → GroupsShow service core before → ScriptOutcome w1 w2 service before (cut buffer) r)
+    → IfSome all (λ input. ScriptOutcome w0 w2 service [] (cut input) r)
 progress-ends None now w0 w1 w2 service core buffer r p e o = tt
 progress-ends (Some all) None w0 w1 w2 service core buffer r p e o = absurd p
 progress-ends (Some all) (Some left) w0 w1 w2 service core buffer r p e o =
     let same : buffer ≡ buffer ++ left = sym (append-nil buffer) ∙ ap (λ ys. buffer ++ ys) (sym e) in
     let done = p.answered in
     outcome-after w0 w1 w2 service done.out [] done.later _ _ r done.wrote (all-text all left w0 w1 service core buffer p) (all-stops all left w0 w1 service core buffer p)
-    (subst (λ (ys : List ℕ). Outcome w1 w2 service done.later (cut ys) r) same (o done.later done.agrees))
+    (subst (λ (ys : List ℕ). ScriptOutcome w1 w2 service done.later (cut ys) r) same (o done.later done.agrees))
 
 -- the run is given up
 pub progress-front : (all now w0 w1 : Option (List ℕ)) (service : GroupSettings) (core : Groups) (buffer : List ℕ) (e : PortError)
-    → Progress all now w0 w1 service core buffer → IsMemoryOrRead e → IfSome all (λ input. Outcome w0 w1 service [] (cut input) (Err e))
+    → Progress all now w0 w1 service core buffer → IsMemoryOrRead e → IfSome all (λ input. ScriptOutcome w0 w1 service [] (cut input) (Err e))
 progress-front None now w0 w1 service core buffer e p kind = tt
 progress-front (Some all) None w0 w1 service core buffer e p kind = absurd p
 progress-front (Some all) (Some left) w0 w1 service core buffer e p kind =
     let front : WritesFront w0 w1 (text service [] (cut all)) = subst (λ (ys : List ℕ). WritesFront w0 w1 ys) (sym (all-text all left w0 w1 service core buffer p)) (whole-front w0 w1 p.answered.out _ p.answered.wrote) in
-    elim e as (λ k. IsMemoryOrRead k → Outcome w0 w1 service [] (cut all) (Err k)) [
+    elim e as (λ k. IsMemoryOrRead k → ScriptOutcome w0 w1 service [] (cut all) (Err k)) [
       | Line ↦ λ none. absurd none
       | Memory ↦ λ _. front
       | Read ↦ λ _. front
@@ -125,7 +129,7 @@ progress-front (Some all) (Some left) w0 w1 service core buffer e p kind =
 
 -- the reader fails, and all lines that had ended are answered
 pub progress-failed : (all now next w0 w1 : Option (List ℕ)) (service : GroupSettings) (core : Groups) (buffer : List ℕ)
-    → Progress all now w0 w1 service core buffer → Keeps now next → has_line buffer ≡ false → HasAnswered all next w0 w1 service
+    → Progress all now w0 w1 service core buffer → Keeps now next → has_line buffer ≡ false → ScriptHasAnswered all next w0 w1 service
 progress-failed None now next w0 w1 service core buffer p same none = tt
 progress-failed (Some all) None next w0 w1 service core buffer p same none = absurd p
 progress-failed (Some all) (Some left) None w0 w1 service core buffer p same none = absurd same

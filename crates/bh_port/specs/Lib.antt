@@ -1,2 +1,2 @@
 pub mod Text
-pub mod Port
+pub mod Script

@@ -8,7 +8,7 @@ use Rattle.bh_base.specs.Runs.{State, opened, step, state_after, own}
 use Rattle.bh_props.specs.Settings.{GroupSettings}
 use Rattle.bh_lines.specs.declared.fault.Fault.{Fault}
 use Rattle.bh_lines.specs.Lines.{Cut, line, ended, stopped}
-use Rattle.bh_lines.specs.StepLine.{step_of}
+use Rattle.bh_lines.specs.StepLine.{line_step}
 use Rattle.bh_lines.specs.ReplyLine.{reply_line}
 use Rattle.bh_lines.specs.FaultLine.{fault_line}
 
@@ -55,6 +55,6 @@ steps_with before (Err fault) = before
 -- what is written for all lines that follow these steps, up to a line that is too long or not UTF-8
 unfoldable pub text : GroupSettings → List Step → Cut → List ℕ
 text service before (line bytes rest) =
-    let said = step_of (names_in service) bytes in answer_to service before said ++ text service (steps_with before said) rest
+    let said = line_step (names_in service) bytes in answer_to service before said ++ text service (steps_with before said) rest
 text service before ended = []
 text service before stopped = []

@@ -2,8 +2,8 @@
 
 ghost use Rattle.std.specs.Prelude.{◌≡◌, ◌⊎◌, ◌<◌, ◌++◌, ℕ, List, length, true, false, Err, OnOk, IfOk, IfErr};
 ghost use Rattle.std.specs.Io.KnownBytes.{Keeps, Consumes, IsAtEnd};
-ghost use Rattle.bh_streams.specs.Watched.{counted, reader_of, reads_of, bytes_left, OneFailed, NoneFailed};
-ghost use Rattle.bh_port.specs.Port.{IsMemoryOrRead};
+ghost use Rattle.bh_streams.specs.Watched.{saturating_count, reader_of, reads_of, bytes_left, OneFailed, NoneFailed};
+ghost use Rattle.bh_port.specs.Script.{IsMemoryOrRead};
 
 use bh_lines::PortError;
 use bh_streams::WatchedReader;
@@ -28,14 +28,14 @@ pub fn fill<R: Read>(
     ensures failed { result ≡ Err PortError.Read → OneFailed reader.old reader.new }
     ensures kept { result ≡ Err PortError.Read → Keeps (bytes_left R.remaining reader.old) (bytes_left R.remaining reader.new) × (buffer.new ≡ buffer.old) }
     ensures not_failed { (result ≡ Err PortError.Read) ⊎ NoneFailed reader.old reader.new }
-    ensures one { reads_of reader.new ≡ counted (reads_of reader.old) 1 }
+    ensures one { reads_of reader.new ≡ saturating_count (reads_of reader.old) 1 }
 {
     match reader.read(piece) {
         Ok(0) => Ok(false),
-        Ok(n) => match buffer.extend_from_slice(&piece[..n]) {
-            Ok(()) => Ok(true),
-            Err(_) => Err(PortError::Memory),
-        },
+        Ok(n) => {
+            buffer.extend_from_slice(&piece[..n])?;
+            Ok(true)
+        }
         Err(_) => Err(PortError::Read),
     }
 }

@@ -1,14 +1,12 @@
 //! A script: each line of a reader is answered by a line to a writer, as the lines come.
 
-ghost use Rattle.std.specs.Prelude.{◌≡◌, ◌<◌, ◌≤◌, ◌+◌, ◌^◌, ◌⊎◌, ◌++◌, ℕ, List, [], All, false, Err, OnOk, IfErr, IfOk, IfSome};
+ghost use Rattle.std.specs.Prelude.{◌≡◌, ◌<◌, ◌≤◌, ◌+◌, ◌^◌, ◌⊎◌, ◌++◌, ℕ, List, [], false, Err, OnOk, IfErr, IfOk, IfSome};
 ghost use Rattle.bh_base.specs.declared.step.Step.{Step};
-ghost use Rattle.bh_base.specs.Ranges.{IsInRange};
-ghost use Rattle.bh_props.specs.Seen.{settings_seen};
-ghost use Rattle.bh_props.specs.Settings.{IsAuditLimit};
+ghost use Rattle.bh_props.specs.SettingsView.{settings_seen};
 ghost use Rattle.bh_port.specs.Text.{step_limit};
 ghost use Rattle.bh_lines.specs.Lines.{cut, has_line};
 ghost use Rattle.bh_streams.specs.Watched.{reader_of, reads_of, bytes_left, HasRead, OneFailed, NoneFailed, writer_of, bytes_held, OneRefused, NoneRefused};
-ghost use Rattle.bh_port.specs.Port.{Agrees, Answered, HasAnswered, Outcome, IsNotRead, IsMemoryOrRead};
+ghost use Rattle.bh_port.specs.Script.{GroupsShow, ScriptAnswered, ScriptHasAnswered, ScriptOutcome, IsNotRead, IsMemoryOrRead};
 
 use crate::answers::{answer_last, answer_lines};
 use crate::reader::fill;
@@ -23,10 +21,10 @@ use std::io::{Read, Write};
 /// The most steps that a group may do, where an audit allows no fewer; a further one is answered as worn.
 pub const MOST_STEPS: u64 = 1 << 40;
 
-// So many bytes are asked of the reader at a time.
+/// So many bytes are asked of the reader at a time.
 const READ_SIZE: usize = 16_384;
 
-// So many reads are made at most.
+/// So many reads are made at most.
 const MOST_READS: u64 = 1 << 40;
 
 /// Answers each line of the reader by one line to the writer, in order, for the groups of the settings, all new.
@@ -47,24 +45,19 @@ pub fn script<R: Read, W: Write>(
     writer: &mut WatchedWriter<'_, W>,
     settings: &Settings,
 ) -> Result<(), PortError>
-    requires in_range { All (λ group. IsInRange group.1) settings.now.groups.entries }
-    requires audit { IfSome settings.now.audit_steps IsAuditLimit }
     ensures same_reader { (reader_of reader.new).ghost_name ≡ (reader_of reader.old).ghost_name }
     ensures same_writer { (writer_of writer.new).ghost_name ≡ (writer_of writer.old).ghost_name }
     ensures read { result ≡ Err PortError.Read → OneFailed reader.old reader.new ⊎ HasRead (2 ^ 40) reader.old reader.new }
     ensures not_failed { (result ≡ Err PortError.Read) ⊎ NoneFailed reader.old reader.new }
-    ensures answered { result ≡ Err PortError.Read → HasRead (2 ^ 40) reader.old reader.new ⊎ HasAnswered (bytes_left R.remaining reader.old) (bytes_left R.remaining reader.new)
+    ensures answered { result ≡ Err PortError.Read → HasRead (2 ^ 40) reader.old reader.new ⊎ ScriptHasAnswered (bytes_left R.remaining reader.old) (bytes_left R.remaining reader.new)
         (bytes_held W.contents writer.old) (bytes_held W.contents writer.new) (settings_seen settings.now) }
     ensures reads { reads_of reader.new ≤ reads_of reader.old + 2 ^ 40 }
     ensures write { result ≡ Err PortError.Write → OneRefused writer.old writer.new }
     ensures not_refused { (result ≡ Err PortError.Write) ⊎ NoneRefused writer.old writer.new }
     ensures text { IfSome (bytes_left R.remaining reader.old) (λ input.
-        Outcome (bytes_held W.contents writer.old) (bytes_held W.contents writer.new) (settings_seen settings.now) [] (cut input) result) }
+        ScriptOutcome (bytes_held W.contents writer.old) (bytes_held W.contents writer.new) (settings_seen settings.now) [] (cut input) result) }
 {
-    let mut core = match open(alloc, settings) {
-        Ok(core) => core,
-        Err(error) => return Err(error),
-    };
+    let mut core = open(alloc, settings)?;
     answer_all(alloc, settings, &mut core, reader, writer)
 }
 
@@ -72,24 +65,21 @@ pub fn script<R: Read, W: Write>(
 ///
 /// It fails only for want of memory, as `Memory`.
 pub fn open(alloc: Global, settings: &Settings) -> Result<Core, PortError>
-    requires in_range { All (λ group. IsInRange group.1) settings.now.groups.entries }
-    requires audit { IfSome settings.now.audit_steps IsAuditLimit }
-    ensures agrees { IfOk result (λ core. Agrees (settings_seen settings.now) core []) }
+    ensures agrees { IfOk result (λ core. GroupsShow (settings_seen settings.now) core []) }
     ensures err { IfErr result (λ e. e ≡ PortError.Memory) }
 {
     let limit = step_limit(settings.audit_steps);
     let mut core = Core::new(alloc, u32::MAX);
     for (_name, props) in settings.groups.iter() {
-        match core.register(*props, limit) {
-            Ok(_) => {}
-            // So few groups have far fewer slots than may be, so this can only be want of memory.
-            Err(_) => return Err(PortError::Memory),
-        }
+        // So few groups have far fewer slots than may be, so this can only be want of memory.
+        let Ok(_group) = core.register(*props, limit) else {
+            return Err(PortError::Memory);
+        };
     }
     Ok(core)
 }
 
-// The steps that each group may do, no more than may be audited.
+/// The steps that each group may do, no more than may be audited.
 fn step_limit(audit_steps: Option<u64>) -> u64
     ensures { result ≡ step_limit audit_steps }
 {
@@ -99,7 +89,7 @@ fn step_limit(audit_steps: Option<u64>) -> u64
     }
 }
 
-// Answers all lines of the reader.
+/// Answers all lines of the reader.
 fn answer_all<R: Read, W: Write>(
     alloc: Global,
     settings: &Settings,
@@ -107,18 +97,18 @@ fn answer_all<R: Read, W: Write>(
     reader: &mut WatchedReader<'_, R>,
     writer: &mut WatchedWriter<'_, W>,
 ) -> Result<(), PortError>
-    requires { Agrees (settings_seen settings.now) core.old [] }
+    requires { GroupsShow (settings_seen settings.now) core.old [] }
     ensures same_reader { (reader_of reader.new).ghost_name ≡ (reader_of reader.old).ghost_name }
     ensures same_writer { (writer_of writer.new).ghost_name ≡ (writer_of writer.old).ghost_name }
     ensures read { result ≡ Err PortError.Read → OneFailed reader.old reader.new ⊎ HasRead (2 ^ 40) reader.old reader.new }
     ensures not_failed { (result ≡ Err PortError.Read) ⊎ NoneFailed reader.old reader.new }
-    ensures answered { result ≡ Err PortError.Read → HasRead (2 ^ 40) reader.old reader.new ⊎ HasAnswered (bytes_left R.remaining reader.old) (bytes_left R.remaining reader.new)
+    ensures answered { result ≡ Err PortError.Read → HasRead (2 ^ 40) reader.old reader.new ⊎ ScriptHasAnswered (bytes_left R.remaining reader.old) (bytes_left R.remaining reader.new)
         (bytes_held W.contents writer.old) (bytes_held W.contents writer.new) (settings_seen settings.now) }
     ensures reads { reads_of reader.new ≤ reads_of reader.old + 2 ^ 40 }
     ensures write { result ≡ Err PortError.Write → OneRefused writer.old writer.new }
     ensures not_refused { (result ≡ Err PortError.Write) ⊎ NoneRefused writer.old writer.new }
     ensures text { IfSome (bytes_left R.remaining reader.old) (λ input.
-        Outcome (bytes_held W.contents writer.old) (bytes_held W.contents writer.new) (settings_seen settings.now) [] (cut input) result) }
+        ScriptOutcome (bytes_held W.contents writer.old) (bytes_held W.contents writer.new) (settings_seen settings.now) [] (cut input) result) }
 {
     let mut piece = [0u8; READ_SIZE];
     let mut buffer = BytesMut::new(alloc);
@@ -132,7 +122,7 @@ fn answer_all<R: Read, W: Write>(
     Err(PortError::Read)
 }
 
-// Answers each line that has ended, and writes the answers at once, by way of `out`.
+/// Answers each line that has ended, and writes the answers at once, by way of `out`; also where the next line is refused.
 fn write_answers<W: Write>(
     alloc: Global,
     settings: &Settings,
@@ -141,27 +131,23 @@ fn write_answers<W: Write>(
     out: &mut Vec<u8>,
     writer: &mut WatchedWriter<'_, W>,
 ) -> Result<(), PortError>
-    ensures answered { OnOk result ((before : List Step) → Agrees (settings_seen settings.now) core.old before →
-        Answered (bytes_held W.contents writer.old) (bytes_held W.contents writer.new) (settings_seen settings.now) before core.new buffer.old.items buffer.new.items) }
+    ensures answered { OnOk result ((before : List Step) → GroupsShow (settings_seen settings.now) core.old before →
+        ScriptAnswered (bytes_held W.contents writer.old) (bytes_held W.contents writer.new) (settings_seen settings.now) before core.new buffer.old.items buffer.new.items) }
     ensures none_left { OnOk result (has_line buffer.new.items ≡ false) }
     ensures no_read { IfErr result IsNotRead }
     ensures same_writer { (writer_of writer.new).ghost_name ≡ (writer_of writer.old).ghost_name }
     ensures refused { result ≡ Err PortError.Write → OneRefused writer.old writer.new }
     ensures not_refused { (result ≡ Err PortError.Write) ⊎ NoneRefused writer.old writer.new }
-    ensures stopped { IfErr result (λ e. (before : List Step) (more : List ℕ) → Agrees (settings_seen settings.now) core.old before →
-        Outcome (bytes_held W.contents writer.old) (bytes_held W.contents writer.new) (settings_seen settings.now) before (cut (buffer.old.items ++ more)) (Err e)) }
+    ensures stopped { IfErr result (λ e. (before : List Step) (more : List ℕ) → GroupsShow (settings_seen settings.now) core.old before →
+        ScriptOutcome (bytes_held W.contents writer.old) (bytes_held W.contents writer.new) (settings_seen settings.now) before (cut (buffer.old.items ++ more)) (Err e)) }
 {
     out.clear();
-    match answer_lines(alloc, settings, core, buffer, out) {
-        Ok(()) => write(writer, out.as_slice()),
-        Err(error) => match write(writer, out.as_slice()) {
-            Ok(()) => Err(error),
-            Err(unwritten) => Err(unwritten),
-        },
-    }
+    let answered = answer_lines(alloc, settings, core, buffer, out);
+    write(writer, out.as_slice())?;
+    answered
 }
 
-// Answers the line at the end of the input that no line feed ended, and writes the answer, by way of `out`.
+/// Answers the line at the end of the input that no line feed ended, and writes the answer, by way of `out`.
 fn write_last<W: Write>(
     alloc: Global,
     settings: &Settings,
@@ -175,15 +161,11 @@ fn write_last<W: Write>(
     ensures same_writer { (writer_of writer.new).ghost_name ≡ (writer_of writer.old).ghost_name }
     ensures refused { result ≡ Err PortError.Write → OneRefused writer.old writer.new }
     ensures not_refused { (result ≡ Err PortError.Write) ⊎ NoneRefused writer.old writer.new }
-    ensures outcome { (before : List Step) → Agrees (settings_seen settings.now) core.old before →
-        Outcome (bytes_held W.contents writer.old) (bytes_held W.contents writer.new) (settings_seen settings.now) before (cut buffer.old.items) result }
+    ensures outcome { (before : List Step) → GroupsShow (settings_seen settings.now) core.old before →
+        ScriptOutcome (bytes_held W.contents writer.old) (bytes_held W.contents writer.new) (settings_seen settings.now) before (cut buffer.old.items) result }
 {
     out.clear();
-    match answer_last(alloc, settings, core, buffer, out) {
-        Ok(()) => write(writer, out.as_slice()),
-        Err(error) => match write(writer, out.as_slice()) {
-            Ok(()) => Err(error),
-            Err(unwritten) => Err(unwritten),
-        },
-    }
+    let answered = answer_last(alloc, settings, core, buffer, out);
+    write(writer, out.as_slice())?;
+    answered
 }

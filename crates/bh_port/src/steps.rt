@@ -2,8 +2,8 @@
 
 ghost use Rattle.std.specs.Prelude.{◌≡◌, ◌<◌, length, map, IfOk, IfSome};
 ghost use Rattle.bh_lines.specs.Flat.{members_data};
-ghost use Rattle.bh_lines.specs.StepLine.{group_number, step_at, step_of};
-ghost use Rattle.bh_props.specs.Seen.{settings_seen};
+ghost use Rattle.bh_lines.specs.StepLine.{group_number, step_at, line_step};
+ghost use Rattle.bh_props.specs.SettingsView.{settings_seen};
 ghost use Rattle.bh_port.specs.Text.{names_in};
 
 use bh_base::{GroupId, GroupProps, Step, Text};
@@ -16,15 +16,15 @@ use indexmap::IndexMap;
 use json::Scratch;
 use std::alloc::{AllocError, Global};
 
-#[tactic(auto, unfolding(bh_lines::specs::StepLine::step_of))]
-// The step that a line says to a service of the groups of the settings, each by its place.
-pub fn step_of(
+/// The step that a line says to a service of the groups of the settings, each by its place.
+#[tactic(auto, unfolding(bh_lines::specs::StepLine::line_step))]
+pub fn line_step(
     alloc: Global,
     settings: &Settings,
     scratch: &mut Scratch,
     line: &str,
 ) -> Result<Result<Step, Fault>, AllocError>
-    ensures said { IfOk result (λ said. said ≡ step_of (names_in (settings_seen settings.now)) line.now) }
+    ensures said { IfOk result (λ said. said ≡ line_step (names_in (settings_seen settings.now)) line.now) }
     ensures group { IfOk result (λ said. IfOk said (λ step. step.group.0 < length settings.now.groups.entries)) }
 {
     if let Some(object) = FlatObject::parse(line, scratch)? {
@@ -36,7 +36,7 @@ pub fn step_of(
     }
 }
 
-// The step that the members say: the group is looked up before its texts are measured.
+/// The step that the members say: the group is looked up before its texts are measured.
 fn step_at(settings: &Settings, members: Members<'_>) -> Result<Step, Fault>
     ensures said { result ≡ step_at (names_in (settings_seen settings.now)) (members_data members.entry) }
     ensures group { IfOk result (λ step. step.group.0 < length settings.now.groups.entries) }
@@ -51,7 +51,7 @@ fn step_at(settings: &Settings, members: Members<'_>) -> Result<Step, Fault>
     })
 }
 
-// The number of the group of the name.
+/// The number of the group of the name.
 fn group_number(groups: &IndexMap<Text<32>, GroupProps>, name: &str) -> Option<u64>
     ensures number { result ≡ group_number (map (λ group. group.0) groups.now.entries) name.now }
     ensures within { IfSome result (λ number. number < length groups.now.entries) }
@@ -59,13 +59,11 @@ fn group_number(groups: &IndexMap<Text<32>, GroupProps>, name: &str) -> Option<u
     let Ok(key) = Text::new(name) else {
         return place_of(groups, name);
     };
-    match groups.get_index_of(&key) {
-        Some(number) => Some(number as u64),
-        None => None,
-    }
+    let number = groups.get_index_of(&key)?;
+    Some(number as u64)
 }
 
-// The place of a name that is too long for a key.
+/// The place of a name that is too long for a key.
 fn place_of(groups: &IndexMap<Text<32>, GroupProps>, name: &str) -> Option<u64>
     ensures number { result ≡ group_number (map (λ group. group.0) groups.now.entries) name.now }
     ensures within { IfSome result (λ number. number < length groups.now.entries) }

@@ -19,6 +19,7 @@ values-at fault d names i name found within is finds =
     ap (checked_values fault d) (drop-here names i name within is)
     ∙ ap (λ o. refused_at fault name o (checked_values fault d (drop (i + 1) names))) (sym finds)
 
+-- the check of values at a group with a property at fault
 pub checked_values-refused : (fault : Fault) (d : Data) (names : List (List ℕ)) (i : ℕ) (name : List ℕ) (found : Option Property) (p : Property) → i < length names → name ≡ get_or names i name
     → found ≡ find (is_at_fault fault name d) all → found ≡ Some p
     → checked_values fault d (drop i names) ≡ Err (refusal fault name p)
@@ -26,6 +27,7 @@ checked_values-refused fault d names i name found p within is finds some =
     values-at fault d names i name found within is finds
     ∙ ap (λ o. refused_at fault name o (checked_values fault d (drop (i + 1) names))) some
 
+-- and at one without
 pub checked_values-passed : (fault : Fault) (d : Data) (names : List (List ℕ)) (i : ℕ) (name : List ℕ) (found : Option Property) → i < length names → name ≡ get_or names i name
     → found ≡ find (is_at_fault fault name d) all → found ≡ None
     → checked_values fault d (drop i names) ≡ checked_values fault d (drop (i + 1) names)

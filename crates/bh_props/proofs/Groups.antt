@@ -23,6 +23,7 @@ first_twice-head before n name rest h = by (is_among name before) refl
     by true e = let bad : Some n ≡ None = rw e at h in cc
     by false e = (e, rw e at h)
 
+-- a name that is there once does not stand before its place
 pub not_before : (before names : List (List ℕ)) (n i : ℕ) (d : List ℕ) → first_twice before n names ≡ None → i < length names → is_among (get_or names i d) (before ++ take i names) ≡ false
 not_before before [] n i d h within = absurd (omega arith)
 not_before before (name ∷ rest) n zero d h within = rw (append-nil before) ((first_twice-head before n name rest h).0)

@@ -1,13 +1,10 @@
 -- Settings that nothing refuses have their fields in range.
-use Rattle.std.proofs.Common.{◌≡◌, ◌==◌, ℕ, ℤ, pos, negsuc, nat_le, zero, suc, ◌%◌, ◌<◌, ◌≤◌, List, [], ◌∷◌, length, get_or, Bool, true, false, ◌&&◌, Option, Some, None, Result, Ok, Err, IfOk, IfSome, All, refl, sym, true≢false, lit<, lit≤, subst, ◌*◌, ◌/◌, ◌^◌, arith}
+use Rattle.std.proofs.Common.{◌≡◌, ◌==◌, ℕ, ℤ, pos, negsuc, nat_le, zero, suc, ◌%◌, ◌<◌, ◌≤◌, List, [], ◌∷◌, length, map, get_or, Bool, true, false, ◌&&◌, Option, Some, None, Result, Ok, Err, IfSome, All, refl, sym, true≢false, lit<, lit≤, ◌*◌, ◌/◌, ◌^◌, arith}
 use Rattle.std.proofs.lemmas.Bool.{leb-true, eqb-true}
 use Rattle.std.proofs.lemmas.List.Elements.{All-map}
 use Rattle.std.specs.List.{find}
-use Rattle.std.specs.Result.{result_and}
 use Rattle.toml.specs.Data.{Data, string, integer, float, boolean, datetime, array, table}
 use Rattle.bh_base.specs.Ranges.{IsInRange, IsQueueLength}
-use Rattle.bh_props.specs.declared.settings.Settings.{Settings}
-use Rattle.bh_props.specs.declared.error.SettingsError.{SettingsError}
 use Rattle.bh_props.specs.declared.error.SettingsError.TheVariants as refusals
 use Rattle.bh_props.specs.declared.property.Property.{Property}
 use Rattle.bh_props.specs.declared.property.Property.TheVariants as properties
@@ -18,10 +15,8 @@ use Rattle.bh_props.specs.declared.value.Fault.{Fault}
 use Rattle.bh_props.specs.declared.value.Fault.TheVariants.{WrongType, OutOfRange}
 use Rattle.bh_props.specs.Table.{row, all}
 use Rattle.bh_props.specs.InForce.{given, within, queue_size, read_as, read_given, in_force}
-use Rattle.bh_props.specs.Names.{names_of}
-use Rattle.bh_props.specs.Refusals.{Checked, has_fault, is_at_fault, refused_at, number, checked_service, checked_values, checked_windows}
-use Rattle.bh_props.specs.Settings.{GroupSettings, IsAuditLimit, optional_number, props_of, group_in_force, settings_in_force, settings_of_groups, settings_of_named}
-use Rattle.bh_props.specs.Seen.{settings_seen}
+use Rattle.bh_props.specs.Refusals.{has_fault, is_at_fault, refused_at, number, checked_values, checked_windows}
+use Rattle.bh_props.specs.Settings.{IsAuditLimit, optional_number, props_of, group_in_force}
 
 -- what is read as one of a kind is in its range
 abbrev Accepted : Kind → Result PropertyValue Fault → Type 0
@@ -132,7 +127,7 @@ group-in_range name d h =
     let queue_threshold = accepted-at 20 name d h (lit< tt) (lit≤ tt, lit≤ tt) in
     record {
       some_slots = slots.0;
-      few_slots = few _ slots.1;
+      few_slots = slots.1;
       timeout = below _ timeout.1;
       semaphore = below _ semaphore.1;
       fallback_permits = below _ fallback_permits.1;
@@ -153,9 +148,6 @@ group-in_range name d h =
   where
     below : (n : ℕ) → n ≤ 4294967295 → n < 2 ^ 32
     below n h = omega arith
-
-    few : (n : ℕ) → n ≤ 64 → n ≤ 4096
-    few n h = omega arith
 
     whole : (n by : ℕ) → 1 ≤ by → (n % by == 0) ≡ true → by * (n / by) ≡ n
     whole n by some even = let rest : n % by ≡ 0 = eqb-true (n % by) 0 even in let above : 0 < by = omega arith in omega arith
@@ -184,62 +176,31 @@ windows-passed d (name ∷ names) i e h l = by i (number (in_force properties.Wi
     by zero true is m later = is
     by (suc j) true is m later = later j (rw is at h) (omega arith)
 
-passed : {A : Type 0} (checked : Checked) (later : Result A SettingsError) (a : A) → result_and checked later ≡ Ok a → (checked ≡ Ok tt) × (later ≡ Ok a)
-passed (Ok u) later a h = (refl, h)
-passed (Err e) later a h = cc
-
-same_ok : (s t : GroupSettings) (a b : Result GroupSettings SettingsError) → a ≡ b → a ≡ Ok s → b ≡ Ok t → s ≡ t
-same_ok s t a b h is_s is_t = cc
-
-made : (d : Data) (names : List (List ℕ)) (s : GroupSettings) → settings_of_groups d names ≡ Ok s → settings_in_force d names ≡ s
-made d names s h =
-    let (_, after_service) = passed (checked_service names d) _ s h in
-    let (_, after_types) = passed (checked_values WrongType d names) _ s after_service in
-    let (_, after_ranges) = passed (checked_values OutOfRange d names) _ s after_types in
-    let (_, last) = passed (checked_windows d names) _ s after_ranges in
-    same_ok _ _ (Ok (settings_in_force d names)) (Ok s) last refl refl
-
-groups-in_range : (d : Data) (names : List (List ℕ)) (s : GroupSettings) → settings_of_groups d names ≡ Ok s → All (λ group. IsInRange group.1) s.groups
-groups-in_range d names s h =
-    let (_, after_service) = passed (checked_service names d) _ s h in
-    let (types, after_types) = passed _ _ s after_service in
-    let (ranges, after_ranges) = passed _ _ s after_types in
-    let (windows, _) = passed _ _ s after_ranges in
-    subst (λ (t : GroupSettings). All (λ group. IsInRange group.1) t.groups) (made d names s h)
-    (All-map (λ group. IsInRange group.1) (group_in_force d) names (λ i e l. group-in_range (get_or names i e) d (record {
+-- where no check refuses, the properties of each group are in their ranges
+pub groups-in_range : (d : Data) (names : List (List ℕ)) → checked_values WrongType d names ≡ Ok tt → checked_values OutOfRange d names ≡ Ok tt → checked_windows d names ≡ Ok tt
+    → All (λ group. IsInRange group.1) (map (group_in_force d) names)
+groups-in_range d names types ranges windows =
+    All-map (λ group. IsInRange group.1) (group_in_force d) names (λ i e l. group-in_range (get_or names i e) d (record {
       types = values-passed WrongType d names i e types l;
       ranges = values-passed OutOfRange d names i e ranges l;
       windows = windows-passed d names i e windows l;
-    })))
+    }))
 
-named-in_range : (d : Data) (n : Result (List (List ℕ)) SettingsError) (s : GroupSettings) → settings_of_named d n ≡ Ok s → All (λ group. IsInRange group.1) s.groups
-named-in_range d (Ok names) s h = groups-in_range d names s h
-named-in_range d (Err e) s h = cc
-
-audit-in_range : (o : Option Data) → IfSome (optional_number (read_given properties.AuditSteps o)) IsAuditLimit
-audit-in_range None = tt
-audit-in_range (Some (integer (negsuc n))) = tt
-audit-in_range (Some (integer (pos n))) = by (nat_le 1 n && nat_le n 1000000) refl
+read_given-audit : (o : Option Data) → IfSome (optional_number (read_given properties.AuditSteps o)) IsAuditLimit
+read_given-audit None = tt
+read_given-audit (Some (integer (negsuc n))) = tt
+read_given-audit (Some (integer (pos n))) = by (nat_le 1 n && nat_le n 1000000) refl
   where
     by : (b : Bool) → (nat_le 1 n && nat_le n 1000000) ≡ b → IfSome (optional_number (within 1 1000000 (pos n))) IsAuditLimit
     by true e = let (low, high) = both (nat_le 1 n) (nat_le n 1000000) e in rw e (leb-true 1 n low, leb-true n 1000000 high)
     by false e = rw e tt
-audit-in_range (Some (string s)) = tt
-audit-in_range (Some (float f)) = tt
-audit-in_range (Some (boolean b)) = tt
-audit-in_range (Some (datetime t)) = tt
-audit-in_range (Some (array xs)) = tt
-audit-in_range (Some (table ms)) = tt
+read_given-audit (Some (string s)) = tt
+read_given-audit (Some (float f)) = tt
+read_given-audit (Some (boolean b)) = tt
+read_given-audit (Some (datetime t)) = tt
+read_given-audit (Some (array xs)) = tt
+read_given-audit (Some (table ms)) = tt
 
-named-audit : (d : Data) (n : Result (List (List ℕ)) SettingsError) (s : GroupSettings) → settings_of_named d n ≡ Ok s → IfSome s.audit_steps IsAuditLimit
-named-audit d (Ok names) s h =
-    subst (λ (t : GroupSettings). IfSome t.audit_steps IsAuditLimit) (made d names s h) (audit-in_range (given properties.AuditSteps [] d))
-named-audit d (Err e) s h = cc
-
-pub read-in_range : (d : Data) (r : Result Settings SettingsError) → IfOk r (λ s. settings_of_named d (names_of d) ≡ Ok (settings_seen s)) → IfOk r (λ s. All (λ group. IsInRange group.1) s.groups.entries)
-read-in_range d (Ok s) h = named-in_range d (names_of d) (settings_seen s) h
-read-in_range d (Err e) h = tt
-
-pub read-audit : (d : Data) (r : Result Settings SettingsError) → IfOk r (λ s. settings_of_named d (names_of d) ≡ Ok (settings_seen s)) → IfOk r (λ s. IfSome s.audit_steps IsAuditLimit)
-read-audit d (Ok s) h = named-audit d (names_of d) (settings_seen s) h
-read-audit d (Err e) h = tt
+-- a limit of audited steps in force is one
+pub audit-in_range : (d : Data) → IfSome (optional_number (in_force properties.AuditSteps [] d)) IsAuditLimit
+audit-in_range d = read_given-audit (given properties.AuditSteps [] d)

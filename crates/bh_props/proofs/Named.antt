@@ -28,6 +28,7 @@ right false b h = absurd (true≢false (sym h))
 short : (name : List ℕ) → is_name name ≡ true → length name ≤ 32
 short name h = leb-true (length name) 32 (right _ _ (left _ _ (left _ _ h)))
 
+-- a text that may name a group has at most 32 bytes
 pub names_fit : (names : List (Bor (List ℕ))) (i : ℕ) (d : Bor (List ℕ)) → first_bad 1 (map (λ s. s.now) names) ≡ None → i < length names → length (get_or names i d).now ≤ 32
 names_fit names i d h within =
     let is = all_names 1 (map (λ s. s.now) names) i d.now h (simp length-map within) in

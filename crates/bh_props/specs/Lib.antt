@@ -4,5 +4,5 @@ pub mod InForce
 pub mod Names
 pub mod Refusals
 pub mod Settings
-pub mod Seen
+pub mod SettingsView
 pub mod Printed

@@ -50,13 +50,13 @@ value_of audit_steps g properties.MaxQueue = number_or values.NoQueue g.max_queu
 value_of audit_steps g properties.QueueThreshold = values.Number g.queue_threshold
 
 -- one line: the group, the property and its value
-abbrev pub line_of : Option ℕ → List ℕ × GroupProps → Property → List ℕ
-line_of audit_steps group p = group.0 ++ codes " " ++ (row p).name ++ codes " " ++ word_of (value_of audit_steps group.1 p) ++ codes "\n"
+abbrev pub property_line : Option ℕ → List ℕ × GroupProps → Property → List ℕ
+property_line audit_steps group p = group.0 ++ codes " " ++ (row p).name ++ codes " " ++ word_of (value_of audit_steps group.1 p) ++ codes "\n"
 
 -- the lines of a group, in the order of the table
-abbrev pub lines_of_group : Option ℕ → List ℕ × GroupProps → List ℕ
-lines_of_group audit_steps group = flat_map (line_of audit_steps group) all
+abbrev pub group_lines : Option ℕ → List ℕ × GroupProps → List ℕ
+group_lines audit_steps group = flat_map (property_line audit_steps group) all
 
 -- the lines of all groups, in their order
 abbrev pub lines_of : GroupSettings → List ℕ
-lines_of s = flat_map (lines_of_group s.audit_steps) s.groups
+lines_of s = flat_map (group_lines s.audit_steps) s.groups

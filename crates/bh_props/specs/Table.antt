@@ -33,7 +33,7 @@ whole = kinds.Number 0 4294967295
 
 -- the most tickets that a group may have at a time
 abbrev pub most_slots : ℕ
-most_slots = 64
+most_slots = 4096
 
 -- the table
 abbrev pub row : Property → Row

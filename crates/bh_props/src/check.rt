@@ -23,9 +23,8 @@ pub(crate) fn check_values(
     ensures { result ≡ checked_values fault (view root.now) names.now }
 {
     for name in names {
-        match first_of_group(root, fault, name.as_str()) {
-            Some(property) => return Err(refusal(fault, *name, property)),
-            None => {}
+        if let Some(property) = first_of_group(root, fault, name.as_str()) {
+            return Err(refusal(fault, *name, property));
         }
     }
     Ok(())
@@ -38,6 +37,7 @@ fn first_of_group(root: &Value, fault: Fault, group: &str) -> Option<Property>
     first_at_fault(root, fault, group, &Property::ALL)
 }
 
+/// The first of the properties whose value in force has the fault.
 fn first_at_fault(
     root: &Value,
     fault: Fault,
@@ -46,24 +46,23 @@ fn first_at_fault(
 ) -> Option<Property>
     ensures { result ≡ find (is_at_fault fault group.now (view root.now)) properties.now }
 {
-    for property in properties {
-        if is_at_fault(root, fault, group, *property) {
-            return Some(*property);
-        }
-    }
-    None
+    properties
+        .iter()
+        .copied()
+        .find(|property| is_at_fault(root, fault, group, *property))
 }
 
+/// Whether the property's value in force has the fault.
 fn is_at_fault(root: &Value, fault: Fault, group: &str, property: Property) -> bool
     ensures { result ≡ is_at_fault fault group.now (view root.now) property }
 {
-    match (in_force(root, property, group), fault) {
-        (Err(Fault::WrongType), Fault::WrongType) => true,
-        (Err(Fault::OutOfRange), Fault::OutOfRange) => true,
-        _ => false,
-    }
+    matches!(
+        (in_force(root, property, group), fault),
+        (Err(Fault::WrongType), Fault::WrongType) | (Err(Fault::OutOfRange), Fault::OutOfRange)
+    )
 }
 
+/// The refusal of a value that has the fault.
 fn refusal(fault: Fault, group: Text<32>, property: Property) -> SettingsError
     ensures { result ≡ refusal fault group property }
 {

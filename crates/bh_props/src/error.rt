@@ -1,7 +1,11 @@
 //! Why a settings file is refused.
 
+ghost use Rattle.std.specs.Prelude.{◌≡◌};
+ghost use Rattle.bh_props.specs.declared.error.SettingsError.TheVariants as refusals;
+
 use crate::property::Property;
 use bh_base::Text;
+use std::alloc::AllocError;
 use thiserror::Error;
 
 /// Why a settings file is refused. Shown, it is the whole line for standard error, without a line feed.
@@ -37,4 +41,12 @@ pub enum SettingsError {
     /// Memory was refused.
     #[error("fault: memory")]
     Memory,
+}
+
+impl From<AllocError> for SettingsError {
+    ghost from_gives = { λ _ e. e ≡ refusals.Memory };
+
+    fn from(_error: AllocError) -> SettingsError {
+        SettingsError::Memory
+    }
 }

@@ -17,10 +17,8 @@ pub(crate) fn group_names(alloc: Global, root: &Value) -> Result<Vec<Text<32>>, 
     ensures ok { IfOk result (λ names. names_of (view root.now) ≡ Ok names.items) }
     ensures refused { IfErr result (λ e. e ≢ SettingsError.Memory → names_of (view root.now) ≡ Err e) }
 {
-    let names = match listed(alloc, root) {
-        Ok(Some(names)) => names,
-        Ok(None) => return Err(SettingsError::NoGroups),
-        Err(_) => return Err(SettingsError::Memory),
+    let Some(names) = listed(alloc, root)? else {
+        return Err(SettingsError::NoGroups);
     };
     if let Some(place) = first_bad(&names) {
         return Err(SettingsError::BadName(place));
@@ -28,10 +26,7 @@ pub(crate) fn group_names(alloc: Global, root: &Value) -> Result<Vec<Text<32>>, 
     if let Some(place) = first_twice(&names) {
         return Err(SettingsError::TwiceNamed(place));
     }
-    match kept(alloc, &names) {
-        Ok(kept) => Ok(kept),
-        Err(_) => Err(SettingsError::Memory),
-    }
+    Ok(kept(alloc, &names)?)
 }
 
 /// The texts that are listed as groups, where there are 1 to 1,000 and nothing else is listed.
@@ -50,46 +45,40 @@ fn listed(alloc: Global, root: &Value) -> Result<Option<Vec<&str>>, AllocError>
     }
 }
 
+/// The values as texts; none where one is something else.
 fn texts(alloc: Global, values: &[Value]) -> Result<Option<Vec<&str>>, AllocError>
     ensures { IfOk result (λ found. option_map (λ v. map (λ s. s.now) v.items) found ≡ texts (items_view values.now)) }
 {
     let mut texts = Vec::new(alloc);
     for value in values {
-        match value.as_str() {
-            Some(text) => texts.push(text)?,
-            None => return Ok(None),
-        }
+        let Some(text) = value.as_str() else {
+            return Ok(None);
+        };
+        texts.push(text)?;
     }
     Ok(Some(texts))
 }
 
+/// Whether the byte is a letter, a digit, `_` or `-`.
 fn is_name_byte(b: u8) -> bool
     ensures { result ≡ is_name_byte b }
 {
-    (b'A' <= b && b <= b'Z')
-        || (b'a' <= b && b <= b'z')
-        || (b'0' <= b && b <= b'9')
-        || b == b'_'
-        || b == b'-'
+    matches!(b, b'A'..=b'Z' | b'a'..=b'z' | b'0'..=b'9' | b'_' | b'-')
 }
 
+/// Whether each byte is one of a name.
 fn has_name_bytes(bytes: &[u8]) -> bool
     ensures { result ≡ list_all is_name_byte bytes.now }
 {
     bytes.iter().all(|b| is_name_byte(*b))
 }
 
+/// Whether the text may name a group.
 fn is_name(name: &str) -> bool
     ensures { result ≡ is_name name.now }
 {
     let bytes = name.as_bytes();
-    if bytes.len() < 1 || bytes.len() > 32 {
-        return false;
-    }
-    if !has_name_bytes(bytes) {
-        return false;
-    }
-    name != "default"
+    bytes.len() >= 1 && bytes.len() <= 32 && has_name_bytes(bytes) && name != "default"
 }
 
 /// The place, from 1, of the first text that is no name.
@@ -105,6 +94,7 @@ fn first_bad(names: &[&str]) -> Option<usize>
     None
 }
 
+/// Whether the name is one of those before it.
 fn came_before(before: &[&str], name: &str) -> bool
     ensures { result ≡ list_any (λ t. bytes_eq t name.now) (map (λ s. s.now) before.now) }
 {

@@ -3,8 +3,8 @@
 ghost use Rattle.std.specs.Prelude.{◌≡◌, Some};
 ghost use Rattle.std.specs.List.{flat_map};
 ghost use Rattle.std.specs.Fmt.{WritesOnOk};
-ghost use Rattle.bh_props.specs.Printed.{value_of, line_of, lines_of, lines_of_group, number_or};
-ghost use Rattle.bh_props.specs.Seen.{settings_seen};
+ghost use Rattle.bh_props.specs.Printed.{value_of, property_line, lines_of, group_lines, number_or};
+ghost use Rattle.bh_props.specs.SettingsView.{settings_seen};
 
 use crate::property::Property;
 use crate::settings::Settings;
@@ -24,17 +24,19 @@ impl fmt::Display for Settings {
     }
 }
 
+/// Writes the lines of a group.
 fn write_group<W: fmt::Write>(
     f: &mut fmt::Formatter<W>,
     name: &str,
     props: &GroupProps,
     audit_steps: Option<u64>,
 ) -> fmt::Result
-    ensures { WritesOnOk W.write_str_gives f.old result (lines_of_group audit_steps (name.now, props.now)) f.new }
+    ensures { WritesOnOk W.write_str_gives f.old result (group_lines audit_steps (name.now, props.now)) f.new }
 {
     write_lines(f, name, props, audit_steps, &Property::ALL)
 }
 
+/// Writes the lines of some properties of a group.
 fn write_lines<W: fmt::Write>(
     f: &mut fmt::Formatter<W>,
     name: &str,
@@ -43,7 +45,7 @@ fn write_lines<W: fmt::Write>(
     properties: &[Property],
 ) -> fmt::Result
     ensures { WritesOnOk W.write_str_gives f.old result
-        (flat_map (line_of audit_steps (name.now, props.now)) properties.now) f.new }
+        (flat_map (property_line audit_steps (name.now, props.now)) properties.now) f.new }
 {
     for property in properties {
         let value = property.value_in(props, audit_steps);
@@ -83,6 +85,7 @@ impl Property {
     }
 }
 
+/// The number, or what stands for none.
 fn number_or(none: PropertyValue, number: Option<u64>) -> PropertyValue
     ensures { result ≡ number_or none number }
 {

@@ -10,26 +10,47 @@ use std::fmt;
 /// A property, in the order of the table. Shown, it is its dotted name.
 #[derive(Clone, Copy, Debug, PartialEq, Eq)]
 pub enum Property {
+    /// `service.auditSteps`
     AuditSteps,
+    /// `service.slots`
     Slots,
+    /// `execution.isolation.strategy`
     Strategy,
+    /// `execution.isolation.thread.timeoutInMilliseconds`
     Timeout,
+    /// `execution.timeout.enabled`
     TimeoutOn,
+    /// `execution.isolation.semaphore.maxConcurrentRequests`
     Semaphore,
+    /// `fallback.isolation.semaphore.maxConcurrentRequests`
     FallbackPermits,
+    /// `fallback.enabled`
     FallbackOn,
+    /// `circuitBreaker.enabled`
     CircuitOn,
+    /// `circuitBreaker.requestVolumeThreshold`
     Volume,
+    /// `circuitBreaker.sleepWindowInMilliseconds`
     SleepWindow,
+    /// `circuitBreaker.errorThresholdPercentage`
     ErrorPercent,
+    /// `circuitBreaker.forceOpen`
     ForceOpen,
+    /// `circuitBreaker.forceClosed`
     ForceClosed,
+    /// `metrics.rollingStats.timeInMilliseconds`
     Window,
+    /// `metrics.rollingStats.numBuckets`
     Buckets,
+    /// `metrics.healthSnapshot.intervalInMilliseconds`
     HealthInterval,
+    /// `requestCache.enabled`
     CacheOn,
+    /// `coreSize`
     CoreSize,
+    /// `maxQueueSize`
     MaxQueue,
+    /// `queueSizeRejectionThreshold`
     QueueThreshold,
 }
 
@@ -49,14 +70,18 @@ pub(crate) enum Place {
 /// What the table says of a property.
 #[derive(Clone, Copy)]
 pub(crate) struct Row {
+    /// Where it stands.
     pub(crate) place: Place,
+    /// Its dotted name there.
     pub(crate) name: &'static str,
+    /// What it may be.
     pub(crate) kind: Kind,
+    /// What it is where the file does not say.
     pub(crate) built_in: PropertyValue,
 }
 
 /// The most slots of a group.
-const MOST_SLOTS: u64 = 64;
+const MOST_SLOTS: u64 = 4096;
 
 impl Property {
     /// The properties in the order of the table.
@@ -152,6 +177,7 @@ fn whole(name: &'static str, built_in: u64) -> Row
     number(name, 0, MOST, built_in)
 }
 
+/// `true` or `false`.
 fn truth(name: &'static str, built_in: bool) -> Row
     ensures { row_of_code result ≡ a_row Place.Command name.now Kind.Truth (PropertyValue.Truth built_in) }
 {
@@ -163,6 +189,7 @@ fn truth(name: &'static str, built_in: bool) -> Row
     }
 }
 
+/// `THREAD` or `SEMAPHORE`.
 fn strategy(name: &'static str, built_in: Strategy) -> Row
     ensures { row_of_code result ≡ a_row Place.Command name.now Kind.Strategy (PropertyValue.Strategy built_in) }
 {

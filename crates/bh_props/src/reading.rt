@@ -1,11 +1,10 @@
 //! Reading a settings file.
 
-ghost use Rattle.std.specs.Prelude.{◌≡◌, ◌≢◌, [], Ok, Err, None, All, IfOk, IfErr, IfSome};
-ghost use Rattle.bh_base.specs.Ranges.{IsInRange};
+ghost use Rattle.std.specs.Prelude.{◌≡◌, ◌≢◌, [], Ok, Err, None, IfOk, IfErr};
 ghost use Rattle.toml.specs.View.{view};
-ghost use Rattle.bh_props.specs.Settings.{IsAuditLimit, settings_of, settings_of_named, settings_of_groups};
+ghost use Rattle.bh_props.specs.Settings.{settings_of, settings_of_named, settings_of_groups};
 ghost use Rattle.bh_props.specs.Names.{names_of, first_twice};
-ghost use Rattle.bh_props.specs.Seen.{settings_seen};
+ghost use Rattle.bh_props.specs.SettingsView.{settings_seen};
 
 use crate::check::{check_values, check_windows};
 use crate::error::SettingsError;
@@ -25,8 +24,6 @@ use toml::Value;
 pub fn read(alloc: Global, text: &str) -> Result<Settings, SettingsError>
     ensures ok { IfOk result (λ s. settings_of text.now ≡ Ok (settings_seen s)) }
     ensures refused { IfErr result (λ e. e ≢ SettingsError.Memory → settings_of text.now ≡ Err e) }
-    ensures in_range { IfOk result (λ s. All (λ group. IsInRange group.1) s.groups.entries) }
-    ensures audit { IfOk result (λ s. IfSome s.audit_steps IsAuditLimit) }
 {
     match toml::table_from_str(alloc, text) {
         Ok(table) => read_tree(alloc, &Value::Table(table)),
@@ -35,6 +32,7 @@ pub fn read(alloc: Global, text: &str) -> Result<Settings, SettingsError>
     }
 }
 
+/// The settings of a parsed file.
 fn read_tree(alloc: Global, root: &Value) -> Result<Settings, SettingsError>
     ensures ok { IfOk result (λ s. settings_of_named (view root.now) (names_of (view root.now)) ≡ Ok (settings_seen s)) }
     ensures refused { IfErr result (λ e. e ≢ SettingsError.Memory
@@ -44,6 +42,7 @@ fn read_tree(alloc: Global, root: &Value) -> Result<Settings, SettingsError>
     read_groups(alloc, root, &names)
 }
 
+/// The settings of a parsed file whose groups are known.
 fn read_groups(alloc: Global, root: &Value, names: &[Text<32>]) -> Result<Settings, SettingsError>
     requires { first_twice [] 1 names.now ≡ None }
     ensures ok { IfOk result (λ s. settings_of_groups (view root.now) names.now ≡ Ok (settings_seen s)) }
@@ -54,11 +53,8 @@ fn read_groups(alloc: Global, root: &Value, names: &[Text<32>]) -> Result<Settin
     check_values(root, Fault::WrongType, names)?;
     check_values(root, Fault::OutOfRange, names)?;
     check_windows(root, names)?;
-    match groups_in_force(alloc, root, names) {
-        Ok(groups) => Ok(Settings {
-            groups,
-            audit_steps: audit_steps_in_force(root),
-        }),
-        Err(_) => Err(SettingsError::Memory),
-    }
+    Ok(Settings {
+        groups: groups_in_force(alloc, root, names)?,
+        audit_steps: audit_steps_in_force(root),
+    })
 }

@@ -21,6 +21,7 @@ pub(crate) fn check_service(root: &Value, names: &[Text<32>]) -> Result<(), Sett
     }
 }
 
+/// Whether each member of `service` is known.
 fn has_known_members(service: &Table, names: &[Text<32>]) -> bool
     ensures { result ≡ all_members (is_service_member names.now) (table_view service.now) }
 {
@@ -32,6 +33,7 @@ fn has_known_members(service: &Table, names: &[Text<32>]) -> bool
     true
 }
 
+/// Whether the member may stand under `service`.
 fn is_known_member(key: &str, value: &Value, names: &[Text<32>]) -> bool
     ensures { result ≡ is_service_member names.now key.now (view value.now) }
 {
@@ -42,6 +44,7 @@ fn is_known_member(key: &str, value: &Value, names: &[Text<32>]) -> bool
     }
 }
 
+/// Whether it is a table of slots by `default` and groups.
 fn has_group_keys(slots: &Value, names: &[Text<32>]) -> bool
     ensures { result ≡ has_keys names.now (view slots.now) }
 {
@@ -51,6 +54,7 @@ fn has_group_keys(slots: &Value, names: &[Text<32>]) -> bool
     }
 }
 
+/// Whether each key is `default` or a group.
 fn are_group_keys(table: &Table, names: &[Text<32>]) -> bool
     ensures { result ≡ all_members (λ key d. is_key names.now key) (table_view table.now) }
 {
@@ -62,12 +66,14 @@ fn are_group_keys(table: &Table, names: &[Text<32>]) -> bool
     true
 }
 
+/// Whether the key is `default` or a group.
 fn is_group_key(key: &str, names: &[Text<32>]) -> bool
     ensures { result ≡ is_key names.now key.now }
 {
     key == "default" || is_listed(key, names)
 }
 
+/// Whether the key is the name of a group.
 fn is_listed(key: &str, names: &[Text<32>]) -> bool
     ensures { result ≡ list_any (λ name. bytes_eq name key.now) names.now }
 {

@@ -1,10 +1,12 @@
 //! The settings of a file that nothing refuses.
 
-ghost use Rattle.std.specs.Prelude.{◌≡◌, [], None, map, IfOk};
+ghost use Rattle.std.specs.Prelude.{◌≡◌, [], None, map, All, IfOk, IfSome};
+ghost use Rattle.std.proofs.Props.{props};
 ghost use Rattle.toml.specs.View.{view};
+ghost use Rattle.bh_base.specs.Ranges.{IsInRange, IsQueueLength-prop};
 ghost use Rattle.bh_props.specs.InForce.{in_force};
 ghost use Rattle.bh_props.specs.Names.{first_twice};
-ghost use Rattle.bh_props.specs.Settings.{truth, strategy, optional_number, props_of, group_in_force};
+ghost use Rattle.bh_props.specs.Settings.{IsAuditLimit, truth, strategy, optional_number, props_of, group_in_force};
 
 use crate::check::number_in_force;
 use crate::in_force::in_force;
@@ -15,7 +17,7 @@ use indexmap::IndexMap;
 use std::alloc::{AllocError, Global};
 use toml::Value;
 
-/// The settings of a service.
+/// The settings of a service. Each number is in its range.
 #[derive(Debug, Drop)]
 pub struct Settings {
     /// The properties of each group, in listed order.
@@ -23,6 +25,10 @@ pub struct Settings {
     /// `service.auditSteps`: the steps that an audited service may do in each group, 1 to 1,000,000; None without
     /// audit.
     pub audit_steps: Option<u64>,
+    /// The numbers of each group are in their ranges.
+    pub ghost in_range: { All (λ group. IsInRange group.1) groups.entries } by { Prim.hlevel (props, IsQueueLength-prop) },
+    /// The limit of audited steps is.
+    pub ghost audit: { IfSome audit_steps IsAuditLimit } by { Prim.hlevel props },
 }
 
 /// The groups in listed order, each with its properties in force.
@@ -48,6 +54,7 @@ pub(crate) fn audit_steps_in_force(root: &Value) -> Option<u64>
     optional_number_in_force(root, Property::AuditSteps, "")
 }
 
+/// The properties of a group, each by the value in force.
 fn props_in_force(root: &Value, group: &str) -> GroupProps
     ensures { result ≡ props_of (λ p. in_force p group.now (view root.now)) }
 {
@@ -75,6 +82,7 @@ fn props_in_force(root: &Value, group: &str) -> GroupProps
     }
 }
 
+/// The truth value in force of a property that is one and has no fault.
 fn truth_in_force(root: &Value, property: Property, group: &str) -> bool
     ensures { result ≡ truth (in_force property group.now (view root.now)) }
 {
@@ -84,6 +92,7 @@ fn truth_in_force(root: &Value, property: Property, group: &str) -> bool
     }
 }
 
+/// The strategy in force.
 fn strategy_in_force(root: &Value, group: &str) -> Strategy
     ensures { result ≡ strategy (in_force Property.Strategy group.now (view root.now)) }
 {
@@ -93,6 +102,7 @@ fn strategy_in_force(root: &Value, group: &str) -> Strategy
     }
 }
 
+/// The number in force of a property that may be left out.
 fn optional_number_in_force(root: &Value, property: Property, group: &str) -> Option<u64>
     ensures { result ≡ optional_number (in_force property group.now (view root.now)) }
 {

@@ -16,6 +16,7 @@ pub(crate) enum Kind {
     Number { least: u64, most: u64 },
     /// A whole number from -1 to 4,294,967,295, where -1 and 0 are no queue.
     QueueSize,
+    /// `true` or `false`.
     Truth,
     /// `THREAD` or `SEMAPHORE`.
     Strategy,
@@ -24,7 +25,9 @@ pub(crate) enum Kind {
 /// What a property is. Shown, it is a decimal number, `true` or `false`, or a word.
 #[derive(Clone, Copy, Debug, PartialEq, Eq)]
 pub(crate) enum PropertyValue {
+    /// A whole number.
     Number(u64),
+    /// `true` or `false`.
     Truth(bool),
     /// `THREAD` or `SEMAPHORE`.
     Strategy(Strategy),
@@ -37,7 +40,9 @@ pub(crate) enum PropertyValue {
 /// Why a value of a file is not one of its property's kind.
 #[derive(Clone, Copy, Debug, PartialEq, Eq)]
 pub(crate) enum Fault {
+    /// It is of another TOML type.
     WrongType,
+    /// It is of the type, and none of the values allowed.
     OutOfRange,
 }
 
@@ -59,29 +64,27 @@ impl Kind {
     }
 }
 
+/// The number, where it is in the range.
 fn within(least: u64, most: u64, n: i64) -> Result<PropertyValue, Fault>
     ensures { result ≡ within least most n }
 {
-    if n < 0 {
-        return Err(Fault::OutOfRange);
-    }
-    let number = n as u64;
-    if least <= number && number <= most {
-        Ok(PropertyValue::Number(number))
-    } else {
-        Err(Fault::OutOfRange)
+    match u64::try_from(n) {
+        Ok(number) if least <= number && number <= most => Ok(PropertyValue::Number(number)),
+        _ => Err(Fault::OutOfRange),
     }
 }
 
+/// The size of a queue, where it is one; 0 and -1 are no queue.
 fn queue_size(n: i64) -> Result<PropertyValue, Fault>
     ensures { result ≡ queue_size n }
 {
-    if n == 0 || n == -1 {
-        return Ok(PropertyValue::NoQueue);
+    match n {
+        0 | -1 => Ok(PropertyValue::NoQueue),
+        _ => within(1, MOST, n),
     }
-    within(1, MOST, n)
 }
 
+/// The strategy of the word.
 fn strategy(word: &str) -> Result<PropertyValue, Fault>
     ensures { result ≡ strategy_of word.now }
 {

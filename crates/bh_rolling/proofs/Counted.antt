@@ -7,22 +7,22 @@ use Rattle.bh_base.specs.History.{bucket_of}
 use Rattle.bh_base.specs.Tables.{sum_in}
 use Rattle.bh_base.proofs.LaterTables.{sum_in-later, sum_in-le}
 use Rattle.bh_rolling.specs.declared.ring.Bucket.{Bucket}
-use Rattle.bh_rolling.specs.Buckets.{kept_table, within_count, IsEmptyAfter}
+use Rattle.bh_rolling.specs.Buckets.{table_by_age, within_count, IsEmptyAfter}
 use Rattle.bh_rolling.proofs.Ages.{within_count-is}
-use Rattle.bh_rolling.proofs.Later.{kept_table-later}
+use Rattle.bh_rolling.proofs.Later.{table_by_age-later}
 
 module _ (w : Window) (buckets : List Bucket) (latest moment : ℕ) (k : EventKind) (some : 0 < w.buckets) (empty : AllByRecursion (IsEmptyAfter (bucket_of w latest)) buckets) (later : latest ≤ moment) where
   -- it is what the table counts
-  pub counted : within_count w.buckets (bucket_of w moment) k buckets ≡ sum_in w latest (kept_table w.buckets buckets (bucket_of w latest)) moment k
+  pub counted : within_count w.buckets (bucket_of w moment) k buckets ≡ sum_in w latest (table_by_age w.buckets buckets (bucket_of w latest)) moment k
   counted =
       within_count-is w buckets moment k
-      ∙ ap (λ t. sum_in w moment t moment k) (kept_table-later w buckets latest moment empty later)
-      ∙ sum_in-later w latest moment (kept_table w.buckets buckets (bucket_of w latest)) [] k some
+      ∙ ap (λ t. sum_in w moment t moment k) (table_by_age-later w buckets latest moment empty later)
+      ∙ sum_in-later w latest moment (table_by_age w.buckets buckets (bucket_of w latest)) [] k some
       ∙ none_more
     where
-      none_more : sum_in w latest (kept_table w.buckets buckets (bucket_of w latest)) moment k + 0 ≡ sum_in w latest (kept_table w.buckets buckets (bucket_of w latest)) moment k
+      none_more : sum_in w latest (table_by_age w.buckets buckets (bucket_of w latest)) moment k + 0 ≡ sum_in w latest (table_by_age w.buckets buckets (bucket_of w latest)) moment k
       none_more = omega arith
 
   -- and no more than at the latest moment
   pub counted-le : (most : ℕ) → within_count w.buckets (bucket_of w latest) k buckets ≤ most → within_count w.buckets (bucket_of w moment) k buckets ≤ most
-  counted-le most few = omega (arith, counted, sum_in-le w latest moment (kept_table w.buckets buckets (bucket_of w latest)) k, within_count-is w buckets latest k)
+  counted-le most few = omega (arith, counted, sum_in-le w latest moment (table_by_age w.buckets buckets (bucket_of w latest)) k, within_count-is w buckets latest k)

@@ -8,23 +8,23 @@ use Rattle.std.proofs.lemmas.Bool.Decides.{nat_tests}
 use Rattle.std.proofs.lemmas.List.Sums.{get_or-le-sum_by}
 use Rattle.bh_base.specs.declared.event.EventKind.{EventKind}
 use Rattle.bh_base.specs.declared.event.EventKind.TheVariants as kind
-use Rattle.bh_base.specs.History.{place_of, is_kind, count_in, bucket_of}
+use Rattle.bh_base.specs.History.{place_of_kind, is_kind, count_in, bucket_of}
 use Rattle.bh_base.specs.Tables.{sum_in, later_table}
 use Rattle.bh_base.proofs.LaterTables.{sum_in-later, sum_in-le}
 use Rattle.bh_base.proofs.Windows.{div_mono}
 use Rattle.bh_rolling.specs.declared.ring.Bucket.{Bucket}
 use Rattle.bh_rolling.specs.declared.ring.Ring.TheInside.{Inside}
-use Rattle.bh_rolling.specs.Buckets.{kept_table, renewed, within, within_count, IsEmptyAfter}
+use Rattle.bh_rolling.specs.Buckets.{table_by_age, renewed, part_within, within_count, IsEmptyAfter}
 use Rattle.bh_rolling.specs.Inside.{ring_view, IsRing}
 use Rattle.bh_rolling.specs.RingView.{ring_count, ring_recorded}
 use Rattle.bh_rolling.proofs.Ages.{within_count-is}
-use Rattle.bh_rolling.proofs.Written.{written, written-number, renewed_is, kept_table-set}
+use Rattle.bh_rolling.proofs.Written.{written, written-number, renewed_is, table_by_age-set}
 
 -- the kinds by their places
 kinds : List EventKind
 kinds = kind.BadRequest ∷ kind.ExceptionThrown ∷ kind.Failure ∷ kind.FallbackFailure ∷ kind.FallbackMissing ∷ kind.FallbackRejection ∷ kind.FallbackSuccess ∷ kind.ResponseFromCache ∷ kind.SemaphoreRejected ∷ kind.ShortCircuited ∷ kind.Success ∷ kind.ThreadPoolRejected ∷ kind.Timeout ∷ []
 
-at_place : (k : EventKind) → get_or kinds (place_of k) kind.Timeout ≡ k
+at_place : (k : EventKind) → get_or kinds (place_of_kind k) kind.Timeout ≡ k
 unfolding kinds
 at_place kind.BadRequest = refl
 at_place kind.ExceptionThrown = refl
@@ -42,7 +42,7 @@ at_place kind.Timeout = refl
 
 same_kind : (k l : EventKind) → is_kind k l ≡ true → k ≡ l
 same_kind k l same =
-    let places : place_of k ≡ place_of l = grind (arith, nat_tests) in
+    let places : place_of_kind k ≡ place_of_kind l = grind (arith, nat_tests) in
     sym (at_place k) ∙ ap (λ p. get_or kinds p kind.Timeout) places ∙ at_place l
 
 all_set : {X : Type 0} (P : X → Type 0) (xs : List X) (i : ℕ) (x : X) → AllByRecursion P xs → P x → AllByRecursion P (set xs i x)
@@ -58,13 +58,14 @@ still_empty newest later (b ∷ bs) le all = (λ after. all.0 (omega arith), sti
 pub renewed-le : (n number most : ℕ) (k : EventKind) (buckets : List Bucket) (place : ℕ) (d : Bucket) → 0 < n → place < length buckets → within_count n number k buckets ≤ most → count_in (renewed number (get_or buckets place d)).counts k ≤ most
 renewed-le n number most k buckets place d some inside few =
     let old : Bucket = get_or buckets place d in
-    here old.number (count_in old.counts k) _ _ some few (get_or-le-sum_by (within n number k) buckets place d inside) (renewed_is number old k).1
+    here old.number (count_in old.counts k) _ _ some few (get_or-le-sum_by (part_within n number k) buckets place d inside) (renewed_is number old k).1
   where
     here : (q x sum r : ℕ) → 0 < n → sum ≤ most → (if nat_le q number && nat_lt number (q + n) then x else 0) ≤ sum → r ≡ (if q == number then x else 0) → r ≤ most
     here q x sum r some few le is = grind (arith, nat_tests)
 
 module _ (i : Inside) (now : ℕ) (kind : EventKind) (d y : Bucket) (ring : IsRing i) (later : i.latest ≤ now) (few : ring_count (ring_view i) now kind < 2 ^ 60)
     (is : y ≡ written (bucket_of i.window now) kind (get_or i.buckets.items (bucket_of i.window now % i.window.buckets) d)) where
+  -- the ring with the event in its bucket
   abbrev pub after : Inside
   after = record { window = i.window; latest = now; buckets = with_item i.buckets (bucket_of i.window now % i.window.buckets) y }
 
@@ -74,11 +75,12 @@ module _ (i : Inside) (now : ℕ) (kind : EventKind) (d y : Bucket) (ring : IsRi
   place : ℕ
   place = bucket_of i.window now % i.window.buckets
 
-  rows : kept_table i.window.buckets after.buckets.items (bucket_of i.window now) ≡ later_table i.window i.latest (kept_table i.window.buckets i.buckets.items (bucket_of i.window i.latest)) now (kind ∷ [])
+  rows : table_by_age i.window.buckets after.buckets.items (bucket_of i.window now) ≡ later_table i.window i.latest (table_by_age i.window.buckets i.buckets.items (bucket_of i.window i.latest)) now (kind ∷ [])
   rows =
-      ap (λ b. kept_table i.window.buckets (set i.buckets.items (bucket_of i.window now % i.window.buckets) b) (bucket_of i.window now)) is
-      ∙ kept_table-set i.window i.buckets.items d i.latest now kind ring.buckets ring.some ring.placed ring.empty later
+      ap (λ b. table_by_age i.window.buckets (set i.buckets.items (bucket_of i.window now % i.window.buckets) b) (bucket_of i.window now)) is
+      ∙ table_by_age-set i.window i.buckets.items d i.latest now kind ring.buckets ring.some ring.placed ring.empty later
 
+  -- it is seen as the ring before it with the event recorded
   pub recorded_view : ring_view after ≡ ring_recorded now kind (ring_view i)
   recorded_view = λ j. record { window = i.window; latest = now; table = rows j }
 
@@ -92,7 +94,7 @@ module _ (i : Inside) (now : ℕ) (kind : EventKind) (d y : Bucket) (ring : IsRi
       grown =
           within_count-is i.window after.buckets.items now k
           ∙ ap (λ t. sum_in i.window now t now k) rows
-          ∙ sum_in-later i.window i.latest now (kept_table i.window.buckets i.buckets.items (bucket_of i.window i.latest)) (kind ∷ []) k ring.some
+          ∙ sum_in-later i.window i.latest now (table_by_age i.window.buckets i.buckets.items (bucket_of i.window i.latest)) (kind ∷ []) k ring.some
 
       at : (same : Bool) → is_kind kind k ≡ same → within_count i.window.buckets (bucket_of i.window now) k after.buckets.items ≤ 2 ^ 60
       at true e =
@@ -102,8 +104,9 @@ module _ (i : Inside) (now : ℕ) (kind : EventKind) (d y : Bucket) (ring : IsRi
           omega (arith, grown, fewer, one)
       at false e =
           let none : count_by (λ l. is_kind l k) (kind ∷ []) ≡ 0 = ap (λ b. 0 + (if b then 1 else 0)) e in
-          omega (arith, grown, none, sum_in-le i.window i.latest now (kept_table i.window.buckets i.buckets.items (bucket_of i.window i.latest)) k, within_count-is i.window i.buckets.items i.latest k, ring.bounded k)
+          omega (arith, grown, none, sum_in-le i.window i.latest now (table_by_age i.window.buckets i.buckets.items (bucket_of i.window i.latest)) k, within_count-is i.window i.buckets.items i.latest k, ring.bounded k)
 
+  -- and is a ring
   pub recorded_ring : IsRing after
   recorded_ring = record {
     some = ring.some;

@@ -13,8 +13,8 @@ use Rattle.bh_base.specs.Tables.{no_counts, new_at, later_table}
 use Rattle.bh_base.proofs.Tables.{counts_by_same, map_same}
 use Rattle.bh_base.proofs.Windows.{div_mono, count_in-counts_by}
 use Rattle.bh_rolling.specs.declared.ring.Bucket.{Bucket}
-use Rattle.bh_rolling.specs.Buckets.{kept, kept_table, raised, renewed, IsEmptyAfter}
-use Rattle.bh_rolling.proofs.Later.{kept-later}
+use Rattle.bh_rolling.specs.Buckets.{count_by_age, table_by_age, raised, renewed, IsEmptyAfter}
+use Rattle.bh_rolling.proofs.Later.{count_by_age-later}
 
 -- fewer than n buckets later is another place
 another_place : (number age n : ℕ) → 0 < age → age < n → (number + age) % n ≡ number % n → ⊥
@@ -31,6 +31,7 @@ written number kind b = record { number = (renewed number b).number; counts = ra
 abbrev pub left_over : ℕ → EventKind → Bucket → ℕ
 left_over number k b = if b.number == number then count_in b.counts k else 0
 
+-- a renewed bucket has the number, and keeps its events where it had the number before
 pub renewed_is : (number : ℕ) (b : Bucket) (k : EventKind) → ((renewed number b).number ≡ number) × (count_in (renewed number b).counts k ≡ left_over number k b)
 renewed_is number b k = at (b.number == number) refl
   where
@@ -38,6 +39,7 @@ renewed_is number b k = at (b.number == number) refl
     at true is = let here : b.number ≡ number = grind (arith, nat_tests) in (here, refl)
     at false is = (refl, count_in-counts_by (λ l. 0) k)
 
+-- a bucket that is written has the number
 pub written-number : (number : ℕ) (kind : EventKind) (b : Bucket) → (written number kind b).number ≡ number
 written-number number kind b = (renewed_is number b kind).0
 
@@ -47,10 +49,10 @@ written-count number kind k b =
     ∙ ap (λ n. n + (if is_kind kind k then 1 else 0)) (renewed_is number b k).1
 
 -- a bucket that is written adds its event to the newest age alone
-kept-set : (n number : ℕ) (kind : EventKind) (buckets : List Bucket) (d : Bucket) (age : ℕ) (k : EventKind) → length buckets ≡ n → 0 < n → (get_or buckets (number % n) d).number % n ≡ number % n → age < n
-    → kept (set buckets (number % n) (written number kind (get_or buckets (number % n) d))) number age k ≡ kept buckets number age k + new_at (kind ∷ []) age k
-unfolding kept
-kept-set n number kind buckets d age k len some there inside =
+count_by_age-set : (n number : ℕ) (kind : EventKind) (buckets : List Bucket) (d : Bucket) (age : ℕ) (k : EventKind) → length buckets ≡ n → 0 < n → (get_or buckets (number % n) d).number % n ≡ number % n → age < n
+    → count_by_age (set buckets (number % n) (written number kind (get_or buckets (number % n) d))) number age k ≡ count_by_age buckets number age k + new_at (kind ∷ []) age k
+unfolding count_by_age
+count_by_age-set n number kind buckets d age k len some there inside =
     let part : Bucket → ℕ = λ b. if b.number + age == number then count_in b.counts k else 0 in
     let old : Bucket = get_or buckets (number % n) d in
     let sums : sum_by part (set buckets (number % n) (written number kind old)) + part old ≡ sum_by part buckets + part (written number kind old) = sum_by-set part buckets (number % n) (written number kind old) d (omega arith) in
@@ -62,9 +64,10 @@ kept-set n number kind buckets d age k len some there inside =
     split : (new before q r x z one : ℕ) → new + (if q + age == number then x else 0) ≡ before + (if r + age == number then z else 0) → (0 < age → q + age ≡ number → ⊥) → z ≡ (if q == number then x else 0) + one → r ≡ number → new ≡ before + (if age == 0 then 0 + one else 0)
     split new before q r x z one sums apart up numbered = grind (arith, nat_tests)
 
-pub kept_table-set : (w : Window) (buckets : List Bucket) (d : Bucket) (latest moment : ℕ) (kind : EventKind) → length buckets ≡ w.buckets → 0 < w.buckets → ((place : ℕ) (d : Bucket) → place < w.buckets → (get_or buckets place d).number % w.buckets ≡ place) → AllByRecursion (IsEmptyAfter (bucket_of w latest)) buckets → latest ≤ moment
-    → kept_table w.buckets (set buckets (bucket_of w moment % w.buckets) (written (bucket_of w moment) kind (get_or buckets (bucket_of w moment % w.buckets) d))) (bucket_of w moment) ≡ later_table w latest (kept_table w.buckets buckets (bucket_of w latest)) moment (kind ∷ [])
-kept_table-set w buckets d latest moment kind len some there empty later =
+-- with the bucket written, the table is the later one with the event added
+pub table_by_age-set : (w : Window) (buckets : List Bucket) (d : Bucket) (latest moment : ℕ) (kind : EventKind) → length buckets ≡ w.buckets → 0 < w.buckets → ((place : ℕ) (d : Bucket) → place < w.buckets → (get_or buckets place d).number % w.buckets ≡ place) → AllByRecursion (IsEmptyAfter (bucket_of w latest)) buckets → latest ≤ moment
+    → table_by_age w.buckets (set buckets (bucket_of w moment % w.buckets) (written (bucket_of w moment) kind (get_or buckets (bucket_of w moment % w.buckets) d))) (bucket_of w moment) ≡ later_table w latest (table_by_age w.buckets buckets (bucket_of w latest)) moment (kind ∷ [])
+table_by_age-set w buckets d latest moment kind len some there empty later =
     map_same _ _ w.buckets no_counts (λ age inside. counts_by_same _ _ (λ k.
-    kept-set w.buckets (bucket_of w moment) kind buckets d age k len some (there (bucket_of w moment % w.buckets) d (omega arith)) inside
-    ∙ ap (λ n. n + new_at (kind ∷ []) age k) (kept-later w.buckets buckets (bucket_of w latest) (bucket_of w moment) age k empty (div_mono latest moment w.width later) inside)))
+    count_by_age-set w.buckets (bucket_of w moment) kind buckets d age k len some (there (bucket_of w moment % w.buckets) d (omega arith)) inside
+    ∙ ap (λ n. n + new_at (kind ∷ []) age k) (count_by_age-later w.buckets buckets (bucket_of w latest) (bucket_of w moment) age k empty (div_mono latest moment w.width later) inside)))

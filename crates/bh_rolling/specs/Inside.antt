@@ -5,11 +5,11 @@ use Rattle.bh_base.specs.declared.event.EventKind.{EventKind}
 use Rattle.bh_base.specs.History.{bucket_of}
 use Rattle.bh_rolling.specs.declared.ring.Bucket.{Bucket}
 use Rattle.bh_rolling.specs.declared.ring.Ring.TheInside.{Inside}
-use Rattle.bh_rolling.specs.Buckets.{kept_table, within_count, IsEmptyAfter}
+use Rattle.bh_rolling.specs.Buckets.{table_by_age, within_count, IsEmptyAfter}
 use Rattle.bh_rolling.specs.RingView.{RingView}
 
 abbrev pub ring_view : Inside → RingView
-ring_view r = record { window = r.window; latest = r.latest; table = kept_table r.window.buckets r.buckets.items (bucket_of r.window r.latest) }
+ring_view r = record { window = r.window; latest = r.latest; table = table_by_age r.window.buckets r.buckets.items (bucket_of r.window r.latest) }
 
 -- there is a bucket for each of the window's, each in its place, and no count passes 2^60
 pub record IsRing (r : Inside) : Type 0 where

@@ -4,7 +4,7 @@ ghost use Rattle.std.specs.Prelude.{◌≡◌, ◌+◌, ◌<◌, ◌^◌};
 ghost use Rattle.bh_base.specs.declared.event.EventKind.{EventKind};
 ghost use Rattle.bh_base.specs.History.{count_in};
 ghost use Rattle.bh_base.specs.Tables.{no_counts};
-ghost use Rattle.bh_rolling.specs.Buckets.{added, raised};
+ghost use Rattle.bh_rolling.specs.Buckets.{summed, raised};
 
 use bh_base::{Counts, EventKind};
 
@@ -54,7 +54,7 @@ pub fn raise(counts: &mut Counts, kind: EventKind)
 /// Adds the counts of each kind.
 pub fn add(total: &mut Counts, counts: &Counts)
     requires { (k : EventKind) → count_in total.old k + count_in counts.now k < 2 ^ 64 }
-    ensures { total.new ≡ added total.old counts.now }
+    ensures { total.new ≡ summed total.old counts.now }
 {
     total.bad_request += counts.bad_request;
     total.exception_thrown += counts.exception_thrown;

@@ -5,7 +5,7 @@ ghost use Rattle.bh_base.specs.declared.event.Event.{Event};
 ghost use Rattle.bh_base.specs.declared.event.EventKind.{EventKind};
 ghost use Rattle.bh_base.specs.History.{count, count_in, counts_by};
 ghost use Rattle.std.specs.List.{range_with_len};
-ghost use Rattle.bh_rolling.specs.Buckets.{cleared, fresh, renewed, within, within_count};
+ghost use Rattle.bh_rolling.specs.Buckets.{cleared, fresh, renewed, part_within, within_count};
 ghost use Rattle.bh_rolling.specs.RingView.{IsTableOf, empty_ring, ring_count, ring_recorded};
 
 use crate::counts::{add, count_in, no_counts, raise};
@@ -16,7 +16,9 @@ use std::marker::Model;
 /// The events of one bucket of the window, which is the one of this number: its moments divided by the width.
 #[derive(Clone, Copy, Debug)]
 struct Bucket {
+    /// The moments of the bucket, divided by the width.
     number: u64,
+    /// Its events, by kind.
     counts: Counts,
 }
 
@@ -26,8 +28,11 @@ struct Bucket {
 /// that place begins it anew, so a step costs the same however long it was since the one before.
 #[derive(Drop)]
 pub struct Ring {
+    /// How many buckets there are, and how long each is.
     window: Window,
+    /// The moment of the latest event, 0 where there is none.
     latest: Moment,
+    /// The buckets, each at its number modulo how many there are.
     buckets: Vec<Bucket>,
 }
 
@@ -103,7 +108,7 @@ impl Ring {
     }
 }
 
-// Empty buckets, the first so many by their numbers.
+/// Empty buckets, the first so many by their numbers.
 fn new_buckets(alloc: Global, count: u64) -> Result<Vec<Bucket>, AllocError>
     ensures { IfOk result (λ buckets. buckets.items ≡ map fresh (range_with_len 0 count)) }
 {
@@ -117,7 +122,7 @@ fn new_buckets(alloc: Global, count: u64) -> Result<Vec<Bucket>, AllocError>
     Ok(buckets)
 }
 
-// Makes the bucket the one of the number: one that had another number is empty from now on.
+/// Makes the bucket the one of the number: one that had another number is empty from now on.
 fn renew(bucket: &mut Bucket, number: u64)
     ensures { bucket.new ≡ renewed number bucket.old }
 {
@@ -127,7 +132,7 @@ fn renew(bucket: &mut Bucket, number: u64)
     }
 }
 
-// No bucket has an event any more.
+/// No bucket has an event any more.
 fn clear_buckets(buckets: &mut [Bucket])
     ensures { buckets.new ≡ map cleared buckets.old }
 {
@@ -136,17 +141,17 @@ fn clear_buckets(buckets: &mut [Bucket])
     }
 }
 
-// Adds what the bucket has, where it has one of the `count` numbers up to `last`.
+/// Adds what the bucket has, where it has one of the `count` numbers up to `last`.
 fn add_within(sums: &mut Counts, bucket: &Bucket, count: u64, last: u64)
-    requires { (k : EventKind) → count_in sums.old k + within count last k bucket.now < 2 ^ 64 }
-    ensures { sums.new ≡ counts_by (λ k. count_in sums.old k + within count last k bucket.now) }
+    requires { (k : EventKind) → count_in sums.old k + part_within count last k bucket.now < 2 ^ 64 }
+    ensures { sums.new ≡ counts_by (λ k. count_in sums.old k + part_within count last k bucket.now) }
 {
     if bucket.number <= last && last - bucket.number < count {
         add(sums, &bucket.counts);
     }
 }
 
-// The sums over the buckets that have one of the `count` numbers up to `last`.
+/// The sums over the buckets that have one of the `count` numbers up to `last`.
 fn sum_within(buckets: &[Bucket], count: u64, last: u64) -> Counts
     requires { (k : EventKind) → within_count count last k buckets.now ≤ 2 ^ 60 }
     ensures { result ≡ counts_by (λ k. within_count count last k buckets.now) }

@@ -1,2 +1,3 @@
 pub mod Echo
+pub mod ServiceControlView
 pub mod Served

@@ -33,12 +33,6 @@ MayClose group context reply = can_reply (op.Close context) reply ≡ true
 abbrev pub MayAnswer : (GroupId → List ℕ → RunEnd → Type 0) → (GroupId → Cause → List ℕ → FallbackEnd → Type 0) → (ℕ → Type 0) → GroupId → Request → Result Answer CallError → Type 0
 MayAnswer ends fallback_ends moments group request answer = (made : List Receipt) × IsCall ends fallback_ends moments group request answer made
 
--- the control of a service: the service, the names of its groups, and the pass of what was asked last, if one was taken
-pub record ControlView : Type 0 where
-  pub service : ServiceView
-  pub names : List (List ℕ)
-  pub last : Option PassView
-
 -- a new pass of the group: it has room in an audited service alone
 abbrev pub new_pass : ServiceView → GroupId → ℕ → PassView
 new_pass service group room = blank group (if service.audited then room else 0)

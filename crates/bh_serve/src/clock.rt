@@ -51,6 +51,7 @@ pub struct Ticks<'e, R> {
 }
 
 impl<'e, R: Clock> Ticks<'e, R> {
+    /// A pace that sleeps by the clock of the machine.
     pub fn new(rt: &'e R) -> Ticks<'e, R> {
         Ticks { rt }
     }

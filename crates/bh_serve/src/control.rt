@@ -30,9 +30,9 @@ pub struct ServiceControl<'e, R, D, C> {
 }
 
 impl<'e, R, D, C> Model for ServiceControl<'e, R, D, C> {
-    ghost use Rattle.bh_serve.specs.Served.{ControlView};
+    ghost use Rattle.bh_serve.specs.ServiceControlView.{ServiceControlView};
 
-    ghost Value = { ControlView };
+    ghost Value = { ServiceControlView };
 
     ghost view = { λ c. record { service = c.shared.now; names = c.names.now; last = c.last } };
 }
@@ -142,7 +142,7 @@ impl<'e, R: Wait, D: Dependency, C: Clock> Control for ServiceControl<'e, R, D, 
     }
 }
 
-// What a call answers where there is no pass for it.
+/// What a call answers where there is no pass for it.
 fn refused_as(error: PassError) -> CallError
     ensures { result ≡ refused_as error }
 {

@@ -52,7 +52,7 @@ impl<'e, R: Clock> Dependency for Echo<'e, R> {
     }
 }
 
-// The milliseconds of `sleep N`, with N of one to four decimal digits.
+/// The milliseconds of `sleep N`, with N of one to four decimal digits.
 fn sleep_of(arg: &str) -> Option<u64> {
     let digits = arg.strip_prefix("sleep ")?;
     if digits.len() > 4 || !digits.bytes().all(|byte| byte.is_ascii_digit()) {
@@ -61,19 +61,18 @@ fn sleep_of(arg: &str) -> Option<u64> {
     digits.parse().ok()
 }
 
+/// How a run of the argument ends.
 fn run_end(arg: &str) -> RunEnd
     ensures { result ≡ run_end arg.now }
 {
     match arg {
-        "fail" => RunEnd::Failure,
-        "fail twice" => RunEnd::Failure,
-        "fail bare" => RunEnd::Failure,
+        "fail" | "fail twice" | "fail bare" => RunEnd::Failure,
         "bad" => RunEnd::BadRequest,
         _ => echoed(arg),
     }
 }
 
-// The argument as a body: every argument is short enough.
+/// The argument as a body: every argument is short enough.
 fn echoed(arg: &str) -> RunEnd
     ensures { result ≡ echoed arg.now }
 {
@@ -83,6 +82,7 @@ fn echoed(arg: &str) -> RunEnd
     }
 }
 
+/// How the fallback of the argument ends.
 fn fallback_end(arg: &str) -> FallbackEnd
     ensures { result ≡ fallback_end arg.now }
 {
@@ -93,6 +93,7 @@ fn fallback_end(arg: &str) -> FallbackEnd
     }
 }
 
+/// The value of every fallback that gives one.
 fn fallback_value() -> FallbackEnd
     ensures { result ≡ FallbackEnd.Success (codes "fallback") }
 {

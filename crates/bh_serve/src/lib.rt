@@ -5,6 +5,6 @@ pub mod clock;
 pub mod control;
 pub mod echo;
 pub mod serve;
-mod site;
+mod threads;
 
 pub use serve::serve_on;

@@ -1,19 +1,17 @@
 //! Connections to a service, each with a thread and a conversation of its own.
 
-ghost use Rattle.std.specs.Prelude.{◌≡◌, ◌≤◌, ◌⊎◌, [], ◌∷◌, ◌++◌, length, All, IfSome, IfOk, OnOk, false};
-ghost use Rattle.bh_base.specs.Ranges.{IsInRange};
+ghost use Rattle.std.specs.Prelude.{◌≡◌, ◌≤◌, ◌⊎◌, [], ◌∷◌, ◌++◌, length, IfOk, OnOk, false};
 ghost use Rattle.bh_port.specs.Text.{names_in};
-ghost use Rattle.bh_props.specs.Seen.{settings_seen};
-ghost use Rattle.bh_props.specs.Settings.{IsAuditLimit};
+ghost use Rattle.bh_props.specs.SettingsView.{settings_seen};
 
 use crate::clock::MachineClock;
 use crate::echo::Echo;
-use crate::site::{Site, run};
+use crate::threads::Server;
 use bh_audit::{Book, Shared};
 use bh_base::Text;
 use bh_port::script::open;
 use bh_props::Settings;
-use std::alloc::{AllocError, Global};
+use std::alloc::{AllocError, AllocFailed, Global};
 use std::io::Write;
 use std::net::TcpListener;
 use std::rt::Clock;
@@ -41,6 +39,18 @@ pub enum ServeError {
     Memory,
 }
 
+impl From<AllocError> for ServeError {
+    fn from(_refused: AllocError) -> ServeError {
+        ServeError::Memory
+    }
+}
+
+impl<T: Drop> From<AllocFailed<T>> for ServeError {
+    fn from(_refused: AllocFailed<T>) -> ServeError {
+        ServeError::Memory
+    }
+}
+
 /// Serves so many connections of the listener with the groups of the settings, all new, over the echo dependency,
 /// and answers the exit status. It returns once the last connection has ended, and the service is stopped then.
 ///
@@ -57,8 +67,6 @@ pub fn serve_on<R: Threads + Wait + Clock + Sync, E: Write + Send>(
     settings: &Settings,
     errors: &Mutex<E>,
 ) -> u8
-    requires in_range { All (λ group. IsInRange group.1) settings.now.groups.entries }
-    requires audit { IfSome settings.now.audit_steps IsAuditLimit }
     ensures { (result ≡ 0) ⊎ (result ≡ 3) }
 {
     match serve(rt, alloc, listener, connections, settings, errors) {
@@ -71,6 +79,7 @@ pub fn serve_on<R: Threads + Wait + Clock + Sync, E: Write + Send>(
     }
 }
 
+/// The same, with what ended the service.
 fn serve<R: Threads + Wait + Clock + Sync, E: Write + Send>(
     rt: &R,
     alloc: Global,
@@ -78,19 +87,12 @@ fn serve<R: Threads + Wait + Clock + Sync, E: Write + Send>(
     connections: u32,
     settings: &Settings,
     errors: &Mutex<E>,
-) -> Result<(), ServeError>
-    requires in_range { All (λ group. IsInRange group.1) settings.now.groups.entries }
-    requires audit { IfSome settings.now.audit_steps IsAuditLimit }
-{
-    let Ok(names) = names(alloc, settings) else {
-        return Err(ServeError::Memory);
-    };
-    let Ok(shared) = service(alloc, settings) else {
-        return Err(ServeError::Memory);
-    };
+) -> Result<(), ServeError> {
+    let names = names(alloc, settings)?;
+    let shared = service(alloc, settings)?;
     let echo = Echo::new(rt);
     let clock = MachineClock::start(rt);
-    let site = Site {
+    let server = Server {
         rt,
         alloc,
         shared: &shared,
@@ -99,13 +101,11 @@ fn serve<R: Threads + Wait + Clock + Sync, E: Write + Send>(
         clock: &clock,
         errors,
     };
-    run(&site, listener, connections)
+    server.run(listener, connections)
 }
 
-// The service of the groups of the settings, all new. It is not audited.
+/// The service of the groups of the settings, all new. It is not audited.
 fn service(alloc: Global, settings: &Settings) -> Result<Shared, AllocError>
-    requires in_range { All (λ group. IsInRange group.1) settings.now.groups.entries }
-    requires audit { IfSome settings.now.audit_steps IsAuditLimit }
     ensures audited { IfOk result (λ shared. shared.audited ≡ false) }
     ensures groups { IfOk result (λ shared. length settings.now.groups.entries ≤ shared.groups) }
 {
@@ -121,7 +121,7 @@ fn service(alloc: Global, settings: &Settings) -> Result<Shared, AllocError>
     }
 }
 
-// The names of the groups, each at the place that is its group's number.
+/// The names of the groups, each at the place that is its group's number.
 fn names(alloc: Global, settings: &Settings) -> Result<Vec<Text<32>>, AllocError>
     ensures { IfOk result (λ names. names.items ≡ names_in (settings_seen settings.now)) }
 {
@@ -132,7 +132,7 @@ fn names(alloc: Global, settings: &Settings) -> Result<Vec<Text<32>>, AllocError
     Ok(names)
 }
 
-// Puts an item behind the others.
+/// Puts an item behind the others.
 fn put<T: Drop>(list: &mut Vec<T>, item: T) -> Result<(), AllocError>
     ensures { OnOk result (list.new.items ≡ list.old.items ++ item ∷ []) }
 {

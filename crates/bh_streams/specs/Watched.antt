@@ -6,8 +6,8 @@ use Rattle.bh_streams.specs.declared.reader.WatchedReader.{WatchedReader}
 use Rattle.bh_streams.specs.declared.writer.WatchedWriter.{WatchedWriter}
 
 -- a count with so many more, which stops at 2^64 - 1
-abbrev pub counted : ℕ → ℕ → ℕ
-counted count more = min (count + more) (2 ^ 64 - 1)
+abbrev pub saturating_count : ℕ → ℕ → ℕ
+saturating_count count more = min (count + more) (2 ^ 64 - 1)
 
 module _ {R : Type 0} where
   -- the reader that is watched
@@ -24,11 +24,11 @@ module _ {R : Type 0} where
 
   -- so many reads were made in between, or more
   abbrev pub HasRead : ℕ → WatchedReader R → WatchedReader R → Type 0
-  HasRead n old new = counted (reads_of old) n ≤ reads_of new
+  HasRead n old new = saturating_count (reads_of old) n ≤ reads_of new
 
   -- one read failed in between
   abbrev pub OneFailed : WatchedReader R → WatchedReader R → Type 0
-  OneFailed old new = failures_of new ≡ counted (failures_of old) 1
+  OneFailed old new = failures_of new ≡ saturating_count (failures_of old) 1
 
   -- no read failed in between
   abbrev pub NoneFailed : WatchedReader R → WatchedReader R → Type 0
@@ -49,7 +49,7 @@ module _ {W : Type 0} where
 
   -- one write failed in between, or took none of its bytes
   abbrev pub OneRefused : WatchedWriter W → WatchedWriter W → Type 0
-  OneRefused old new = refusals_of new ≡ counted (refusals_of old) 1
+  OneRefused old new = refusals_of new ≡ saturating_count (refusals_of old) 1
 
   -- no write failed in between, or took none of its bytes
   abbrev pub NoneRefused : WatchedWriter W → WatchedWriter W → Type 0
@@ -60,9 +60,9 @@ module _ {W : Type 0} where
   bytes_held contents w = contents (writer_of w).now
 
 -- a write that failed, or took none of the bytes that it was given
-abbrev pub is_refusal : {E : Type 0} → Result ℕ E → List ℕ → Bool
-is_refusal (Ok n) bytes = n == 0 && nat_lt 0 (length bytes)
-is_refusal (Err e) bytes = true
+abbrev pub is_refused_write : {E : Type 0} → Result ℕ E → List ℕ → Bool
+is_refused_write (Ok n) bytes = n == 0 && nat_lt 0 (length bytes)
+is_refused_write (Err e) bytes = true
 
 -- the front of `bytes` was written, or all of it, and nothing else
 abbrev pub WritesFront : Option (List ℕ) → Option (List ℕ) → List ℕ → Type 0

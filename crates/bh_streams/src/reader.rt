@@ -3,7 +3,7 @@
 ghost use Rattle.std.specs.Prelude.{◌≡◌, OnOk, OnErr};
 ghost use Rattle.std.specs.Io.{ReadsAtMost};
 ghost use Rattle.std.specs.Io.KnownBytes.{ReadConsumes};
-ghost use Rattle.bh_streams.specs.Watched.{counted, reader_of, reads_of, failures_of, bytes_left, OneFailed, NoneFailed};
+ghost use Rattle.bh_streams.specs.Watched.{saturating_count, reader_of, reads_of, failures_of, bytes_left, OneFailed, NoneFailed};
 
 use std::io;
 use std::io::Read;
@@ -51,7 +51,7 @@ impl<'a, R: Read> WatchedReader<'a, R> {
         ensures same_reader { (reader_of self.new).ghost_name ≡ (reader_of self.old).ghost_name }
         ensures bound { ReadsAtMost result buf.new }
         ensures bytes { ReadConsumes (bytes_left R.remaining self.old) (bytes_left R.remaining self.new) result buf.new }
-        ensures one { reads_of self.new ≡ counted (reads_of self.old) 1 }
+        ensures one { reads_of self.new ≡ saturating_count (reads_of self.old) 1 }
         ensures ok { OnOk result (NoneFailed self.old self.new) }
         ensures err { OnErr result (OneFailed self.old self.new) }
     {

@@ -3,7 +3,7 @@
 ghost use Rattle.std.specs.Prelude.{◌≡◌, true, false};
 ghost use Rattle.std.specs.Io.{WritesAtMost};
 ghost use Rattle.std.specs.Io.KnownBytes.{WriteAppends};
-ghost use Rattle.bh_streams.specs.Watched.{writer_of, refusals_of, bytes_held, OneRefused, NoneRefused, is_refusal};
+ghost use Rattle.bh_streams.specs.Watched.{writer_of, refusals_of, bytes_held, OneRefused, NoneRefused, is_refused_write};
 
 use std::io;
 use std::io::Write;
@@ -41,8 +41,8 @@ impl<'a, W: Write> WatchedWriter<'a, W> {
         ensures same_writer { (writer_of self.new).ghost_name ≡ (writer_of self.old).ghost_name }
         ensures bound { WritesAtMost result buf.now }
         ensures bytes { WriteAppends (bytes_held W.contents self.old) (bytes_held W.contents self.new) result buf.now }
-        ensures refused { is_refusal result buf.now ≡ true → OneRefused self.old self.new }
-        ensures took { is_refusal result buf.now ≡ false → NoneRefused self.old self.new }
+        ensures refused { is_refused_write result buf.now ≡ true → OneRefused self.old self.new }
+        ensures took { is_refused_write result buf.now ≡ false → NoneRefused self.old self.new }
     {
         let result = self.writer.write(buf);
         let refused = match result {

@@ -19,9 +19,8 @@ pub fn write<W: Write>(writer: &mut WatchedWriter<'_, W>, bytes: &[u8]) -> Resul
     let mut at = 0;
     while at < bytes.len() {
         match writer.write(&bytes[at..]) {
-            Ok(0) => return Err(PortError::Write),
+            Ok(0) | Err(_) => return Err(PortError::Write),
             Ok(n) => at += n,
-            Err(_) => return Err(PortError::Write),
         }
     }
     Ok(())

@@ -1,6 +1,7 @@
 //! Runs that no clause speaks of: that memory is there, and that the clauses say what is meant.
 
 ghost use Rattle.std.specs.Prelude.{◌≤◌, ◌^◌, length};
+ghost use Rattle.bh_base.specs.Ranges.{IsInRange};
 
 use crate::samples::{props, step, submit, text};
 use crate::script::{assert_number, play};
@@ -148,4 +149,47 @@ fn looks_at_an_unregistered_group(rt: HostRuntime) {
     let mut core = Core::new(rt.alloc(), 64);
     assert!(rt; core.props(GroupId(0)).is_none());
     play(&rt, &mut core, NOTHING_TO_SEE);
+}
+
+/// A group with as many slots as there may be, all of which may wait for the one worker.
+fn crowded() -> GroupProps
+    ensures { IsInRange result }
+{
+    GroupProps {
+        slots: 4096,
+        core: 1,
+        max_queue: Some(5000),
+        queue_threshold: 5000,
+        ..props()
+    }
+}
+
+/// Fills the group's slots with tickets that wait.
+fn fill(rt: &impl Abort, core: &mut Core) {
+    for made in 1_u64..4097 {
+        let told = core.apply(step(0, 0, &submit("x")));
+        assert!(rt; told == Reply::Queued(made));
+    }
+}
+
+#[test]
+fn thousands_of_tickets_time_out_in_one_step(rt: HostRuntime) {
+    let mut core = Core::new(rt.alloc(), 4096);
+    core.register(crowded(), 1 << 40).expect(&rt, "memory");
+    fill(&rt, &mut core);
+    play(
+        &rt,
+        &mut core,
+        "0 0 submit x = GroupFull\n0 999 expire = Expired(0)",
+    );
+    play(
+        &rt,
+        &mut core,
+        "0 1000 expire = Expired(4096)\n0 1000 expire = Expired(0)",
+    );
+    play(
+        &rt,
+        &mut core,
+        "0 1000 start = Idle\ndue 0 2000 = 0\npending 0 4096 = 0",
+    );
 }

@@ -10,13 +10,13 @@ use rand_core::{Rng, SeedableRng};
 use rand_xoshiro::Xoshiro256PlusPlus;
 use std::process::Abort;
 
-/// Limits so small that each of them is met every few steps.
-fn small(strategy: Strategy) -> GroupProps
+/// A group of forty slots, with limits so small that each of them is met every few steps.
+fn forty_slots() -> GroupProps
     ensures { IsInRange result }
 {
     GroupProps {
-        slots: 5,
-        strategy,
+        slots: 40,
+        strategy: Strategy::Thread,
         timeout_ms: 4,
         timeout_on: true,
         semaphore: 2,
@@ -35,6 +35,27 @@ fn small(strategy: Strategy) -> GroupProps
         core: 2,
         max_queue: Some(2),
         queue_threshold: 1,
+    }
+}
+
+/// A group of one slot.
+fn one_slot() -> GroupProps
+    ensures { IsInRange result }
+{
+    GroupProps {
+        slots: 1,
+        ..forty_slots()
+    }
+}
+
+/// A group of three slots, which runs its tickets under permits.
+fn three_slots() -> GroupProps
+    ensures { IsInRange result }
+{
+    GroupProps {
+        slots: 3,
+        strategy: Strategy::Semaphore,
+        ..forty_slots()
     }
 }
 
@@ -65,12 +86,13 @@ fn fallback_end(rng: &mut Xoshiro256PlusPlus) -> FallbackEnd {
     }
 }
 
-/// The ticket that the step made.
-fn made(told: &Reply) -> Option<Serial> {
+/// The ticket that has one holder more by the step.
+fn held(told: &Reply) -> Option<Serial> {
     match told {
-        Reply::Queued(serial) | Reply::Inline(serial) | Reply::FallbackDue { serial, .. } => {
-            Some(*serial)
-        }
+        Reply::Queued(serial)
+        | Reply::Inline(serial)
+        | Reply::FallbackDue { serial, .. }
+        | Reply::Joined(serial) => Some(*serial),
         _ => None,
     }
 }
@@ -107,63 +129,75 @@ fn operation(rng: &mut Xoshiro256PlusPlus, serial: u64) -> Op {
     }
 }
 
-/// What one random step was answered.
-#[derive(Clone, Copy)]
-struct Told {
-    /// The group in the midst of others was told what it was told alone.
-    alike: bool,
-    /// The ticket that was made.
-    made: Option<Serial>,
-    is_answer: bool,
-}
-
-fn compare(told: Reply, told_alone: Reply) -> Told {
-    Told {
-        alike: told == told_alone,
-        made: made(&told),
-        is_answer: is_answer(&told),
-    }
-}
-
-/// A group that stands alone, and its newest ticket.
+/// A group that stands alone, and the serial of its ticket for each holder that has no answer yet.
 #[derive(Drop)]
 struct Alone {
     core: Core,
-    newest: Serial,
+    holders: Vec<Serial>,
 }
 
-/// A random step of the group in the core of all groups, and of the same group where it stands alone.
-fn step_both(
+/// A holder, by its place, and its ticket; now and then one that there is not.
+fn holder(rng: &mut Xoshiro256PlusPlus, holders: &[Serial]) -> (usize, Serial) {
+    let place = below(rng, 64) as usize;
+    let count = holders.len().max(1);
+    match holders.get(place % count) {
+        Some(serial) if place != 63 => (place % count, *serial),
+        _ => (usize::MAX, place as u64),
+    }
+}
+
+/// A random step of the group in the core of all groups, and of the same group where it stands alone. Whether it was
+/// told an answer.
+fn step_both<R: Abort>(
+    rt: &R,
     rng: &mut Xoshiro256PlusPlus,
     all: &mut Core,
     alone: &mut Alone,
     group: u64,
     now: u64,
-) -> Told {
-    let serial = alone.newest.saturating_sub(below(rng, 5));
+) -> bool {
+    let (place, serial) = holder(rng, &alone.holders);
     let op = operation(rng, serial);
-    let told = compare(
-        all.apply(step(group, now, &op)),
-        alone.core.apply(step(0, now, &op)),
-    );
-    alone.newest = told.made.unwrap_or(alone.newest);
-    told
+    let told = all.apply(step(group, now, &op));
+    let told_alone = alone.core.apply(step(0, now, &op));
+    assert!(rt; told == told_alone, "{op:?} at {now}");
+    if let Some(serial) = held(&told) {
+        alone.holders.push(serial).expect(rt, "memory");
+    }
+    if is_answer(&told) && place < alone.holders.len() {
+        alone.holders.swap_remove(place);
+    }
+    is_answer(&told)
 }
 
-const STRATEGIES: [Strategy; 3] = [Strategy::Thread, Strategy::Semaphore, Strategy::Thread];
+fn register<R: Abort>(rt: &R, core: &mut Core, props: GroupProps)
+    requires props { IsInRange props }
+{
+    core.register(props, 1 << 40).expect(rt, "memory");
+}
 
-fn register<R: Abort>(rt: &R, core: &mut Core, strategy: Strategy) {
-    core.register(small(strategy), 1 << 40).expect(rt, "memory");
+/// The group in a core of its own.
+fn stand_alone<R: Abort + AllocGlobal>(rt: &R, props: GroupProps) -> Alone
+    requires props { IsInRange props }
+{
+    let mut core = Core::new(rt.alloc(), 100);
+    register(rt, &mut core, props);
+    Alone {
+        core,
+        holders: Vec::new(rt.alloc()),
+    }
 }
 
 /// Each of the three groups in a core of its own.
 fn three_alone<R: Abort + AllocGlobal>(rt: &R) -> Vec<Alone> {
     let mut three = Vec::new(rt.alloc());
-    for strategy in STRATEGIES {
-        let mut core = Core::new(rt.alloc(), 100);
-        register(rt, &mut core, strategy);
-        three.push(Alone { core, newest: 0 }).expect(rt, "memory");
-    }
+    three.push(stand_alone(rt, one_slot())).expect(rt, "memory");
+    three
+        .push(stand_alone(rt, three_slots()))
+        .expect(rt, "memory");
+    three
+        .push(stand_alone(rt, forty_slots()))
+        .expect(rt, "memory");
     three
 }
 
@@ -187,9 +221,8 @@ fn count_answers<R: Abort>(rt: &R, all: &mut Core, three: &mut Vec<Alone>, steps
         let group = below(&mut rng, 3);
         let now = moment(&mut rng, i, steps);
         let alone = three.get_mut(group as usize).expect(rt, "a group");
-        let told = step_both(&mut rng, all, alone, group, now);
-        assert!(rt; told.alike, "step {i}");
-        answers = answers.saturating_add(u64::from(told.is_answer));
+        let is_answer = step_both(rt, &mut rng, all, alone, group, now);
+        answers = answers.saturating_add(u64::from(is_answer));
     }
     answers
 }
@@ -197,10 +230,10 @@ fn count_answers<R: Abort>(rt: &R, all: &mut Core, three: &mut Vec<Alone>, steps
 #[test]
 fn three_groups_are_told_what_each_is_told_alone(rt: HostRuntime) {
     let mut all = Core::new(rt.alloc(), 100);
-    for strategy in STRATEGIES {
-        register(&rt, &mut all, strategy);
-    }
+    register(&rt, &mut all, one_slot());
+    register(&rt, &mut all, three_slots());
+    register(&rt, &mut all, forty_slots());
     let mut three = three_alone(&rt);
     let answers = count_answers(&rt, &mut all, &mut three, 100_000);
-    assert!(rt; answers > 1000);
+    assert!(rt; answers > 5000);
 }

@@ -256,7 +256,7 @@ fn assert_no_value(rt: &(impl Abort + AllocGlobal), key: &str, value: &str, name
 
 // Of each property: its key, its name, its lowest and highest value, one of a wrong type, and those next to its range.
 const VALUES: &str = "service.auditSteps service.auditSteps 1 1000000 true 0 1000001
-service.slots.a service.slots 1 64 [] 0 65
+service.slots.a service.slots 1 4096 [] 0 4097
 hystrix.command.a.execution.isolation.strategy execution.isolation.strategy \"THREAD\" \"SEMAPHORE\" 1 \"thread\" \"\"
 hystrix.command.a.execution.isolation.thread.timeoutInMilliseconds execution.isolation.thread.timeoutInMilliseconds 0 4294967295 \"1\" -1 4294967296
 hystrix.command.a.execution.timeout.enabled execution.timeout.enabled false true 1

@@ -7,12 +7,13 @@ use Rattle.bh_base.specs.declared.reply.Reply.TheVariants as reply
 use Rattle.bh_base.specs.Replies.{is_refusal}
 use Rattle.bh_journal.specs.declared.pass.Receipt.{Receipt}
 use Rattle.bh_journal.specs.Passes.{PassView, Adds, AddsReceipt, receipt_of, marked_worn, marked_no_group, marked_stopped}
-use Rattle.bh_audit.specs.Calls.{step_of}
+use Rattle.bh_audit.specs.Calls.{step_at}
 use Rattle.bh_workers.specs.Receipts.{Gains, StepAdds, StepTaken, kept}
 
-pub added_receipt : (moments : ℕ → Type 0) (a : Bool) (p q : PassView) (o : Op) (m : ℕ) (r : Reply) → moments m → AddsReceipt a p (step_of p.group m o) r q → StepTaken moments a p o r q
+-- a receipt that was added is that of a step which was not refused
+pub added_receipt : (moments : ℕ → Type 0) (a : Bool) (p q : PassView) (o : Op) (m : ℕ) (r : Reply) → moments m → AddsReceipt a p (step_at p.group m o) r q → StepTaken moments a p o r q
 added_receipt moments true p q o m r named h = record {
-  receipt = receipt_of h.0 (step_of p.group m o) r;
+  receipt = receipt_of h.0 (step_at p.group m o) r;
   gains = record {
     group = ap (λ (x : PassView). x.group) h.1;
     receipts = ap (λ (x : PassView). x.receipts) h.1;
@@ -22,7 +23,7 @@ added_receipt moments true p q o m r named h = record {
   marks = ap (λ (x : PassView). x.marks) h.1;
 }
 added_receipt moments false p q o m r named h = record {
-  receipt = receipt_of 0 (step_of p.group m o) r;
+  receipt = receipt_of 0 (step_at p.group m o) r;
   gains = record {
     group = ap (λ (x : PassView). x.group) h;
     receipts = ap (λ (x : PassView). x.receipts) h ∙ sym (append-nil p.receipts);
@@ -57,25 +58,30 @@ adds_taken a p q s reply.NoGroup t h = absurd (let e : true ≡ false = t in cc)
 
 -- a step of the pass's own group that was no refusal
 pub taken : (moments : ℕ → Type 0) (a : Bool) (p q : PassView) (o : Op) (r : Reply) → is_refusal r ≡ false → StepAdds moments a p o r q → StepTaken moments a p o r q
-taken moments a p q o r t h = added_receipt moments a p q o h.0 r h.1 (adds_taken a p q (step_of p.group h.0 o) r t h.2)
+taken moments a p q o r t h = added_receipt moments a p q o h.0 r h.1 (adds_taken a p q (step_at p.group h.0 o) r t h.2)
 
 -- nothing was added
 pub none_gained : (a : Bool) (p q : PassView) → q.group ≡ p.group → q.receipts ≡ p.receipts → q.room ≡ p.room → Gains a p q []
 none_gained true p q g r e = record { group = g; receipts = r ∙ sym (append-nil p.receipts); room = omega arith }
 none_gained false p q g r e = record { group = g; receipts = r ∙ sym (append-nil p.receipts); room = omega arith }
 
+-- the mark of a worn group comes with no receipt
 pub none_by_worn : (a : Bool) (p q : PassView) → q ≡ marked_worn p → Gains a p q []
 none_by_worn a p q h = none_gained a p q (ap (λ (x : PassView). x.group) h) (ap (λ (x : PassView). x.receipts) h) (ap (λ (x : PassView). x.room) h)
 
+-- nor does that of a group which is not registered
 pub none_by_no_group : (a : Bool) (p q : PassView) → q ≡ marked_no_group p → Gains a p q []
 none_by_no_group a p q h = none_gained a p q (ap (λ (x : PassView). x.group) h) (ap (λ (x : PassView). x.receipts) h) (ap (λ (x : PassView). x.room) h)
 
+-- nor does that of a service which was stopped
 pub none_by_stopped : (a : Bool) (p q : PassView) → q ≡ marked_stopped p → Gains a p q []
 none_by_stopped a p q h = none_gained a p q (ap (λ (x : PassView). x.group) h) (ap (λ (x : PassView). x.receipts) h) (ap (λ (x : PassView). x.room) h)
 
+-- nor is there one where the pass is the same
 pub none_by_same : (a : Bool) (p q : PassView) → q ≡ p → Gains a p q []
 none_by_same a p q h = none_gained a p q (ap (λ (x : PassView). x.group) h) (ap (λ (x : PassView). x.receipts) h) (ap (λ (x : PassView). x.room) h)
 
+-- what is kept of two lists is kept of each
 pub kept-append : (a : Bool) (xs ys : List Receipt) → kept a (xs ++ ys) ≡ kept a xs ++ kept a ys
 kept-append true xs ys = refl
 kept-append false xs ys = refl

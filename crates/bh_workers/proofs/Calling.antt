@@ -18,7 +18,7 @@ use Rattle.bh_journal.specs.declared.pass.Receipt.{Receipt}
 use Rattle.bh_journal.specs.Passes.{PassView, marked_worn, marked_no_group}
 use Rattle.bh_audit.specs.Calls.{AddsCollect}
 use Rattle.bh_base.specs.Replies.{is_refusal}
-use Rattle.bh_workers.specs.Receipts.{IsReceiptOf, IsRunEnd, StepAdds, StepTaken, end_of}
+use Rattle.bh_workers.specs.Receipts.{IsReceiptOf, IsRunEnd, StepAdds, StepTaken, end_op}
 use Rattle.bh_workers.specs.Calls.{CallAdds, IsCall, IsCallMade, IsCollected, IsCollectedLast, IsFallbackEnd, IsFallenBack, IsRefused, IsRunInline, IsSettled, IsWaiting, MarksAre, Only, Then}
 use Rattle.bh_workers.proofs.Adding.{Gains-append, added_receipt, none_by_no_group, none_by_worn, taken}
 
@@ -66,26 +66,31 @@ step_only moments a p q o answer result t marks = record { made = t.receipt ∷ 
 pub refused_worn : (a : Bool) (p q : PassView) → q ≡ marked_worn p → CallAdds a p (Err error.Worn) q (IsRefused (Err error.Worn))
 refused_worn a p q h = record { made = []; gains = none_by_worn a p q h; marks = ap (λ (x : PassView). x.marks) h; is = refl }
 
+-- and one of a group that is not registered
 pub refused_no_group : (a : Bool) (p q : PassView) → q ≡ marked_no_group p → CallAdds a p (Err error.NoGroup) q (IsRefused (Err error.NoGroup))
 refused_no_group a p q h = record { made = []; gains = none_by_no_group a p q h; marks = ap (λ (x : PassView). x.marks) h; is = refl }
 
 module _ (moments : ℕ → Type 0) where
+  -- a Collect that gave the answer
   pub collect_answered : (a : Bool) (p q : PassView) (serial : ℕ) (answer : Answer) → AddsCollect moments a p serial (reply.Answered answer) q
       → CallAdds a p (Ok answer) q (IsCollected moments p.group serial (Ok answer))
   collect_answered a p q serial answer h =
       let t = added_receipt moments a p q (op.Collect serial) h.0 (reply.Answered answer) h.1 h.2 in
       step_only moments a p q (op.Collect serial) (reply.Answered answer) (Ok answer) t t.marks
 
+  -- a Collect that found no ticket
   pub collect_taken : (a : Bool) (p q : PassView) (serial : ℕ) → AddsCollect moments a p serial reply.NoTicket q
       → CallAdds a p (Err error.Taken) q (IsCollected moments p.group serial (Err error.Taken))
   collect_taken a p q serial h =
       let t = added_receipt moments a p q (op.Collect serial) h.0 reply.NoTicket h.1 h.2 in
       step_only moments a p q (op.Collect serial) reply.NoTicket (Err error.Taken) t t.marks
 
+  -- a Collect by which a fallback is to be run
   pub collect_fallback : (a : Bool) (p q : PassView) (serial : ℕ) (cause : Cause) → AddsCollect moments a p serial (reply.RunFallback cause) q
       → StepTaken moments a p (op.Collect serial) (reply.RunFallback cause) q
   collect_fallback a p q serial cause h = added_receipt moments a p q (op.Collect serial) h.0 (reply.RunFallback cause) h.1 h.2
 
+  -- a Collect of a service that was stopped
   pub collect_pending : (a : Bool) (p q : PassView) (serial : ℕ) → AddsCollect moments a p serial reply.Pending q
       → CallAdds a p (Err error.Stopped) q (IsCollected moments p.group serial (Err error.Stopped))
   collect_pending a p q serial h =
@@ -186,16 +191,16 @@ module _ (ends : GroupId → List ℕ → RunEnd → Type 0) (fallback_ends : Gr
 
   -- an answer after the end of a run by the caller
   pub runs_inline : (a : Bool) (p m q : PassView) (g : GroupId) (serial : ℕ) (arg : List ℕ) (end : RunEnd) (answer : Reply) (result : Result Answer CallError)
-      → is_refusal answer ≡ false → g ≡ p.group → ends g arg end → StepAdds moments a p (end_of serial end) answer m
+      → is_refusal answer ≡ false → g ≡ p.group → ends g arg end → StepAdds moments a p (end_op serial end) answer m
       → CallAdds a m result q (IsSettled fallback_ends moments m.group serial arg result)
       → CallAdds a p result q (IsRunInline ends fallback_ends moments p.group serial arg result)
   runs_inline a p m q g serial arg end answer result accepted same possible h k =
-      let t = taken moments a p m (end_of serial end) answer accepted h in
+      let t = taken moments a p m (end_op serial end) answer accepted h in
       let told : IsRunEnd ends moments p.group serial arg t.receipt =
       record { end = end; answered = answer; possible = (let P : GroupId → Type 0 = λ x. ends x arg end in subst P same possible); told = t.is } in
       let Rest : GroupId → List Receipt → Type 0 = λ x. IsSettled fallback_ends moments x serial arg result in
       in_other_words a p q result (Then (IsRunEnd ends moments p.group serial arg) (Rest p.group)) (IsRunInline ends fallback_ends moments p.group serial arg result) (λ made h. inr h)
-      (step_then moments a p m q (end_of serial end) answer result (IsRunEnd ends moments p.group serial arg) (Rest p.group) t told
+      (step_then moments a p m q (end_op serial end) answer result (IsRunEnd ends moments p.group serial arg) (Rest p.group) t told
       (of_group a m q m.group p.group result Rest t.gains.group k))
 
   -- an answer after a Submit that asks for nothing else

@@ -16,15 +16,15 @@ use Rattle.bh_journal.specs.declared.pass.Marks.{Marks}
 use Rattle.bh_journal.specs.declared.pass.Receipt.{Receipt}
 use Rattle.bh_journal.specs.Passes.{PassView}
 use Rattle.bh_audit.proofs.Lists.{one_item}
-use Rattle.bh_workers.specs.declared.calls.Called.{Called}
-use Rattle.bh_workers.specs.declared.calls.CallerOf.{CallerOf}
-use Rattle.bh_workers.specs.declared.driven.DriveError.{DriveError}
-use Rattle.bh_workers.specs.declared.driven.Driven.{Driven}
-use Rattle.bh_workers.specs.declared.driven.RequestList.{RequestList}
+use Rattle.bh_workers.specs.declared.caller_threads.Called.{Called}
+use Rattle.bh_workers.specs.declared.caller_threads.CallerOf.{CallerOf}
+use Rattle.bh_workers.specs.declared.driving.DriveError.{DriveError}
+use Rattle.bh_workers.specs.declared.driving.Driven.{Driven}
+use Rattle.bh_workers.specs.declared.driving.RequestList.{RequestList}
 use Rattle.bh_workers.specs.Receipts.{Gains, kept}
 use Rattle.bh_workers.specs.Calls.{IsCall, MarksAre}
 use Rattle.bh_workers.specs.Callers.{AllCallers, CalledAs, IsCallerOf, MakesCall}
-use Rattle.bh_workers.specs.Driving.{AreCallers, AreCalls, IsDriven, IsMarked, IsTimerPass, IsWorkerPass}
+use Rattle.bh_workers.specs.Driving.{AreCallers, AreCalls, IsCaller, IsDriven, IsMarked, IsTimerPass, IsWorkerPass}
 use Rattle.bh_workers.specs.Timing.{AreExpiries, AreTimed}
 
 -- what was added to an empty pass is all that it has
@@ -125,21 +125,17 @@ module _ (ends : GroupId → List ℕ → RunEnd → Type 0) (fallback_ends : Gr
     calls_then g m m' qs bs h.1 q b part s h.5 k now,
   )
 
-  -- what the calls so far have left
-  pub record SoFar (a : Bool) (g : GroupId) (requests : List Request) (answers : List (Result Answer CallError)) (p : PassView) : Type 0 where
-    pub group : p.group ≡ g
-    pub count : length answers ≡ length requests
-    pub calls : a ≡ true → AreCalls ends fallback_ends moments g p.marks requests answers p.receipts
-
-  pub calls_begin : (a : Bool) (p : PassView) (answers : List (Result Answer CallError)) → p.receipts ≡ [] → answers ≡ [] → SoFar a p.group [] answers p
+  -- no call yet
+  pub calls_begin : (a : Bool) (p : PassView) (answers : List (Result Answer CallError)) → p.receipts ≡ [] → answers ≡ [] → IsCaller ends fallback_ends moments a p.group [] answers p
   calls_begin a p answers none empty = record {
     group = refl;
     count = ap (λ (x : List (Result Answer CallError)). length x) empty;
     calls = λ audited. subst (λ (x : List (Result Answer CallError)). AreCalls ends fallback_ends moments p.group p.marks [] x p.receipts) (sym empty) none;
   }
 
+  -- one call more
   pub calls_go_on : (a : Bool) (g : GroupId) (qs : List Request) (bs bs' : List (Result Answer CallError)) (p p' : PassView) (q : Request)
-      → SoFar a g qs bs p → MakesCall ends fallback_ends moments a p bs q p' bs' → SoFar a g (qs ++ q ∷ []) bs' p'
+      → IsCaller ends fallback_ends moments a g qs bs p → MakesCall ends fallback_ends moments a p bs q p' bs' → IsCaller ends fallback_ends moments a g (qs ++ q ∷ []) bs' p'
   calls_go_on a g qs bs bs' p p' q s h =
       let b : Result Answer CallError = h.0 in
       let k = h.2 in
@@ -166,6 +162,7 @@ module _ (ends : GroupId → List ℕ → RunEnd → Type 0) (fallback_ends : Gr
   callers_from a (l ∷ ls) [] len each = absurd (let e = len in omega arith)
   callers_from a (l ∷ ls) (r ∷ rs) len each = (each 0 l r refl refl, callers_from a ls rs (let e = len in omega arith) (λ k x y at is. each (suc k) x y at is))
 
+  -- what all threads gave back is what comes back from a drive
   pub driven_from : (a : Bool) (lists : List RequestList) (called : List Called) (workers timer : List PassView) (result : Result Driven DriveError)
       → IfOk result (λ d. d.answers.items ≡ map (λ (r : Called). r.answers) called) → IfOk result (λ d. d.passes.items ≡ map (λ (r : Called). r.pass) called ++ (workers ++ timer))
       → AreCallers ends fallback_ends moments a lists (map vec_items (map (λ (r : Called). r.answers) called)) (map (λ (r : Called). r.pass) called)

@@ -1,5 +1,5 @@
 -- Rounds of a timer, one after another.
-use Rattle.std.proofs.Common.{◌≡◌, ◌≢◌, ℕ, zero, suc, Bool, List, [], ◌∷◌, ◌++◌, slice_get, slice_set, Option, Some, None, ◌⊎◌, inl, inr, refl, sym, ap, ◌∙◌, subst, arith}
+use Rattle.std.proofs.Common.{◌≡◌, ℕ, Bool, List, [], ◌∷◌, ◌++◌, slice_get, slice_set, Option, Some, None, inl, inr, refl, sym, ap, ◌∙◌, subst, arith}
 use Rattle.std.specs.Prelude.{Result, Ok, Err}
 use Rattle.std.proofs.lemmas.List.{length-set}
 use Rattle.std.proofs.lemmas.Option.{slice_get_within, slice_get_cases}
@@ -10,11 +10,12 @@ use Rattle.bh_journal.specs.declared.pass.Receipt.{Receipt}
 use Rattle.bh_journal.specs.Passes.{PassView}
 use Rattle.bh_audit.specs.declared.next.StepError.{StepError}
 use Rattle.bh_audit.specs.Calls.{AddsExpire}
-use Rattle.bh_audit.proofs.Lists.{get_set_other, get_set_same, one_item}
+use Rattle.bh_audit.proofs.Lists.{get_set_other, get_set_same, one_item, same_or_other}
 use Rattle.bh_workers.specs.Timing.{AreExpiries, AreTimed, IsTimed}
 use Rattle.bh_workers.proofs.Adding.{Gains-append, added_receipt, none_by_same}
 
 module _ (moments : ℕ → Type 0) (a : Bool) where
+  -- the timer added nothing to a pass
   pub untouched : (p q : PassView) → q ≡ p → IsTimed moments a p q
   untouched p q same = record { made = []; gains = none_by_same a p q same; marks = ap (λ (x : PassView). x.marks) same; expiries = tt }
 
@@ -34,6 +35,7 @@ module _ (moments : ℕ → Type 0) (a : Bool) where
   expiries_then g [] ys h k = k
   expiries_then g (x ∷ xs) ys h k = (h.0, expiries_then g xs ys h.1 k)
 
+  -- it was at a pass twice
   pub timed_then : (p m q : PassView) → IsTimed moments a p m → IsTimed moments a m q → IsTimed moments a p q
   timed_then p m q h k = record {
     made = h.made ++ k.made;
@@ -42,14 +44,9 @@ module _ (moments : ℕ → Type 0) (a : Bool) where
     expiries = expiries_then p.group h.made k.made h.expiries (let P : GroupId → Type 0 = λ g. AreExpiries moments g k.made in subst P h.gains.group k.expiries);
   }
 
+  -- it added nothing to any
   pub all_untouched : (ps : List PassView) → AreTimed moments a ps ps
   all_untouched ps = record { count = refl; each = λ k p q at is. untouched p q (one_item (slice_get ps k) q p is at) }
-
-  same_or_other : (i k : ℕ) → (i ≡ k) ⊎ (i ≢ k)
-  same_or_other zero zero = inl refl
-  same_or_other zero (suc k) = inr (λ e. cc)
-  same_or_other (suc i) zero = inr (λ e. cc)
-  same_or_other (suc i) (suc k) = elim (same_or_other i k) [ inl e ↦ inl (ap suc e) | inr n ↦ inr (λ e. n (omega arith)) ]
 
   -- one more pass was looked at
   pub one_more : (xs ys : List PassView) (i : ℕ) (m q : PassView) → AreTimed moments a xs ys → slice_get ys i ≡ Some m → IsTimed moments a m q → AreTimed moments a xs (slice_set ys i q)

@@ -16,7 +16,7 @@ use Rattle.bh_base.specs.declared.reply.Cause.{Cause}
 use Rattle.bh_base.specs.declared.reply.Reply.{Reply}
 use Rattle.bh_base.specs.declared.reply.Reply.TheVariants as reply
 use Rattle.bh_journal.specs.declared.pass.Receipt.{Receipt}
-use Rattle.bh_workers.specs.Receipts.{IsReceiptOf, IsRunEnd, end_of}
+use Rattle.bh_workers.specs.Receipts.{IsReceiptOf, IsRunEnd, end_op}
 use Rattle.bh_workers.specs.Calls.{IsCall, IsCallMade, IsCollected, IsCollectedLast, IsFallbackEnd, IsFallenBack, IsNothing, IsRefused, IsRunInline, IsSettled, IsWaiting, Only, Then}
 use Rattle.bh_workers.specs.CallLaw.{AreToldBy, CollectsItsTicket, IsStepAt, IsTold, SubmitsFor}
 
@@ -114,7 +114,7 @@ module _ (ends : GroupId → List ℕ → RunEnd → Type 0) (fallback_ends : Gr
   run_inline_within serial arg result made (inl h) = refused_within moments g 4 result made h
   run_inline_within serial arg result made (inr h) =
       within_then 3 (IsStepAt moments g) (IsRunEnd ends moments g serial arg) (IsSettled fallback_ends moments g serial arg result)
-      (λ r e. step_at moments g (end_of serial e.end) e.answered r e.told) (settled_within serial arg result) made h
+      (λ r e. step_at moments g (end_op serial e.end) e.answered r e.told) (settled_within serial arg result) made h
 
   call_within : (request : Request) (result : Result Answer CallError) (made : List Receipt) → IsCallMade ends fallback_ends moments g request result made → Within 5 (IsStepAt moments g) made
   call_within request result made (inl h) = refused_within moments g 5 result made h
@@ -230,6 +230,7 @@ module _ (ends : GroupId → List ℕ → RunEnd → Type 0) (fallback_ends : Gr
   told : (request : Request) (result : Result Answer CallError) (made : List Receipt) → Within 5 (IsStepAt moments g) made → AreToldBy moments g request result made → IsTold moments g request result made
   told request result made w t = record { few = w.few; steps = w.all; told = t }
 
+  -- the law of calls
   pub call_tells : (request : Request) (result : Result Answer CallError) (made : List Receipt) → IsCall ends fallback_ends moments g request result made → IsTold moments g request result made
   call_tells request (Ok answer) made h =
       told request (Ok answer) made (call_within request (Ok answer) made h) (call_collects request (Ok answer) (reply.Answered answer) (answer_comes answer) made h)

@@ -8,9 +8,9 @@ use Rattle.bh_base.specs.declared.reply.Reply.TheVariants as reply
 use Rattle.bh_base.specs.Replies.{is_refusal}
 use Rattle.bh_journal.specs.declared.pass.Receipt.{Receipt}
 use Rattle.bh_journal.specs.Passes.{PassView, AddsReceipt}
-use Rattle.bh_audit.specs.Calls.{step_of}
-use Rattle.bh_workers.specs.Receipts.{IsReceiptOf, IsRunEnd, Gains, StepAdds, end_of}
-use Rattle.bh_workers.specs.Work.{IsRun, IsWork, IsTurn, IsEnding}
+use Rattle.bh_audit.specs.Calls.{step_at}
+use Rattle.bh_workers.specs.Receipts.{IsReceiptOf, IsRunEnd, Gains, StepAdds, end_op}
+use Rattle.bh_workers.specs.Work.{IsRunWithEnd, IsWork, IsTurn, IsEnding}
 use Rattle.bh_workers.proofs.Adding.{taken, added_receipt, none_by_worn, none_by_no_group, none_by_same, Gains-append}
 
 module _ (ends : GroupId → List ℕ → RunEnd → Type 0) (moments : ℕ → Type 0) where
@@ -20,17 +20,17 @@ module _ (ends : GroupId → List ℕ → RunEnd → Type 0) (moments : ℕ → 
 
   -- the end of a run was told, or refused
   pub ending_told : (a b : Bool) (p q : PassView) (g : GroupId) (serial : ℕ) (arg : List ℕ) (end : RunEnd) (r : Reply)
-      → g ≡ p.group → ends g arg end → StepAdds moments a p (end_of serial end) r q
+      → g ≡ p.group → ends g arg end → StepAdds moments a p (end_op serial end) r q
       → (b ≡ true → is_refusal r ≡ false) → (b ≡ false → (r ≡ reply.Worn) ⊎ (r ≡ reply.NoGroup))
       → AddsSo a p q (λ made. IsEnding ends moments p.group serial arg b made)
   ending_told a true p q g serial arg end r same possible h accepted refused =
-      let t = taken moments a p q (end_of serial end) r (accepted refl) h in (
+      let t = taken moments a p q (end_op serial end) r (accepted refl) h in (
         t.receipt ∷ [],
         t.gains,
         record { end = end; answered = r; possible = (let P : GroupId → Type 0 = λ x. ends x arg end in subst P same possible); told = t.is },
       )
   ending_told a false p q g serial arg end r same possible h accepted refused =
-      let P : Reply → Type 0 = λ x. StepAdds moments a p (end_of serial end) x q in
+      let P : Reply → Type 0 = λ x. StepAdds moments a p (end_op serial end) x q in
       elim (refused refl) [
         | inl e ↦ ([], none_by_worn a p q (subst P e h).2, refl)
         | inr e ↦ ([], none_by_no_group a p q (subst P e h).2, refl)
@@ -38,7 +38,7 @@ module _ (ends : GroupId → List ℕ → RunEnd → Type 0) (moments : ℕ → 
 
   -- a Start, and what became of its run
   pub turn_made : (a b : Bool) (p mid q : PassView) (serial : ℕ) (arg : List ℕ) (m : ℕ) → moments m
-      → AddsReceipt a p (step_of p.group m op.Start) (reply.Assigned serial arg) mid
+      → AddsReceipt a p (step_at p.group m op.Start) (reply.Assigned serial arg) mid
       → AddsSo a mid q (λ made. IsEnding ends moments mid.group serial arg b made)
       → AddsSo a p q (λ made. IsTurn ends moments p.group b made)
   turn_made a b p mid q serial arg m named h w =
@@ -60,7 +60,7 @@ module _ (ends : GroupId → List ℕ → RunEnd → Type 0) (moments : ℕ → 
   abbrev pub AreRuns : GroupId → List Receipt → Type 0
   AreRuns g [] = Unit {0}
   AreRuns g (r ∷ []) = ⊥
-  AreRuns g (r ∷ e ∷ rs) = IsRun ends moments g r e × AreRuns g rs
+  AreRuns g (r ∷ e ∷ rs) = IsRunWithEnd ends moments g r e × AreRuns g rs
 
   runs_then : (g : GroupId) (rs ys : List Receipt) → AreRuns g rs → IsTurn ends moments g true ys → AreRuns g (rs ++ ys)
   runs_then g [] [] h t = absurd t
@@ -77,14 +77,17 @@ module _ (ends : GroupId → List ℕ → RunEnd → Type 0) (moments : ℕ → 
   work_then g (r ∷ []) ys h t = absurd h
   work_then g (r ∷ e ∷ rs) ys h t = (h.0, work_then g rs ys h.1 t)
 
+  -- a worker that has made no run
   pub work_begins : (a : Bool) (p : PassView) → AddsSo a p p (λ made. AreRuns p.group made)
   work_begins a p = ([], none_by_same a p p refl, tt)
 
+  -- one run more
   pub work_goes_on : (a : Bool) (p m q : PassView) → AddsSo a p m (λ made. AreRuns p.group made) → AddsSo a m q (λ made. IsTurn ends moments m.group true made)
       → AddsSo a p q (λ made. AreRuns p.group made)
   work_goes_on a p m q h t =
       (h.0 ++ t.0, Gains-append a p m q h.0 t.0 h.1 t.1, runs_then p.group h.0 t.0 h.2 (let P : GroupId → Type 0 = λ x. IsTurn ends moments x true t.0 in subst P h.1.group t.2))
 
+  -- and the last turn
   pub work_ends : (a : Bool) (p m q : PassView) → AddsSo a p m (λ made. AreRuns p.group made) → AddsSo a m q (λ made. IsTurn ends moments m.group false made)
       → AddsSo a p q (λ made. IsWork ends moments p.group made)
   work_ends a p m q h t =

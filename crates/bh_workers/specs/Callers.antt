@@ -9,9 +9,9 @@ use Rattle.bh_base.specs.declared.reply.Answer.{Answer}
 use Rattle.bh_base.specs.declared.reply.CallError.{CallError}
 use Rattle.bh_base.specs.declared.reply.Cause.{Cause}
 use Rattle.bh_journal.specs.Passes.{PassView}
-use Rattle.bh_workers.specs.declared.calls.Called.{Called}
-use Rattle.bh_workers.specs.declared.calls.CallerOf.{CallerOf}
-use Rattle.bh_workers.specs.declared.driven.RequestList.{RequestList}
+use Rattle.bh_workers.specs.declared.caller_threads.Called.{Called}
+use Rattle.bh_workers.specs.declared.caller_threads.CallerOf.{CallerOf}
+use Rattle.bh_workers.specs.declared.driving.RequestList.{RequestList}
 use Rattle.bh_workers.specs.Calls.{CallAdds, IsCall}
 use Rattle.bh_workers.specs.Driving.{IsCaller}
 

@@ -12,8 +12,8 @@ use Rattle.bh_base.specs.declared.reply.Cause.{Cause}
 use Rattle.bh_journal.specs.declared.pass.Marks.{Marks}
 use Rattle.bh_journal.specs.declared.pass.Receipt.{Receipt}
 use Rattle.bh_journal.specs.Passes.{PassView}
-use Rattle.bh_workers.specs.declared.driven.Driven.{Driven}
-use Rattle.bh_workers.specs.declared.driven.RequestList.{RequestList}
+use Rattle.bh_workers.specs.declared.driving.Driven.{Driven}
+use Rattle.bh_workers.specs.declared.driving.RequestList.{RequestList}
 use Rattle.bh_workers.specs.Calls.{EndsInFallback, IsCall}
 use Rattle.bh_workers.specs.Timing.{AreExpiries}
 use Rattle.bh_workers.specs.Work.{IsWork}

@@ -16,7 +16,7 @@ pub record IsAssigned (moments : ℕ → Type 0) (g : GroupId) (r : Receipt) : T
 
 module _ (ends : GroupId → List ℕ → RunEnd → Type 0) (moments : ℕ → Type 0) where
   -- a Start, and the end of the run that it assigned
-  pub record IsRun (g : GroupId) (r e : Receipt) : Type 0 where
+  pub record IsRunWithEnd (g : GroupId) (r e : Receipt) : Type 0 where
     pub assigned : IsAssigned moments g r
     pub end : IsRunEnd ends moments g assigned.serial assigned.arg e
 
@@ -24,11 +24,11 @@ module _ (ends : GroupId → List ℕ → RunEnd → Type 0) (moments : ℕ → 
   abbrev pub IsWork : GroupId → List Receipt → Type 0
   IsWork g [] = Unit {0}
   IsWork g (r ∷ []) = IsAssigned moments g r
-  IsWork g (r ∷ e ∷ rs) = IsRun g r e × IsWork g rs
+  IsWork g (r ∷ e ∷ rs) = IsRunWithEnd g r e × IsWork g rs
 
   -- one turn of a worker: a run with its end, after which it goes on; or else, at most, a Start
   abbrev pub IsTurn : GroupId → Bool → List Receipt → Type 0
-  IsTurn g true (r ∷ e ∷ []) = IsRun g r e
+  IsTurn g true (r ∷ e ∷ []) = IsRunWithEnd g r e
   IsTurn g true rs = ⊥
   IsTurn g false [] = Unit {0}
   IsTurn g false (r ∷ []) = IsAssigned moments g r

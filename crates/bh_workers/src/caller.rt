@@ -6,7 +6,7 @@ ghost use Rattle.bh_workers.specs.Calls.{CallAdds, IsCall, IsCollectedLast, IsFa
 ghost use Rattle.bh_workers.specs.Collecting.{CollectAdds};
 
 use crate::dependency::Dependency;
-use crate::stepping::make_step;
+use crate::environment::Environment;
 use crate::worker::end_op;
 use bh_audit::{Clock, Pass, Shared};
 use bh_base::{Answer, CallError, Cause, Op, Reply, Request, Serial, Text};
@@ -41,105 +41,118 @@ pub fn call<D: Dependency, C: Clock, R: Wait>(
     ensures full { (result ≡ Err PassFull) ↔ ((shared.now.audited ≡ true) × (pass.old.room < 5)) }
     ensures unchanged { result ≡ Err PassFull → pass.new ≡ pass.old }
 {
-    if shared.audited() && pass.room_left() < MOST_RECEIPTS {
-        return Err(CallError::PassFull);
-    }
-    let reply = make_step(rt, shared, pass, clock, Op::Submit(request));
-    let arg = &request.arg;
-    match &reply {
-        Reply::Queued(serial) => settle(rt, shared, pass, dependency, clock, *serial, arg),
-        Reply::Joined(serial) => settle(rt, shared, pass, dependency, clock, *serial, arg),
-        Reply::FallbackDue { serial, .. } => {
-            settle(rt, shared, pass, dependency, clock, *serial, arg)
+    let environment = Environment {
+        rt,
+        shared,
+        dependency,
+        clock,
+    };
+    environment.call(pass, request)
+}
+
+impl<'e, D: Dependency, C: Clock, R: Wait> Environment<'e, D, C, R> {
+    /// Submits the request and waits for its answer, as the public `call` says.
+    pub(crate) fn call(&self, pass: &mut Pass, request: Request) -> Result<Answer, CallError>
+        ensures call { CallAdds self.now.shared.now.audited pass.old result pass.new (IsCall D.ends D.fallback_ends C.moments pass.old.group request result) }
+        ensures full { (result ≡ Err PassFull) ↔ ((self.now.shared.now.audited ≡ true) × (pass.old.room < 5)) }
+        ensures unchanged { result ≡ Err PassFull → pass.new ≡ pass.old }
+    {
+        if self.shared.audited() && pass.room_left() < MOST_RECEIPTS {
+            return Err(CallError::PassFull);
         }
-        Reply::Inline(serial) => run_inline(rt, shared, pass, dependency, clock, *serial, arg),
-        Reply::GroupFull => Err(CallError::GroupFull),
-        Reply::Worn => Err(CallError::Worn),
-        Reply::NoGroup => Err(CallError::NoGroup),
-        _ => unreachable!(),
-    }
-}
-
-/// Runs the ticket, tells its end and waits for the answer.
-fn run_inline<D: Dependency, C: Clock, R: Wait>(
-    rt: &R,
-    shared: &Shared,
-    pass: &mut Pass,
-    dependency: &D,
-    clock: &C,
-    serial: Serial,
-    arg: &Text<64>,
-) -> Result<Answer, CallError>
-    requires { shared.now.audited ≡ true → 4 ≤ pass.old.room }
-    ensures { CallAdds shared.now.audited pass.old result pass.new (IsRunInline D.ends D.fallback_ends C.moments pass.old.group serial arg.now result) }
-{
-    let end = dependency.run(pass.group(), arg);
-    let reply = make_step(rt, shared, pass, clock, end_op(serial, end));
-    match &reply {
-        Reply::Worn => Err(CallError::Worn),
-        Reply::NoGroup => Err(CallError::NoGroup),
-        _ => settle(rt, shared, pass, dependency, clock, serial, arg),
-    }
-}
-
-/// Waits for the answer of the ticket, and runs its fallback where that is due.
-fn settle<D: Dependency, C: Clock, R: Wait>(
-    rt: &R,
-    shared: &Shared,
-    pass: &mut Pass,
-    dependency: &D,
-    clock: &C,
-    serial: Serial,
-    arg: &Text<64>,
-) -> Result<Answer, CallError>
-    requires { shared.now.audited ≡ true → 3 ≤ pass.old.room }
-    ensures { CallAdds shared.now.audited pass.old result pass.new (IsSettled D.fallback_ends C.moments pass.old.group serial arg.now result) }
-{
-    match collect(rt, shared, pass, clock, serial) {
-        Collected::Ended(result) => result,
-        Collected::Fallback(cause) => {
-            fall_back(rt, shared, pass, dependency, clock, serial, cause, arg)
+        let reply = self.make_step(pass, Op::Submit(request));
+        let arg = &request.arg;
+        match &reply {
+            Reply::Queued(serial) | Reply::Joined(serial) | Reply::FallbackDue { serial, .. } => {
+                self.settle(pass, *serial, arg)
+            }
+            Reply::Inline(serial) => self.run_inline(pass, *serial, arg),
+            Reply::GroupFull => Err(CallError::GroupFull),
+            Reply::Worn => Err(CallError::Worn),
+            Reply::NoGroup => Err(CallError::NoGroup),
+            _ => unreachable!(),
         }
     }
-}
 
-/// Runs the fallback of the ticket, tells its end and collects once more.
-fn fall_back<D: Dependency, C: Clock, R: Wait>(
-    rt: &R,
-    shared: &Shared,
-    pass: &mut Pass,
-    dependency: &D,
-    clock: &C,
-    serial: Serial,
-    cause: Cause,
-    arg: &Text<64>,
-) -> Result<Answer, CallError>
-    requires { shared.now.audited ≡ true → 2 ≤ pass.old.room }
-    ensures { CallAdds shared.now.audited pass.old result pass.new (IsFallenBack D.fallback_ends C.moments pass.old.group serial cause arg.now result) }
-{
-    let end = dependency.fallback(pass.group(), cause, arg);
-    let reply = make_step(rt, shared, pass, clock, Op::FallbackDone { serial, end });
-    match &reply {
-        Reply::Worn => Err(CallError::Worn),
-        Reply::NoGroup => Err(CallError::NoGroup),
-        _ => collect_last(rt, shared, pass, clock, serial),
+    /// Runs the ticket, tells its end and waits for the answer.
+    fn run_inline(
+        &self,
+        pass: &mut Pass,
+        serial: Serial,
+        arg: &Text<64>,
+    ) -> Result<Answer, CallError>
+        requires { self.now.shared.now.audited ≡ true → 4 ≤ pass.old.room }
+        ensures { CallAdds self.now.shared.now.audited pass.old result pass.new (IsRunInline D.ends D.fallback_ends C.moments pass.old.group serial arg.now result) }
+    {
+        let end = self.dependency.run(pass.group(), arg);
+        let reply = self.make_step(pass, end_op(serial, end));
+        match &reply {
+            Reply::Worn => Err(CallError::Worn),
+            Reply::NoGroup => Err(CallError::NoGroup),
+            _ => self.settle(pass, serial, arg),
+        }
     }
-}
 
-/// Collects the ticket for the last time.
-fn collect_last<C: Clock, R: Wait>(
-    rt: &R,
-    shared: &Shared,
-    pass: &mut Pass,
-    clock: &C,
-    serial: Serial,
-) -> Result<Answer, CallError>
-    requires { shared.now.audited ≡ true → 1 ≤ pass.old.room }
-    ensures { CallAdds shared.now.audited pass.old result pass.new (IsCollectedLast C.moments pass.old.group serial result) }
-{
-    match collect(rt, shared, pass, clock, serial) {
-        Collected::Ended(result) => result,
-        Collected::Fallback(_) => Err(CallError::Stopped),
+    /// Waits for the answer of the ticket, and runs its fallback where that is due.
+    fn settle(&self, pass: &mut Pass, serial: Serial, arg: &Text<64>) -> Result<Answer, CallError>
+        requires { self.now.shared.now.audited ≡ true → 3 ≤ pass.old.room }
+        ensures { CallAdds self.now.shared.now.audited pass.old result pass.new (IsSettled D.fallback_ends C.moments pass.old.group serial arg.now result) }
+    {
+        match self.collect(pass, serial) {
+            Collected::Ended(result) => result,
+            Collected::Fallback(cause) => self.fall_back(pass, serial, cause, arg),
+        }
+    }
+
+    /// Runs the fallback of the ticket, tells its end and collects once more.
+    fn fall_back(
+        &self,
+        pass: &mut Pass,
+        serial: Serial,
+        cause: Cause,
+        arg: &Text<64>,
+    ) -> Result<Answer, CallError>
+        requires { self.now.shared.now.audited ≡ true → 2 ≤ pass.old.room }
+        ensures { CallAdds self.now.shared.now.audited pass.old result pass.new (IsFallenBack D.fallback_ends C.moments pass.old.group serial cause arg.now result) }
+    {
+        let end = self.dependency.fallback(pass.group(), cause, arg);
+        let reply = self.make_step(pass, Op::FallbackDone { serial, end });
+        match &reply {
+            Reply::Worn => Err(CallError::Worn),
+            Reply::NoGroup => Err(CallError::NoGroup),
+            _ => self.collect_last(pass, serial),
+        }
+    }
+
+    /// Collects the ticket for the last time.
+    fn collect_last(&self, pass: &mut Pass, serial: Serial) -> Result<Answer, CallError>
+        requires { self.now.shared.now.audited ≡ true → 1 ≤ pass.old.room }
+        ensures { CallAdds self.now.shared.now.audited pass.old result pass.new (IsCollectedLast C.moments pass.old.group serial result) }
+    {
+        match self.collect(pass, serial) {
+            Collected::Ended(result) => result,
+            Collected::Fallback(_) => Err(CallError::Stopped),
+        }
+    }
+
+    /// Waits until the ticket can be collected, or the service is stopped, and collects it.
+    fn collect(&self, pass: &mut Pass, serial: Serial) -> Collected
+        requires { self.now.shared.now.audited ≡ true → 1 ≤ pass.old.room }
+        ensures adds { CollectAdds C.moments self.now.shared.now.audited pass.old serial result pass.new }
+        ensures room { pass.old.room ≤ pass.new.room + 1 }
+    {
+        let Ok(reply) = self.shared.await_answer(self.rt, pass, serial, self.clock) else {
+            unreachable!()
+        };
+        match &reply {
+            Reply::Answered(answer) => Collected::Ended(Ok(*answer)),
+            Reply::NoTicket => Collected::Ended(Err(CallError::Taken)),
+            Reply::Pending => Collected::Ended(Err(CallError::Stopped)),
+            Reply::RunFallback(cause) => Collected::Fallback(*cause),
+            Reply::Worn => Collected::Ended(Err(CallError::Worn)),
+            Reply::NoGroup => Collected::Ended(Err(CallError::NoGroup)),
+            _ => unreachable!(),
+        }
     }
 }
 
@@ -149,30 +162,4 @@ enum Collected {
     Ended(Result<Answer, CallError>),
     /// The caller is to run the fallback.
     Fallback(Cause),
-}
-
-/// Waits until the ticket can be collected, or the service is stopped, and collects it.
-fn collect<C: Clock, R: Wait>(
-    rt: &R,
-    shared: &Shared,
-    pass: &mut Pass,
-    clock: &C,
-    serial: Serial,
-) -> Collected
-    requires { shared.now.audited ≡ true → 1 ≤ pass.old.room }
-    ensures adds { CollectAdds C.moments shared.now.audited pass.old serial result pass.new }
-    ensures room { pass.old.room ≤ pass.new.room + 1 }
-{
-    let Ok(reply) = shared.await_answer(rt, pass, serial, clock) else {
-        unreachable!()
-    };
-    match &reply {
-        Reply::Answered(answer) => Collected::Ended(Ok(*answer)),
-        Reply::NoTicket => Collected::Ended(Err(CallError::Taken)),
-        Reply::Pending => Collected::Ended(Err(CallError::Stopped)),
-        Reply::RunFallback(cause) => Collected::Fallback(*cause),
-        Reply::Worn => Collected::Ended(Err(CallError::Worn)),
-        Reply::NoGroup => Collected::Ended(Err(CallError::NoGroup)),
-        _ => unreachable!(),
-    }
 }

@@ -1,18 +1,71 @@
-//! All threads of a service, from the first request to the last answer.
+//! A drive: all threads of a service, from the first request to the last answer.
 
 ghost use Rattle.std.specs.Prelude.{◌≡◌, ◌++◌, IfOk, map};
 ghost use Rattle.bh_workers.specs.Driving.{IsDriven};
-ghost use Rattle.bh_workers.specs.declared.calls.Called.{Called};
+ghost use Rattle.bh_workers.specs.declared.caller_threads.Called.{Called};
 
-use crate::calls::{Called, start_callers};
-use crate::crew::{start_timer, start_workers};
+use crate::caller_threads::{Called, start_callers};
 use crate::dependency::{Dependency, Pace};
-use crate::driven::{DriveError, Driven, RequestList};
-use bh_audit::{Clock, Pass, Shared};
-use std::alloc::Global;
+use crate::environment::Environment;
+use crate::service_threads::{start_timer, start_workers};
+use bh_audit::{Clock, Pass, PassError, Shared};
+use bh_base::{Answer, CallError, GroupId, Request};
+use std::alloc::{AllocError, AllocFailed, Global};
 use std::sync::Wait;
 use std::thread;
 use std::thread::{Scope, Threads};
+use thiserror::Error;
+
+/// The requests that one caller makes, one after another, to one group.
+#[derive(Drop)]
+pub struct RequestList {
+    pub group: GroupId,
+    pub requests: Vec<Request>,
+}
+
+/// What all threads of a drive give back.
+#[derive(Drop)]
+pub struct Driven {
+    /// For each list, the answers to its requests, in their order.
+    pub answers: Vec<Vec<Result<Answer, CallError>>>,
+    /// The passes of the callers in the order of the lists, then those of the workers, then those of the timer.
+    pub passes: Vec<Pass>,
+}
+
+/// Why a drive gives nothing back.
+#[derive(Clone, Copy, Debug, PartialEq, Eq, Error)]
+pub enum DriveError {
+    /// The group of a list is not registered; no thread was started.
+    #[error("no such group")]
+    NoGroup,
+    /// There is not enough memory for the passes and answers.
+    #[error("out of memory")]
+    Memory,
+    /// A thread could not be started.
+    #[error("a thread could not be started")]
+    Spawn,
+}
+
+impl From<AllocError> for DriveError {
+    fn from(_: AllocError) -> DriveError {
+        DriveError::Memory
+    }
+}
+
+impl<T: Drop> From<AllocFailed<T>> for DriveError {
+    fn from(_: AllocFailed<T>) -> DriveError {
+        DriveError::Memory
+    }
+}
+
+impl From<PassError> for DriveError {
+    fn from(error: PassError) -> DriveError {
+        match error {
+            PassError::NoGroup => DriveError::NoGroup,
+            PassError::Memory => DriveError::Memory,
+        }
+    }
+}
 
 /// Runs the service with threads of its own: for each group as many workers as it wants, one timer for all groups,
 /// and for each list one caller, which makes the list's requests one after another. Once all callers have ended it
@@ -41,17 +94,34 @@ pub fn drive<
     if lists.iter().any(|list| list.group.0 >= groups) {
         return Err(DriveError::NoGroup);
     }
+    let environment = Environment {
+        rt,
+        shared,
+        dependency,
+        clock,
+    };
+    run(&environment, alloc, pace, lists, room)
+}
+
+/// Runs all threads in one scope. Where they give nothing back, the service is stopped.
+fn run<D: Dependency + Sync, C: Clock + Sync, P: Pace + Send + Drop, R: Threads + Wait + Sync>(
+    environment: &Environment<'_, D, C, R>,
+    alloc: Global,
+    pace: P,
+    lists: &[RequestList],
+    room: u64,
+) -> Result<Driven, DriveError>
+    ensures { IfOk result (λ d. IsDriven D.ends D.fallback_ends C.moments environment.now.shared.now.audited lists.now d) }
+{
     thread::scope(
         thread::scope_env(),
-        rt,
+        environment.rt,
         |scope| -> Result<Driven, DriveError>
-            ensures { IfOk result (λ d. IsDriven D.ends D.fallback_ends C.moments shared.entry.now.audited lists.entry.now d) }
+            ensures { IfOk result (λ d. IsDriven D.ends D.fallback_ends C.moments environment.entry.now.shared.now.audited lists.entry.now d) }
         {
-            let driven = run_all(
-                rt, scope, alloc, shared, dependency, clock, pace, lists, room,
-            );
+            let driven = run_all(environment, scope, alloc, pace, lists, room);
             if driven.is_err() {
-                shared.stop(rt);
+                environment.shared.stop(environment.rt);
             }
             driven
         },
@@ -67,28 +137,22 @@ fn run_all<
     P: Pace + Send + Drop + 'e,
     R: Threads + Wait + Sync,
 >(
-    rt: &'e R,
+    environment: &'e Environment<'e, D, C, R>,
     scope: &'s Scope<'s, &'e ()>,
     alloc: Global,
-    shared: &'e Shared,
-    dependency: &'e D,
-    clock: &'e C,
     pace: P,
     lists: &'e [RequestList],
     room: u64,
 ) -> Result<Driven, DriveError>
-    ensures { IfOk result (λ d. IsDriven D.ends D.fallback_ends C.moments shared.now.audited lists.now d) }
+    ensures { IfOk result (λ d. IsDriven D.ends D.fallback_ends C.moments environment.now.shared.now.audited lists.now d) }
 {
-    let timer = start_timer(rt, scope, alloc, shared, clock, pace, room)?;
-    let workers = start_workers(rt, scope, alloc, shared, dependency, clock, room)?;
-    let callers = start_callers(rt, scope, alloc, shared, dependency, clock, lists, room)?;
-    let Ok(called) = thread::join_promised(rt, callers) else {
-        return Err(DriveError::Memory);
-    };
-    shared.stop(rt);
-    let Ok(worked) = thread::join_promised(rt, workers) else {
-        return Err(DriveError::Memory);
-    };
+    let rt = environment.rt;
+    let timer = start_timer(environment, scope, alloc, pace, room)?;
+    let workers = start_workers(environment, scope, alloc, room)?;
+    let callers = start_callers(environment, scope, alloc, lists, room)?;
+    let called = thread::join_promised(rt, callers)?;
+    environment.shared.stop(rt);
+    let worked = thread::join_promised(rt, workers)?;
     let timed = timer.join(rt);
     gather(alloc, called, worked, timed)
 }
@@ -107,29 +171,21 @@ fn gather(
         answers,
         mut passes,
     } = answers_and_passes(alloc, called)?;
-    let Ok(()) = worked.append(&mut timed) else {
-        return Err(DriveError::Memory);
-    };
-    let Ok(()) = passes.append(&mut worked) else {
-        return Err(DriveError::Memory);
-    };
+    worked.append(&mut timed)?;
+    passes.append(&mut worked)?;
     Ok(Driven { answers, passes })
 }
 
 /// The answers of the callers, and their passes.
-fn answers_and_passes(alloc: Global, called: Vec<Called>) -> Result<Driven, DriveError>
+fn answers_and_passes(alloc: Global, called: Vec<Called>) -> Result<Driven, AllocError>
     ensures answers { IfOk result (λ d. d.answers.items ≡ map (λ (r : Called). r.answers) called.items) }
     ensures passes { IfOk result (λ d. d.passes.items ≡ map (λ (r : Called). r.pass) called.items) }
 {
     let mut all_answers = Vec::new(alloc);
     let mut passes = Vec::new(alloc);
     for Called { answers, pass } in called {
-        let Ok(()) = all_answers.push(answers) else {
-            return Err(DriveError::Memory);
-        };
-        let Ok(()) = passes.push(pass) else {
-            return Err(DriveError::Memory);
-        };
+        all_answers.push(answers)?;
+        passes.push(pass)?;
     }
     Ok(Driven {
         answers: all_answers,

@@ -2,21 +2,18 @@
 #![tactic(auto)]
 
 pub mod caller;
-mod calls;
-mod crew;
+mod caller_threads;
 pub mod dependency;
-pub mod driven;
 pub mod driving;
+mod environment;
 pub mod laws;
-mod room;
-mod stepping;
+mod service_threads;
 pub mod timer;
 pub mod worker;
 
 pub use caller::{MOST_RECEIPTS, call};
 pub use dependency::{Dependency, Pace};
-pub use driven::{DriveError, Driven, RequestList};
-pub use driving::drive;
+pub use driving::{DriveError, Driven, RequestList, drive};
 pub use laws::calls_collect_their_own_tickets;
 pub use timer::timer_loop;
 pub use worker::worker_loop;

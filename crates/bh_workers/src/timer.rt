@@ -30,8 +30,7 @@ pub fn timer_loop<C: Clock, P: Pace, R: Wait>(
 fn expire_all<C: Clock, R: Wait>(rt: &R, shared: &Shared, passes: &mut [Pass], clock: &C)
     ensures { AreTimed C.moments shared.now.audited passes.old passes.new }
 {
-    for i in 0..passes.len() {
-        let pass = &mut passes[i];
+    for pass in passes.iter_mut() {
         expire(rt, shared, pass, clock);
     }
 }

@@ -4,74 +4,14 @@ ghost use Rattle.std.specs.Prelude.{◌≡◌, ℕ, ◌+◌, ◌<◌, ◌≤◌,
 ghost use Rattle.bh_base.specs.declared.reply.Reply.TheVariants.{NoGroup, Worn};
 ghost use Rattle.bh_base.specs.Replies.{is_refusal};
 ghost use Rattle.bh_journal.specs.declared.pass.Receipt.{Receipt};
-ghost use Rattle.bh_workers.specs.Receipts.{Gains, IsRunEnd, end_of};
+ghost use Rattle.bh_workers.specs.Receipts.{Gains, IsRunEnd, end_op};
 ghost use Rattle.bh_workers.specs.Work.{HasReasonToEnd, IsEnding, IsTurn, IsWork};
 
 use crate::dependency::Dependency;
-use crate::stepping::make_step;
+use crate::environment::Environment;
 use bh_audit::{Clock, Next, Pass, Shared};
 use bh_base::{Op, Reply, RunEnd, Serial, Text};
 use std::sync::Wait;
-
-/// The operation that tells how the run of the ticket ended.
-pub(crate) fn end_op(serial: Serial, end: RunEnd) -> Op
-    ensures { result ≡ end_of serial end }
-{
-    match end {
-        RunEnd::Success(body) => Op::Finish { serial, body },
-        RunEnd::Failure => Op::Fail { serial, bad: false },
-        RunEnd::BadRequest => Op::Fail { serial, bad: true },
-    }
-}
-
-/// Starts a ticket, runs it and tells its end. False where the worker is to end.
-fn turn<D: Dependency, C: Clock, R: Wait>(
-    rt: &R,
-    shared: &Shared,
-    pass: &mut Pass,
-    dependency: &D,
-    clock: &C,
-) -> bool
-    ensures adds { (made : List Receipt) × Gains shared.now.audited pass.old pass.new made × IsTurn D.ends C.moments pass.old.group result made }
-    ensures ended { result ≡ false → HasReasonToEnd shared.now.audited pass.new }
-{
-    let Ok(next) = shared.next(rt, pass, clock) else {
-        return false;
-    };
-    match &next {
-        Next::Assigned { serial, arg } => {
-            run_to_end(rt, shared, pass, dependency, clock, *serial, arg)
-        }
-        _ => false,
-    }
-}
-
-/// Runs the ticket and tells its end. False where the group is worn or not registered.
-fn run_to_end<D: Dependency, C: Clock, R: Wait>(
-    rt: &R,
-    shared: &Shared,
-    pass: &mut Pass,
-    dependency: &D,
-    clock: &C,
-    serial: Serial,
-    arg: &Text<64>,
-) -> bool
-    requires { shared.now.audited ≡ true → 0 < pass.old.room }
-    ensures adds { (made : List Receipt) × Gains shared.now.audited pass.old pass.new made × IsEnding D.ends C.moments pass.old.group serial arg.now result made }
-    ensures ended { result ≡ false → HasReasonToEnd shared.now.audited pass.new }
-{
-    let end = dependency.run(pass.group(), arg);
-    let reply = make_step(rt, shared, pass, clock, end_op(serial, end));
-    was_taken(&reply)
-}
-
-/// Whether the step was made.
-fn was_taken(reply: &Reply) -> bool
-    ensures taken { result ≡ true → is_refusal reply.now ≡ false }
-    ensures refused { result ≡ false → (reply.now ≡ Worn) ⊎ (reply.now ≡ NoGroup) }
-{
-    !matches!(reply, Reply::Worn | Reply::NoGroup)
-}
 
 /// Starts the tickets of the pass's group one after another, runs each outside the lock and tells its end, until the
 /// service is stopped, the group is worn or not registered, or the pass has no room for one more run. The pass's
@@ -86,10 +26,70 @@ pub fn worker_loop<D: Dependency, C: Clock, R: Wait>(
     ensures work { (made : List Receipt) × Gains shared.now.audited pass.old pass.new made × IsWork D.ends C.moments pass.old.group made }
     ensures ended { HasReasonToEnd shared.now.audited pass.new }
 {
-    for _ in rt.forever() {
-        if !turn(rt, shared, pass, dependency, clock) {
-            return;
+    let environment = Environment {
+        rt,
+        shared,
+        dependency,
+        clock,
+    };
+    environment.work(pass);
+}
+
+impl<'e, D: Dependency, C: Clock, R: Wait> Environment<'e, D, C, R> {
+    /// Makes runs one after another, as the public `worker_loop` says.
+    pub(crate) fn work(&self, pass: &mut Pass)
+        ensures work { (made : List Receipt) × Gains self.now.shared.now.audited pass.old pass.new made × IsWork D.ends C.moments pass.old.group made }
+        ensures ended { HasReasonToEnd self.now.shared.now.audited pass.new }
+    {
+        for _ in self.rt.forever() {
+            if !self.turn(pass) {
+                return;
+            }
+        }
+        unreachable!()
+    }
+
+    /// Starts a ticket, runs it and tells its end. False where the worker is to end.
+    fn turn(&self, pass: &mut Pass) -> bool
+        ensures adds { (made : List Receipt) × Gains self.now.shared.now.audited pass.old pass.new made × IsTurn D.ends C.moments pass.old.group result made }
+        ensures ended { result ≡ false → HasReasonToEnd self.now.shared.now.audited pass.new }
+    {
+        let Ok(next) = self.shared.next(self.rt, pass, self.clock) else {
+            return false;
+        };
+        match &next {
+            Next::Assigned { serial, arg } => self.run_to_end(pass, *serial, arg),
+            _ => false,
         }
     }
-    unreachable!()
+
+    /// Runs the ticket and tells its end. False where the group is worn or not registered.
+    fn run_to_end(&self, pass: &mut Pass, serial: Serial, arg: &Text<64>) -> bool
+        requires { self.now.shared.now.audited ≡ true → 0 < pass.old.room }
+        ensures adds { (made : List Receipt) × Gains self.now.shared.now.audited pass.old pass.new made × IsEnding D.ends C.moments pass.old.group serial arg.now result made }
+        ensures ended { result ≡ false → HasReasonToEnd self.now.shared.now.audited pass.new }
+    {
+        let end = self.dependency.run(pass.group(), arg);
+        let reply = self.make_step(pass, end_op(serial, end));
+        was_taken(&reply)
+    }
+}
+
+/// The operation that tells how the run of the ticket ended.
+pub(crate) fn end_op(serial: Serial, end: RunEnd) -> Op
+    ensures { result ≡ end_op serial end }
+{
+    match end {
+        RunEnd::Success(body) => Op::Finish { serial, body },
+        RunEnd::Failure => Op::Fail { serial, bad: false },
+        RunEnd::BadRequest => Op::Fail { serial, bad: true },
+    }
+}
+
+/// Whether the step was made.
+fn was_taken(reply: &Reply) -> bool
+    ensures taken { result ≡ true → is_refusal reply.now ≡ false }
+    ensures refused { result ≡ false → (reply.now ≡ Worn) ⊎ (reply.now ≡ NoGroup) }
+{
+    !matches!(reply, Reply::Worn | Reply::NoGroup)
 }

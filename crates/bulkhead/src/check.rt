@@ -1,9 +1,9 @@
 //! What is in force under a settings file, shown line by line.
 
 ghost use Rattle.std.specs.Prelude.{◌≡◌, ◌⊎◌, IfOk, IsErr};
-ghost use Rattle.bh_props.specs.Seen.{settings_seen};
+ghost use Rattle.bh_props.specs.SettingsView.{settings_seen};
 ghost use Rattle.bulkhead.specs.SettingsFile.{settings_in};
-ghost use Rattle.bulkhead.specs.Status.{IsShown};
+ghost use Rattle.bulkhead.specs.Status.{CheckStatus};
 
 use crate::report;
 use crate::settings_file::settings_in;
@@ -31,7 +31,7 @@ pub fn check_file<W: Write, E: Write>(
     ensures refused_only { result ≡ 1 → IsErr (settings_in settings.now) }
     ensures refused { IsErr (settings_in settings.now) → ((result ≡ 1) ⊎ (result ≡ 3)) × (writer.new ≡ writer.old) }
     ensures quiet { result ≡ 0 → errors.new ≡ errors.old }
-    ensures shown { IfOk (settings_in settings.now) (λ service. IsShown service (W.contents writer.old) (W.contents writer.new) result) }
+    ensures shown { IfOk (settings_in settings.now) (λ service. CheckStatus service (W.contents writer.old) (W.contents writer.new) result) }
 {
     match settings_in(alloc, settings) {
         Ok(settings) => show(alloc, &settings, writer, errors),
@@ -39,7 +39,7 @@ pub fn check_file<W: Write, E: Write>(
     }
 }
 
-// Writes the lines of the settings, made whole before the first write.
+/// Writes the lines of the settings, made whole before the first write.
 fn show<W: Write, E: Write>(
     alloc: Global,
     settings: &Settings,
@@ -48,7 +48,7 @@ fn show<W: Write, E: Write>(
 ) -> u8
     ensures status { (result ≡ 0) ⊎ (result ≡ 3) }
     ensures quiet { result ≡ 0 → errors.new ≡ errors.old }
-    ensures shown { IsShown (settings_seen settings.now) (W.contents writer.old) (W.contents writer.new) result }
+    ensures shown { CheckStatus (settings_seen settings.now) (W.contents writer.old) (W.contents writer.new) result }
 {
     let Ok(lines) = settings.to_string(alloc) else {
         return report::port(errors, PortError::Memory);

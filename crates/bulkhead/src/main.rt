@@ -21,40 +21,41 @@ use std::sync::Wait;
 use std::thread::Threads;
 use std::{env, fs, io};
 
-/// The status where the words of the command line are refused.
-const BAD_WORDS: u8 = 2;
+/// The status where the arguments are refused.
+const BAD_ARGUMENTS: u8 = 2;
 
+/// Does what the arguments say, and ends with its exit status.
 fn main(rt: HostRuntime) -> ExitCode {
-    let status = match words(&rt) {
-        Ok(words) => match run_words(&rt, &rt, words.as_slice()) {
+    let status = match arguments(&rt) {
+        Ok(arguments) => match run_arguments(&rt, &rt, arguments.as_slice()) {
             Ok(status) => status,
             Err(_) => report::settings(&mut rt.stderr(), SettingsError::Memory),
         },
-        Err(error) => refuse_words(&mut rt.stderr(), &error),
+        Err(error) => refuse_arguments(&mut rt.stderr(), &error),
     };
     ExitCode::from(status)
 }
 
-// The words of the command line.
-fn words(rt: &HostRuntime) -> io::Result<Vec<String>> {
-    let words: Vec<String> = env::args(rt)?.collect(rt.alloc())?;
-    Ok(words)
+/// The arguments of the program, its name first.
+fn arguments(rt: &HostRuntime) -> io::Result<Vec<String>> {
+    let arguments: Vec<String> = env::args(rt)?.collect(rt.alloc())?;
+    Ok(arguments)
 }
 
-// Says why there are no words, where memory was refused, and answers the exit status.
-fn refuse_words<E: Write>(errors: &mut E, error: &io::Error) -> u8 {
+/// Says why there are no arguments, where memory was refused, and answers the exit status.
+fn refuse_arguments<E: Write>(errors: &mut E, error: &io::Error) -> u8 {
     match error.kind() {
         io::ErrorKind::OutOfMemory => report::settings(errors, SettingsError::Memory),
-        _ => BAD_WORDS,
+        _ => BAD_ARGUMENTS,
     }
 }
 
-// Does what the words say, and answers the exit status. Only what serves connections starts threads and waits.
-fn run_words<
+/// Does what the arguments say, and answers the exit status. Only what serves connections starts threads and waits.
+fn run_arguments<
     R: Net<Listener = TcpListener, Stream = TcpStream> + Threads + Wait + Clock + Print + Sync,
->(rt: &HostRuntime, handles: &R, words: &[String]) -> Result<u8, AllocError> {
+>(rt: &HostRuntime, handles: &R, arguments: &[String]) -> Result<u8, AllocError> {
     let command = command(rt.alloc())?;
-    let matches = match command.try_get_matches_from(words) {
+    let matches = match command.try_get_matches_from(arguments) {
         Ok(matches) => matches,
         Err(error) if error.kind() == ErrorKind::OutOfMemory => return Err(AllocError),
         Err(error) => {
@@ -72,11 +73,11 @@ fn run_words<
             found.get_one::<u16>("port").unwrap_or(0),
             found.get_one::<u32>("connections").unwrap_or(1),
         )),
-        _ => Ok(BAD_WORDS),
+        _ => Ok(BAD_ARGUMENTS),
     }
 }
 
-// The words that may be given.
+/// The arguments that may be given.
 fn command<'a>(alloc: Global) -> Result<Command<'a>, AllocError> {
     Command::new(alloc, "bulkhead")
         .about("Runs commands in groups that cannot take from one another")
@@ -94,7 +95,7 @@ fn command<'a>(alloc: Global) -> Result<Command<'a>, AllocError> {
         .subcommand(serve_command(alloc)?)
 }
 
-// The subcommand that serves connections.
+/// The subcommand that serves connections.
 fn serve_command<'a>(alloc: Global) -> Result<Command<'a>, AllocError> {
     let port = Arg::new(alloc, "port")
         .long("port")
@@ -117,7 +118,7 @@ fn serve_command<'a>(alloc: Global) -> Result<Command<'a>, AllocError> {
     .arg(connections)
 }
 
-// A subcommand over a settings file.
+/// A subcommand over a settings file.
 fn with_file<'a>(alloc: Global, name: &'a str, about: &'a str) -> Result<Command<'a>, AllocError> {
     let file = Arg::new(alloc, "FILE")
         .help("The settings file, as TOML")
@@ -126,7 +127,7 @@ fn with_file<'a>(alloc: Global, name: &'a str, about: &'a str) -> Result<Command
     Command::new(alloc, name).about(about).arg(file)
 }
 
-// Prints what is in force under the settings of the file.
+/// Prints what is in force under the settings of the file.
 fn check_path(rt: &HostRuntime, path: &str) -> u8 {
     let mut errors = rt.stderr();
     match fs::read(rt, path) {
@@ -140,7 +141,7 @@ fn check_path(rt: &HostRuntime, path: &str) -> u8 {
     }
 }
 
-// Runs standard input under the settings of the file.
+/// Runs standard input under the settings of the file.
 fn run_path(rt: &HostRuntime, path: &str) -> u8 {
     let mut errors = rt.stderr();
     match fs::read(rt, path) {
@@ -155,7 +156,7 @@ fn run_path(rt: &HostRuntime, path: &str) -> u8 {
     }
 }
 
-// Serves connections to the port under the settings of the file.
+/// Serves connections to the port under the settings of the file.
 fn serve_path<
     R: Net<Listener = TcpListener, Stream = TcpStream> + Threads + Wait + Clock + Print + Sync,
 >(rt: &HostRuntime, handles: &R, path: &str, port: u16, connections: u32) -> u8 {
@@ -172,7 +173,7 @@ fn serve_path<
     }
 }
 
-// Says why the settings file can't be read, and answers the exit status.
+/// Says why the settings file can't be read, and answers the exit status.
 fn unreadable<E: Write>(errors: &mut E, error: &io::Error) -> u8 {
     match error.kind() {
         io::ErrorKind::OutOfMemory => report::settings(errors, SettingsError::Memory),

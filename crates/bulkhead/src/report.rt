@@ -15,7 +15,7 @@ const REFUSED: u8 = 1;
 /// The status where a fault ended the run.
 const FAULT: u8 = 3;
 
-// Of settings that are refused.
+/// Of settings that are refused.
 pub fn settings<E: Write>(errors: &mut E, error: SettingsError) -> u8
     ensures { result ≡ settings_status error }
 {
@@ -26,7 +26,7 @@ pub fn settings<E: Write>(errors: &mut E, error: SettingsError) -> u8
     }
 }
 
-// Of a script that ended early.
+/// Of a script that ended early.
 pub fn port<E: Write>(errors: &mut E, error: PortError) -> u8
     ensures { result ≡ 3 }
 {
@@ -34,7 +34,7 @@ pub fn port<E: Write>(errors: &mut E, error: PortError) -> u8
     FAULT
 }
 
-// Of a settings file that can't be read.
+/// Of a settings file that can't be read.
 pub fn file<E: Write>(errors: &mut E) -> u8
     ensures { result ≡ 3 }
 {
@@ -42,7 +42,7 @@ pub fn file<E: Write>(errors: &mut E) -> u8
     FAULT
 }
 
-// Of a port that can't be bound.
+/// Of a port that can't be bound.
 pub fn network<E: Write>(errors: &mut E) -> u8
     ensures { result ≡ 3 }
 {

@@ -1,12 +1,10 @@
 //! A run of the service over a script.
 
-ghost use Rattle.std.specs.Prelude.{◌≡◌, ◌⊎◌, All, IfSome, IfOk, IsErr};
-ghost use Rattle.bh_base.specs.Ranges.{IsInRange};
-ghost use Rattle.bh_props.specs.Seen.{settings_seen};
-ghost use Rattle.bh_props.specs.Settings.{IsAuditLimit};
+ghost use Rattle.std.specs.Prelude.{◌≡◌, ◌⊎◌, IfSome, IfOk, IsErr};
+ghost use Rattle.bh_props.specs.SettingsView.{settings_seen};
 ghost use Rattle.bulkhead.specs.SettingsFile.{settings_in};
 ghost use Rattle.bh_lines.specs.Lines.{cut};
-ghost use Rattle.bulkhead.specs.Status.{IsRun};
+ghost use Rattle.bulkhead.specs.Status.{RunStatus};
 
 use crate::report;
 use crate::settings_file::settings_in;
@@ -35,7 +33,7 @@ pub fn run_file<R: Read, W: Write, E: Write>(
     ensures refused { IsErr (settings_in settings.now) → ((result ≡ 1) ⊎ (result ≡ 3)) × (reader.new ≡ reader.old) × (writer.new ≡ writer.old) }
     ensures quiet { result ≡ 0 → errors.new ≡ errors.old }
     ensures run { IfOk (settings_in settings.now) (λ service. IfSome (R.remaining reader.old) (λ input.
-        IsRun service (cut input) (W.contents writer.old) (W.contents writer.new) result)) }
+        RunStatus service (cut input) (W.contents writer.old) (W.contents writer.new) result)) }
 {
     match settings_in(alloc, settings) {
         Ok(settings) => run_script(alloc, &settings, reader, writer, errors),
@@ -43,7 +41,7 @@ pub fn run_file<R: Read, W: Write, E: Write>(
     }
 }
 
-// Runs the lines of the reader for the groups of the settings.
+/// Runs the lines of the reader for the groups of the settings.
 fn run_script<R: Read, W: Write, E: Write>(
     alloc: Global,
     settings: &Settings,
@@ -51,12 +49,10 @@ fn run_script<R: Read, W: Write, E: Write>(
     writer: &mut W,
     errors: &mut E,
 ) -> u8
-    requires in_range { All (λ group. IsInRange group.1) settings.now.groups.entries }
-    requires audit { IfSome settings.now.audit_steps IsAuditLimit }
     ensures status { (result ≡ 0) ⊎ (result ≡ 3) }
     ensures quiet { result ≡ 0 → errors.new ≡ errors.old }
     ensures run { IfSome (R.remaining reader.old) (λ input.
-        IsRun (settings_seen settings.now) (cut input) (W.contents writer.old) (W.contents writer.new) result) }
+        RunStatus (settings_seen settings.now) (cut input) (W.contents writer.old) (W.contents writer.new) result) }
 {
     let mut reader = WatchedReader::new(reader);
     let mut writer = WatchedWriter::new(writer);

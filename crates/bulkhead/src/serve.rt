@@ -1,8 +1,6 @@
 //! The service on a port of this machine.
 
-ghost use Rattle.std.specs.Prelude.{◌≡◌, ◌⊎◌, All, IfSome, IsErr};
-ghost use Rattle.bh_base.specs.Ranges.{IsInRange};
-ghost use Rattle.bh_props.specs.Settings.{IsAuditLimit};
+ghost use Rattle.std.specs.Prelude.{◌≡◌, ◌⊎◌, IsErr};
 ghost use Rattle.bulkhead.specs.SettingsFile.{settings_in};
 
 use crate::report;
@@ -44,6 +42,7 @@ where
     }
 }
 
+/// Binds the port, says so, and serves the connections to it.
 fn serve_port<R, E: Write + Send + Drop>(
     rt: &R,
     alloc: Global,
@@ -54,8 +53,6 @@ fn serve_port<R, E: Write + Send + Drop>(
 ) -> u8
 where
     R: Net<Listener = TcpListener, Stream = TcpStream> + Threads + Wait + Clock + Print + Sync,
-    requires in_range { All (λ group. IsInRange group.1) settings.now.groups.entries }
-    requires audit { IfSome settings.now.audit_steps IsAuditLimit }
     ensures { (result ≡ 0) ⊎ (result ≡ 3) }
 {
     let Ok(listener) = TcpListener::bind(rt, (Ipv4Addr::LOCALHOST, port)) else {

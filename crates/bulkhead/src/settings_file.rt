@@ -1,9 +1,7 @@
 //! Settings, from the bytes of a file.
 
-ghost use Rattle.std.specs.Prelude.{◌≡◌, ◌≢◌, All, Err, IfErr, IfOk, IfSome, Ok};
-ghost use Rattle.bh_base.specs.Ranges.{IsInRange};
-ghost use Rattle.bh_props.specs.Seen.{settings_seen};
-ghost use Rattle.bh_props.specs.Settings.{IsAuditLimit};
+ghost use Rattle.std.specs.Prelude.{◌≡◌, ◌≢◌, Err, IfErr, IfOk, Ok};
+ghost use Rattle.bh_props.specs.SettingsView.{settings_seen};
 ghost use Rattle.bulkhead.specs.SettingsFile.{settings_in};
 
 use bh_props::{Settings, SettingsError};
@@ -15,8 +13,6 @@ use std::str;
 pub fn settings_in(alloc: Global, bytes: &[u8]) -> Result<Settings, SettingsError>
     ensures ok { IfOk result (λ settings. settings_in bytes.now ≡ Ok (settings_seen settings)) }
     ensures refused { IfErr result (λ e. e ≢ SettingsError.Memory → settings_in bytes.now ≡ Err e) }
-    ensures in_range { IfOk result (λ settings. All (λ group. IsInRange group.1) settings.groups.entries) }
-    ensures audit { IfOk result (λ settings. IfSome settings.audit_steps IsAuditLimit) }
 {
     let Ok(text) = str::from_utf8(bytes) else {
         return Err(SettingsError::Syntax);

@@ -1,18 +1,18 @@
 //! Whole runs over memory.
 
+mod arguments;
 mod faults;
 mod operations;
 mod serve;
 mod settings;
 mod streams;
-mod words;
 
 use crate::run::run_file;
 use std::process::Abort;
 
 const ONE_GROUP: &str = "service.groups = [\"a\"]\n";
 
-// Runs the input under the settings, and asserts what comes of it.
+/// Runs the input under the settings, and asserts what comes of it.
 fn assert_run<R: Abort + AllocGlobal>(
     rt: &R,
     settings: &[u8],
@@ -44,7 +44,7 @@ fn assert_bytes<R: Abort>(rt: &R, written: &Vec<u8>, want: &str, what: &str) {
     assert_eq!(rt; written.as_slice(), want.as_bytes(), "{what}");
 }
 
-// Runs the lines under the settings, and asserts that it is their answers that are written.
+/// Runs the lines under the settings, and asserts that it is their answers that are written.
 fn assert_answers<R: Abort + AllocGlobal>(rt: &R, settings: &str, input: &str, output: &str) {
     assert_run(rt, settings.as_bytes(), input.as_bytes(), 0, output, "");
 }

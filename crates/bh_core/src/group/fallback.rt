@@ -5,25 +5,31 @@ ghost use Rattle.bh_base.specs.declared.step.Op.TheVariants as op;
 ghost use Rattle.bh_base.specs.declared.ticket.TicketState.TheVariants as ticket;
 ghost use Rattle.bh_base.specs.Machine.{collected_in, fallback_answer, fallback_done_in};
 ghost use Rattle.bh_base.specs.Tickets.{is_held_at, is_in_fallback_at};
-ghost use Rattle.bh_core.specs.Changes.{IsFirst};
 ghost use Rattle.bh_core.specs.Stepping.{IsBounded, IsDone, IsDoneBy};
+ghost use Rattle.bh_core.specs.Group.{HasTickets, Leaves, view_in};
+ghost use Rattle.bh_tickets.specs.TicketsView.{IsFirstAt, group_at};
 
 use super::Group;
 use bh_base::{Answer, Cause, EventKind, FallbackEnd, FallbackFault, Reply, Serial, TicketState};
+use bh_tickets::Tickets;
 
 impl Group {
-    pub fn collect(&mut self, serial: Serial) -> Reply
-        requires { IsBounded self.old }
-        ensures { IsDone self.old (op.Collect serial) result self.new }
+    pub fn collect(&mut self, tickets: &mut Tickets, serial: Serial) -> Reply
+        requires has { HasTickets tickets.old self.old }
+        requires bounded { IsBounded (view_in tickets.old self.old) }
+        ensures done { IsDone (view_in tickets.old self.old) (op.Collect serial) result (view_in tickets.new self.new) }
+        ensures left { Leaves tickets.old self.old tickets.new self.new }
     {
-        match self.tickets.find_held(serial) {
+        match tickets.find_held(self.number, serial) {
             None => Reply::NoTicket,
-            Some(place) => match self.tickets.get(place).state {
+            Some(slot) => match tickets.get(self.number, slot).state {
                 TicketState::Answered(answer) => {
-                    self.tickets.release_holder(place);
+                    tickets.release_holder(self.number, slot);
                     return Reply::Answered(answer);
                 }
-                TicketState::NeedsFallback(cause) => return self.fall_back(serial, place, cause),
+                TicketState::NeedsFallback(cause) => return self.fall_back(
+                    tickets, serial, slot, cause,
+                ),
                 TicketState::Queued => return Reply::Pending,
                 TicketState::Running => return Reply::Pending,
                 TicketState::InFallback(_) => return Reply::Pending,
@@ -32,37 +38,46 @@ impl Group {
     }
 
     // A holder asks for the answer of a ticket that needs a fallback.
-    fn fall_back(&mut self, serial: Serial, place: usize, cause: Cause) -> Reply
-        requires bounded { IsBounded self.old }
-        requires held { IsFirst (is_held_at serial) self.old.present.tickets place }
-        ensures { IsDoneBy self.old (collected_in (ticket.NeedsFallback cause) serial self.old.present) result self.new }
+    fn fall_back(&mut self, tickets: &mut Tickets, serial: Serial, slot: u32, cause: Cause) -> Reply
+        requires has { HasTickets tickets.old self.old }
+        requires bounded { IsBounded (view_in tickets.old self.old) }
+        requires held { IsFirstAt (is_held_at serial) (group_at tickets.old self.old.number) slot }
+        ensures done { IsDoneBy (view_in tickets.old self.old) (collected_in (ticket.NeedsFallback cause) serial (view_in tickets.old self.old).present) result (view_in tickets.new self.new) }
+        ensures left { Leaves tickets.old self.old tickets.new self.new }
     {
         if !self.props.fallback_on {
             let answer = error(cause, FallbackFault::Disabled);
-            self.tickets.answer_holder(place, &answer);
+            tickets.answer_holder(self.number, slot, &answer);
             self.record(EventKind::ExceptionThrown);
             return Reply::Answered(answer);
         }
-        if self.tickets.in_fallback_count() >= self.props.fallback_permits {
+        if tickets.in_fallback_count(self.number) >= self.props.fallback_permits {
             let answer = error(cause, FallbackFault::Rejected);
-            self.tickets.answer_holder(place, &answer);
+            tickets.answer_holder(self.number, slot, &answer);
             self.record(EventKind::FallbackRejection);
             self.record(EventKind::ExceptionThrown);
             return Reply::Answered(answer);
         }
-        self.tickets.start_fallback(place, cause);
+        tickets.start_fallback(self.number, slot, cause);
         Reply::RunFallback(cause)
     }
 
-    pub fn fallback_done(&mut self, serial: Serial, end: &FallbackEnd) -> Reply
-        requires { IsBounded self.old }
-        ensures { IsDone self.old (op.FallbackDone serial end.now) result self.new }
+    pub fn fallback_done(
+        &mut self,
+        tickets: &mut Tickets,
+        serial: Serial,
+        end: &FallbackEnd,
+    ) -> Reply
+        requires has { HasTickets tickets.old self.old }
+        requires bounded { IsBounded (view_in tickets.old self.old) }
+        ensures done { IsDone (view_in tickets.old self.old) (op.FallbackDone serial end.now) result (view_in tickets.new self.new) }
+        ensures left { Leaves tickets.old self.old tickets.new self.new }
     {
-        match self.tickets.find_in_fallback(serial) {
+        match tickets.find_in_fallback(self.number, serial) {
             None => Reply::NotInFallback,
-            Some(place) => match self.tickets.get(place).state {
+            Some(slot) => match tickets.get(self.number, slot).state {
                 TicketState::InFallback(cause) => return self.end_fallback(
-                    serial, place, cause, end,
+                    tickets, serial, slot, cause, end,
                 ),
                 _ => return Reply::NotInFallback,
             },
@@ -72,17 +87,20 @@ impl Group {
     // The fallback of the ticket has ended: it is answered.
     fn end_fallback(
         &mut self,
+        tickets: &mut Tickets,
         serial: Serial,
-        place: usize,
+        slot: u32,
         cause: Cause,
         end: &FallbackEnd,
     ) -> Reply
-        requires bounded { IsBounded self.old }
-        requires found { IsFirst (is_in_fallback_at serial) self.old.present.tickets place }
-        ensures { IsDoneBy self.old (fallback_done_in (ticket.InFallback cause) serial end.now self.old.present) result self.new }
+        requires has { HasTickets tickets.old self.old }
+        requires bounded { IsBounded (view_in tickets.old self.old) }
+        requires found { IsFirstAt (is_in_fallback_at serial) (group_at tickets.old self.old.number) slot }
+        ensures done { IsDoneBy (view_in tickets.old self.old) (fallback_done_in (ticket.InFallback cause) serial end.now (view_in tickets.old self.old).present) result (view_in tickets.new self.new) }
+        ensures left { Leaves tickets.old self.old tickets.new self.new }
     {
         let answer = fallback_answer(end, cause);
-        self.tickets.answer(place, &answer);
+        tickets.answer(self.number, slot, &answer);
         match end {
             FallbackEnd::Success(_) => {
                 self.record(EventKind::FallbackSuccess);

@@ -1,67 +1,91 @@
 //! Start, finish and fail: the runs of the dependency.
 
-ghost use Rattle.std.specs.Prelude.{◌≡◌, find};
+ghost use Rattle.std.specs.Prelude.{◌≡◌, find, false};
 ghost use Rattle.bh_base.specs.declared.step.Op.TheVariants as op;
 ghost use Rattle.bh_base.specs.Machine.{run_ended};
 ghost use Rattle.bh_base.specs.Tickets.{is_busy_at};
 ghost use Rattle.bh_core.specs.Stepping.{IsBounded, IsDone, IsDoneBy};
+ghost use Rattle.bh_core.specs.Group.{HasTickets, Leaves, view_in};
+ghost use Rattle.bh_tickets.specs.Changes.{queued_in};
 
 use super::Group;
-use crate::tickets::is_running;
 use bh_base::{Answer, Cause, End, EventKind, Reply, Serial, Text, TicketState};
+use bh_tickets::{Tickets, is_running};
 
 impl Group {
-    pub fn start(&mut self) -> Reply
-        ensures { IsDone self.old op.Start result self.new }
+    pub fn start(&self, tickets: &mut Tickets) -> Reply
+        requires { HasTickets tickets.old self.now }
+        ensures done { IsDone (view_in tickets.old self.now) op.Start result (view_in tickets.new self.now) }
+        ensures left { Leaves tickets.old self.now tickets.new self.now }
     {
-        if self.tickets.busy_count() >= self.props.core {
+        if tickets.busy_count(self.number) >= self.props.core {
             return Reply::Idle;
         }
-        match self.tickets.first_queued() {
+        match tickets.first_queued(self.number) {
             None => Reply::Idle,
-            Some(place) => {
-                let ticket = self.tickets.get(place);
+            Some(slot) => {
+                let ticket = tickets.get(self.number, slot);
                 let serial = ticket.serial;
                 let arg = ticket.arg;
-                self.tickets.start_run(place);
+                tickets.start_run(self.number, slot);
                 Reply::Assigned { serial, arg }
             }
         }
     }
 
-    pub fn finish(&mut self, serial: Serial, body: &Text<256>) -> Reply
-        requires { IsBounded self.old }
-        ensures { IsDone self.old (op.Finish serial body.now) result self.new }
+    pub fn finish(&mut self, tickets: &mut Tickets, serial: Serial, body: &Text<256>) -> Reply
+        requires has { HasTickets tickets.old self.old }
+        requires bounded { IsBounded (view_in tickets.old self.old) }
+        ensures done { IsDone (view_in tickets.old self.old) (op.Finish serial body.now) result (view_in tickets.new self.new) }
+        ensures left { Leaves tickets.old self.old tickets.new self.new }
     {
         let state = TicketState::Answered(Answer::Value(*body));
-        self.end_run(serial, &state, End::Success, EventKind::Success)
+        self.end_run(tickets, serial, &state, End::Success, EventKind::Success)
     }
 
-    pub fn fail(&mut self, serial: Serial, bad: bool) -> Reply
-        requires { IsBounded self.old }
-        ensures { IsDone self.old (op.Fail serial bad) result self.new }
+    pub fn fail(&mut self, tickets: &mut Tickets, serial: Serial, bad: bool) -> Reply
+        requires has { HasTickets tickets.old self.old }
+        requires bounded { IsBounded (view_in tickets.old self.old) }
+        ensures done { IsDone (view_in tickets.old self.old) (op.Fail serial bad) result (view_in tickets.new self.new) }
+        ensures left { Leaves tickets.old self.old tickets.new self.new }
     {
         if bad {
             let state = TicketState::Answered(Answer::BadRequest);
-            return self.end_run(serial, &state, End::BadRequest, EventKind::BadRequest);
+            return self.end_run(
+                tickets,
+                serial,
+                &state,
+                End::BadRequest,
+                EventKind::BadRequest,
+            );
         }
         let state = TicketState::NeedsFallback(Cause::Failure);
-        self.end_run(serial, &state, End::Error, EventKind::Failure)
+        self.end_run(tickets, serial, &state, End::Error, EventKind::Failure)
     }
 
     // The run of the ticket has ended, and the ticket goes on to the state, unless it had timed out.
-    fn end_run(&mut self, serial: Serial, state: &TicketState, end: End, kind: EventKind) -> Reply
-        requires { IsBounded self.old }
-        ensures { IsDoneBy self.old (run_ended (find (is_busy_at serial) self.old.present.tickets) serial state.now end kind self.old.present) result self.new }
+    fn end_run(
+        &mut self,
+        tickets: &mut Tickets,
+        serial: Serial,
+        state: &TicketState,
+        end: End,
+        kind: EventKind,
+    ) -> Reply
+        requires has { HasTickets tickets.old self.old }
+        requires bounded { IsBounded (view_in tickets.old self.old) }
+        requires ended { queued_in state.now ≡ false }
+        ensures done { IsDoneBy (view_in tickets.old self.old) (run_ended (find (is_busy_at serial) (view_in tickets.old self.old).present.tickets) serial state.now end kind (view_in tickets.old self.old).present) result (view_in tickets.new self.new) }
+        ensures left { Leaves tickets.old self.old tickets.new self.new }
     {
-        match self.tickets.find_busy(serial) {
+        match tickets.find_busy(self.number, serial) {
             None => Reply::NotRunning,
-            Some(place) => {
-                if !is_running(self.tickets.get(place)) {
-                    self.tickets.stop_run(place);
+            Some(slot) => {
+                if !is_running(tickets.get(self.number, slot)) {
+                    tickets.stop_run(self.number, slot);
                     return Reply::Late;
                 }
-                self.tickets.end_run(place, state);
+                tickets.end_run(self.number, slot, state);
                 self.record(kind);
                 self.tell_circuit(serial, end);
                 Reply::Done

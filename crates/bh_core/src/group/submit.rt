@@ -1,81 +1,96 @@
 //! Submit: where a request goes.
 
-ghost use Rattle.std.specs.Prelude.{◌≡◌, ◌<◌, ◌≤◌, None, Some, length, true};
+ghost use Rattle.std.specs.Prelude.{◌≡◌, ◌<◌, ◌≤◌, None, Some, length};
 ghost use Rattle.bh_base.specs.declared.step.Op.TheVariants as op;
 ghost use Rattle.bh_base.specs.Machine.{due_fallback, is_admitted, placed, rejected, submitted};
 ghost use Rattle.bh_base.specs.Seen.{view_rolling};
 ghost use Rattle.bh_core.specs.Stepping.{IsBounded, IsDone, IsDoneBy, IsJoinable, asked_with, view_with_ticket};
+ghost use Rattle.bh_core.specs.Group.{HasTickets, Leaves, view_in};
+ghost use Rattle.bh_tickets.specs.TicketsView.{group_at};
 
 use super::Group;
 use bh_admit::pool_admits;
 use bh_base::{
     Admit, Cause, End, EventKind, Health, Reply, Request, Strategy, Ticket, TicketState,
 };
+use bh_tickets::Tickets;
 
 impl Group {
-    pub fn submit(&mut self, request: &Request) -> Reply
-        requires { IsBounded self.old }
-        ensures { IsDone self.old (op.Submit request.now) result self.new }
+    pub fn submit(&mut self, tickets: &mut Tickets, request: &Request) -> Reply
+        requires has { HasTickets tickets.old self.old }
+        requires bounded { IsBounded (view_in tickets.old self.old) }
+        ensures done { IsDone (view_in tickets.old self.old) (op.Submit request.now) result (view_in tickets.new self.new) }
+        ensures left { Leaves tickets.old self.old tickets.new self.new }
     {
-        if let Some(place) = self.find_cached(request) {
-            return self.join(request, place);
+        if let Some(slot) = self.find_cached(tickets, request) {
+            return self.join(tickets, request, slot);
         }
-        self.make_ticket(request)
+        self.make_ticket(tickets, request)
     }
 
-    // The place of the cached ticket that the request may join.
-    fn find_cached(&self, request: &Request) -> Option<usize>
-        ensures { IsJoinable self.now.present request.now.cache result }
+    // The slot of the cached ticket that the request may join.
+    fn find_cached(&self, tickets: &Tickets, request: &Request) -> Option<u32>
+        requires { HasTickets tickets.now self.now }
+        ensures { IsJoinable (view_in tickets.now self.now).present (group_at tickets.now self.now.number) request.now.cache result }
     {
         if !self.props.cache_on {
             return None;
         }
         match &request.cache {
-            Some((context, key)) => self.tickets.find_cached(*context, key),
+            Some((context, key)) => tickets.find_cached(self.number, *context, key),
             None => None,
         }
     }
 
-    // The request joins the ticket at the place.
-    fn join(&mut self, request: &Request, place: usize) -> Reply
-        requires bounded { IsBounded self.old }
-        requires found { IsJoinable self.old.present request.now.cache (Some place) }
-        ensures { IsDone self.old (op.Submit request.now) result self.new }
+    // The request joins the ticket in the slot.
+    fn join(&mut self, tickets: &mut Tickets, request: &Request, slot: u32) -> Reply
+        requires has { HasTickets tickets.old self.old }
+        requires bounded { IsBounded (view_in tickets.old self.old) }
+        requires found { IsJoinable (view_in tickets.old self.old).present (group_at tickets.old self.old.number) request.now.cache (Some slot) }
+        ensures done { IsDone (view_in tickets.old self.old) (op.Submit request.now) result (view_in tickets.new self.new) }
+        ensures left { Leaves tickets.old self.old tickets.new self.new }
     {
-        let serial = self.tickets.get(place).serial;
-        self.tickets.add_holder(place);
+        let serial = tickets.get(self.number, slot).serial;
+        tickets.add_holder(self.number, slot);
         self.record(EventKind::ResponseFromCache);
         Reply::Joined(serial)
     }
 
     // The request gets a ticket of its own, unless there is no free slot.
-    fn make_ticket(&mut self, request: &Request) -> Reply
-        requires { IsBounded self.old }
-        ensures { IsDoneBy self.old (submitted None request.now (view_rolling self.old self.old.present.latest) self.old.present) result self.new }
+    fn make_ticket(&mut self, tickets: &mut Tickets, request: &Request) -> Reply
+        requires has { HasTickets tickets.old self.old }
+        requires bounded { IsBounded (view_in tickets.old self.old) }
+        ensures done { IsDoneBy (view_in tickets.old self.old) (submitted None request.now (view_rolling (view_in tickets.old self.old) (view_in tickets.old self.old).present.latest) (view_in tickets.old self.old).present) result (view_in tickets.new self.new) }
+        ensures left { Leaves tickets.old self.old tickets.new self.new }
     {
-        if self.tickets.len() >= self.props.slots {
+        if tickets.len(self.number) >= self.props.slots {
             return Reply::GroupFull;
         }
-        let health = self.health_asked();
-        let said = self
-            .circuit
-            .admit(self.history.latest(), &self.props, health, self.serial);
+        let health = self.health_asked(tickets);
+        let said = self.circuit.admit(
+            self.history.latest(),
+            &self.props,
+            health,
+            tickets.next_serial(self.number),
+        );
         match said {
             Admit::Short => self.fall_back_from(
+                tickets,
                 request,
                 Cause::ShortCircuited,
                 EventKind::ShortCircuited,
                 false,
             ),
-            Admit::Test => self.place(request, true),
-            Admit::Pass => self.place(request, false),
+            Admit::Test => self.place(tickets, request, true),
+            Admit::Pass => self.place(tickets, request, false),
         }
     }
 
     // Health for the circuit breaker, which is counted only where it is looked at.
-    fn health_asked(&self) -> Health
+    fn health_asked(&self, tickets: &Tickets) -> Health
+        requires { HasTickets tickets.now self.now }
         ensures range { result.errors ≤ result.total }
-        ensures same { asked_with self.now result ≡ asked_with self.now (view_rolling self.now self.now.present.latest).health }
+        ensures same { asked_with (view_in tickets.now self.now) result ≡ asked_with (view_in tickets.now self.now) (view_rolling (view_in tickets.now self.now) (view_in tickets.now self.now).present.latest).health }
     {
         if self
             .circuit
@@ -90,37 +105,40 @@ impl Group {
     }
 
     // The request runs, or waits for a worker, where there is room for it.
-    fn place(&mut self, request: &Request, test: bool) -> Reply
-        requires bounded { IsBounded self.old }
-        requires free { length self.old.present.tickets < self.old.present.props.slots }
-        ensures { IsDoneBy self.old (placed request.now test self.old.present) result self.new }
+    fn place(&mut self, tickets: &mut Tickets, request: &Request, test: bool) -> Reply
+        requires has { HasTickets tickets.old self.old }
+        requires bounded { IsBounded (view_in tickets.old self.old) }
+        requires free { length (view_in tickets.old self.old).present.tickets < (view_in tickets.old self.old).present.props.slots }
+        ensures done { IsDoneBy (view_in tickets.old self.old) (placed request.now test (view_in tickets.old self.old).present) result (view_in tickets.new self.new) }
+        ensures left { Leaves tickets.old self.old tickets.new self.new }
     {
-        if !self.is_admitted() {
-            return self.reject(request, test);
+        if !self.is_admitted(tickets) {
+            return self.reject(tickets, request, test);
         }
-        let serial = self.serial;
+        let serial = tickets.next_serial(self.number);
         match self.props.strategy {
             Strategy::Semaphore => {
-                self.add_ticket(request, &TicketState::Running, true, test);
+                self.add_ticket(tickets, request, &TicketState::Running, true, test);
                 return Reply::Inline(serial);
             }
             Strategy::Thread => {
-                self.add_ticket(request, &TicketState::Queued, false, test);
+                self.add_ticket(tickets, request, &TicketState::Queued, false, test);
                 return Reply::Queued(serial);
             }
         }
     }
 
     // Whether a permit is free, or the pool takes one more.
-    fn is_admitted(&self) -> bool
-        ensures { result ≡ is_admitted self.now.present self.now.present.props.strategy }
+    fn is_admitted(&self, tickets: &Tickets) -> bool
+        requires { HasTickets tickets.now self.now }
+        ensures { result ≡ is_admitted (view_in tickets.now self.now).present (view_in tickets.now self.now).present.props.strategy }
     {
-        let busy = self.tickets.busy_count();
+        let busy = tickets.busy_count(self.number);
         match self.props.strategy {
             Strategy::Semaphore => busy < self.props.semaphore,
             Strategy::Thread => pool_admits(
                 busy,
-                self.tickets.queued_count(),
+                tickets.queued_count(self.number),
                 self.props.core,
                 self.props.max_queue,
                 self.props.queue_threshold,
@@ -129,15 +147,18 @@ impl Group {
     }
 
     // The request is rejected; a test call that is rejected has failed.
-    fn reject(&mut self, request: &Request, test: bool) -> Reply
-        requires bounded { IsBounded self.old }
-        requires free { length self.old.present.tickets < self.old.present.props.slots }
-        ensures { IsDoneBy self.old (rejected self.old.present.props.strategy request.now test self.old.present) result self.new }
+    fn reject(&mut self, tickets: &mut Tickets, request: &Request, test: bool) -> Reply
+        requires has { HasTickets tickets.old self.old }
+        requires bounded { IsBounded (view_in tickets.old self.old) }
+        requires free { length (view_in tickets.old self.old).present.tickets < (view_in tickets.old self.old).present.props.slots }
+        ensures done { IsDoneBy (view_in tickets.old self.old) (rejected (view_in tickets.old self.old).present.props.strategy request.now test (view_in tickets.old self.old).present) result (view_in tickets.new self.new) }
+        ensures left { Leaves tickets.old self.old tickets.new self.new }
     {
-        self.tell_circuit(self.serial, End::Error);
+        self.tell_circuit(tickets.next_serial(self.number), End::Error);
         match self.props.strategy {
             Strategy::Semaphore => {
                 return self.fall_back_from(
+                    tickets,
                     request,
                     Cause::SemaphoreRejected,
                     EventKind::SemaphoreRejected,
@@ -146,6 +167,7 @@ impl Group {
             }
             Strategy::Thread => {
                 return self.fall_back_from(
+                    tickets,
                     request,
                     Cause::PoolRejected,
                     EventKind::ThreadPoolRejected,
@@ -158,29 +180,47 @@ impl Group {
     // The request does not run: its ticket needs a fallback.
     fn fall_back_from(
         &mut self,
+        tickets: &mut Tickets,
         request: &Request,
         cause: Cause,
         event: EventKind,
         test: bool,
     ) -> Reply
-        requires bounded { IsBounded self.old }
-        requires free { length self.old.present.tickets < self.old.present.props.slots }
-        ensures { IsDoneBy self.old (due_fallback cause event request.now test self.old.present) result self.new }
+        requires has { HasTickets tickets.old self.old }
+        requires bounded { IsBounded (view_in tickets.old self.old) }
+        requires free { length (view_in tickets.old self.old).present.tickets < (view_in tickets.old self.old).present.props.slots }
+        ensures done { IsDoneBy (view_in tickets.old self.old) (due_fallback cause event request.now test (view_in tickets.old self.old).present) result (view_in tickets.new self.new) }
+        ensures left { Leaves tickets.old self.old tickets.new self.new }
     {
-        let serial = self.serial;
-        self.add_ticket(request, &TicketState::NeedsFallback(cause), false, test);
+        let serial = tickets.next_serial(self.number);
+        self.add_ticket(
+            tickets,
+            request,
+            &TicketState::NeedsFallback(cause),
+            false,
+            test,
+        );
         self.record(event);
         Reply::FallbackDue { serial, cause }
     }
 
     // Makes the ticket of a request.
-    fn add_ticket(&mut self, request: &Request, state: &TicketState, busy: bool, test: bool)
-        requires bounded { IsBounded self.old }
-        requires free { length self.old.present.tickets < self.old.present.props.slots }
-        ensures { self.new ≡ view_with_ticket request.now state.now busy test self.old }
+    fn add_ticket(
+        &self,
+        tickets: &mut Tickets,
+        request: &Request,
+        state: &TicketState,
+        busy: bool,
+        test: bool,
+    )
+        requires has { HasTickets tickets.old self.now }
+        requires bounded { IsBounded (view_in tickets.old self.now) }
+        requires free { length (view_in tickets.old self.now).present.tickets < (view_in tickets.old self.now).present.props.slots }
+        ensures view { view_in tickets.new self.now ≡ view_with_ticket request.now state.now busy test (view_in tickets.old self.now) }
+        ensures left { Leaves tickets.old self.now tickets.new self.now }
     {
         let ticket = Ticket {
-            serial: self.serial,
+            serial: tickets.next_serial(self.number),
             arg: request.arg,
             cache: request.cache,
             submitted: self.history.latest(),
@@ -190,7 +230,6 @@ impl Group {
             cached: self.props.cache_on && request.cache.is_some(),
             test,
         };
-        self.serial += 1;
-        self.tickets.push(ticket);
+        tickets.push(self.number, &ticket);
     }
 }

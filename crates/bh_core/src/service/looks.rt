@@ -24,7 +24,7 @@ impl Core {
         ensures known { (v : View) → slice_get self.now.views group.0 ≡ Some v → IsSomeAnd result (λ shown. (shown.0.now ≡ v.present.props) × (shown.1 ≡ v.present.limit)) }
         ensures unknown { slice_get self.now.views group.0 ≡ None → IsNone result }
     {
-        let found = self.find(group)?;
+        let found = find(&self.groups, group)?;
         Some((found.props(), found.step_limit()))
     }
 
@@ -33,7 +33,7 @@ impl Core {
         ensures known { (v : View) → slice_get self.now.views group.0 ≡ Some v → result ≡ v.present.steps }
         ensures unknown { slice_get self.now.views group.0 ≡ None → result ≡ 0 }
     {
-        match self.find(group) {
+        match find(&self.groups, group) {
             Some(found) => found.steps(),
             None => 0,
         }
@@ -45,7 +45,7 @@ impl Core {
         ensures known { (v : View) (o : Op) (moment : ℕ) → slice_get self.now.views group.0 ≡ Some v → result ≡ is_worn_out (view_reply v o moment) }
         ensures unknown { slice_get self.now.views group.0 ≡ None → result ≡ false }
     {
-        match self.find(group) {
+        match find(&self.groups, group) {
             Some(found) => found.is_worn(),
             None => false,
         }
@@ -57,8 +57,8 @@ impl Core {
         ensures known { (v : View) (moment : ℕ) → slice_get self.now.views group.0 ≡ Some v → result ≡ is_assigned (view_reply v op.Start moment) }
         ensures unknown { slice_get self.now.views group.0 ≡ None → result ≡ false }
     {
-        match self.find(group) {
-            Some(found) => found.is_startable(),
+        match find(&self.groups, group) {
+            Some(found) => found.is_startable(&self.tickets),
             None => false,
         }
     }
@@ -69,8 +69,8 @@ impl Core {
         ensures known { (v : View) (moment : ℕ) → slice_get self.now.views group.0 ≡ Some v → result ≡ is_pending (view_reply v (op.Collect serial) moment) }
         ensures unknown { slice_get self.now.views group.0 ≡ None → result ≡ false }
     {
-        match self.find(group) {
-            Some(found) => found.is_pending(serial),
+        match find(&self.groups, group) {
+            Some(found) => found.is_pending(&self.tickets, serial),
             None => false,
         }
     }
@@ -82,21 +82,21 @@ impl Core {
         ensures known { (v : View) → slice_get self.now.views group.0 ≡ Some v → result ≡ expires_some (view_reply v op.Expire now) }
         ensures unknown { slice_get self.now.views group.0 ≡ None → result ≡ false }
     {
-        match self.find(group) {
-            Some(found) => found.is_due(now),
+        match find(&self.groups, group) {
+            Some(found) => found.is_due(&self.tickets, now),
             None => false,
         }
     }
+}
 
-    // The group of the number, where it is registered.
-    fn find(&self, group: GroupId) -> Option<&Group>
-        ensures found { IfSome result (λ found. slice_get self.now.views group.0 ≡ Some found.now) }
-        ensures missing { IsNone result → slice_get self.now.views group.0 ≡ None }
-    {
-        let place = group.0;
-        if place >= self.groups() {
-            return None;
-        }
-        Some(&self.groups[place as usize])
+// The group of the number, where it is registered.
+fn find(groups: &[Group], group: GroupId) -> Option<&Group>
+    ensures found { IfSome result (λ found. slice_get groups.now group.0 ≡ Some found.now) }
+    ensures missing { IsNone result → slice_get groups.now group.0 ≡ None }
+{
+    let place = group.0;
+    if place >= groups.len() as u64 {
+        return None;
     }
+    Some(&groups[place as usize])
 }

@@ -13,12 +13,12 @@ const SYNTAX: &str = "{\"error\":\"syntax\"}\n";
 
 const LONG_LINE: &str = "fault: line\n";
 
-// Runs the input for the group a, and asserts that a line ends the run.
+/// Runs the input for the group a, and asserts that a line ends the run.
 fn assert_ended<R: Abort + AllocGlobal>(rt: &R, input: &[u8], output: &str) {
     assert_run(rt, ONE_GROUP.as_bytes(), input, 3, output, LONG_LINE);
 }
 
-// So many letters between two texts.
+/// So many letters between two texts.
 fn padded<R: Abort + AllocGlobal>(
     rt: &R,
     before: &str,
@@ -35,7 +35,7 @@ fn padded<R: Abort + AllocGlobal>(
     text
 }
 
-// Each line is a fault and the text that has it.
+/// Each line is a fault and the text that has it.
 const FAULTY: &str = r#"syntax {
 syntax {"op":"start"
 field []
@@ -63,7 +63,7 @@ group {"op":"start","group":"z","now":0}
 group {"op":"start","group":"zzzzzzzzzzzzzzzzzzzzzzzzzzzzzzzzz","now":0}
 "#;
 
-// Runs the text between two steps, and asserts that it is answered by its fault and is no step.
+/// Runs the text between two steps, and asserts that it is answered by its fault and is no step.
 fn assert_fault<R: Abort + AllocGlobal>(rt: &R, text: &str, fault: &str) {
     let input = format!(in rt.alloc(); "{LINE}\n{text}\n{LINE}\n").expect(rt, "memory");
     let output = format!(in rt.alloc(); "{IDLE}{{\"error\":\"{fault}\"}}\n{IDLE}").expect(
@@ -110,7 +110,7 @@ fn the_first_fault_of_a_line_is_told(rt: HostRuntime) {
     assert_answers(&rt, ONE_GROUP, FAULTS_INPUT, FAULTS_OUTPUT);
 }
 
-// The beginning of a line, up to the text that is measured.
+/// The beginning of a line, up to the text that is measured.
 fn beginning(name: &str) -> &'static str {
     match name {
         "arg" => r#"{"op":"submit","group":"a","now":0,"arg":""#,
@@ -120,7 +120,7 @@ fn beginning(name: &str) -> &'static str {
     }
 }
 
-// Asserts what is answered to a text of so many letters.
+/// Asserts what is answered to a text of so many letters.
 fn assert_measured<R: Abort + AllocGlobal>(
     rt: &R,
     name: &str,
@@ -134,7 +134,7 @@ fn assert_measured<R: Abort + AllocGlobal>(
     assert_answers(rt, ONE_GROUP, input.as_str(), output.as_str());
 }
 
-// Each line is a text, its letter, how often that stands there, and the reply.
+/// Each line is a text, its letter, how often that stands there, and the reply.
 const MEASURED: &str = r#"arg x 64 {"reply":"queued","ticket":1}
 arg x 65 {"error":"long"}
 arg € 21 {"reply":"queued","ticket":1}
@@ -159,13 +159,13 @@ fn texts_are_measured_in_bytes(rt: HostRuntime) {
     }
 }
 
-// Asserts that a line of so many letters is read.
+/// Asserts that a line of so many letters is read.
 fn assert_read<R: Abort + AllocGlobal>(rt: &R, times: usize, after: &str) {
     let input = padded(rt, "", "x", times, after);
     assert_answers(rt, ONE_GROUP, input.as_str(), SYNTAX);
 }
 
-// Asserts that a line of so many letters ends the run.
+/// Asserts that a line of so many letters ends the run.
 fn assert_too_long<R: Abort + AllocGlobal>(
     rt: &R,
     before: &str,
@@ -208,7 +208,7 @@ fn a_line_is_utf8(rt: HostRuntime) {
     );
 }
 
-// Runs the input, in which @ stands for a step, and asserts what is written.
+/// Runs the input, in which @ stands for a step, and asserts what is written.
 fn assert_steps<R: Abort + AllocGlobal>(rt: &R, input: &str, output: &str) {
     let mut text = String::new(rt.alloc());
     for (i, part) in input.split('@').enumerate() {
@@ -231,7 +231,7 @@ fn returns_and_feeds(rt: HostRuntime) {
     assert_steps(&rt, "\r\r", SYNTAX);
 }
 
-// Runs a line of so many brackets, each inside the one before.
+/// Runs a line of so many brackets, each inside the one before.
 fn assert_nested<R: Abort + AllocGlobal>(rt: &R, depth: usize, output: &str) {
     let opened = padded(rt, "", "[", depth, "");
     let input = padded(rt, opened.as_str(), "]", depth, "\n");

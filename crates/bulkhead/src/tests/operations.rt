@@ -48,7 +48,7 @@ fn push_line<R: Abort>(rt: &R, text: &mut String, line: &str) {
     text.push_str("\n").expect(rt, "memory");
 }
 
-// Runs the script, and asserts that its lines are answered as it says.
+/// Runs the script, and asserts that its lines are answered as it says.
 fn assert_script<R: Abort + AllocGlobal>(rt: &R, script: Script<'_>) {
     let texts = texts_of(rt, script.lines);
     let mut reader: &[u8] = texts.input.as_str().as_bytes();
@@ -418,7 +418,7 @@ fn requests_of_one_key_share_a_ticket(rt: HostRuntime) {
     assert_scripts(&rt, CACHE);
 }
 
-// The same name twice, a nested member, many members, numbers of other forms, and escapes.
+/// The same name twice, a nested member, many members, numbers of other forms, and escapes.
 const SHAPES: &str = r#"members in any shape
 service.groups = ["a"]
 

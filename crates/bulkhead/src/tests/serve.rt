@@ -23,7 +23,7 @@ const CONNECTIONS: usize = 64;
 
 const ROUNDS: usize = 10;
 
-// Serves so many connections under the settings, and answers the status.
+/// Serves so many connections under the settings, and answers the status.
 fn serve<R: Threads + Wait + Clock + AllocGlobal + Sync>(
     rt: &R,
     settings: &str,
@@ -52,14 +52,14 @@ fn say(rt: &impl Abort, mut stream: &TcpStream, bytes: &[u8]) {
     stream.write_all(bytes).expect(rt, "the service reads");
 }
 
-// The next byte that the service wrote, where there is one.
+/// The next byte that the service wrote, where there is one.
 fn hear_byte(rt: &impl Abort, mut stream: &TcpStream) -> Option<u8> {
     let mut byte = [0u8; 1];
     let count = stream.read(&mut byte).expect(rt, "the service writes");
     if count == 0 { None } else { Some(byte[0]) }
 }
 
-// The next line that the service wrote.
+/// The next line that the service wrote.
 fn hear(rt: &(impl Abort + AllocGlobal), stream: &TcpStream) -> Vec<u8> {
     let mut line = Vec::new(rt.alloc());
     for _ in 0..4096 {
@@ -74,12 +74,12 @@ fn hear(rt: &(impl Abort + AllocGlobal), stream: &TcpStream) -> Vec<u8> {
     line
 }
 
-// Asserts the next line that the service wrote.
+/// Asserts the next line that the service wrote.
 fn assert_heard(rt: &(impl Abort + AllocGlobal), stream: &TcpStream, want: &str, at: &str) {
     assert_bytes(rt, &hear(rt, stream), want, at);
 }
 
-// Sends a line, and asserts the line that answers it.
+/// Sends a line, and asserts the line that answers it.
 fn assert_reply(rt: &(impl Abort + AllocGlobal), stream: &TcpStream, line: &str, reply: &str) {
     say(rt, stream, line.as_bytes());
     say(rt, stream, b"\n");
@@ -87,7 +87,7 @@ fn assert_reply(rt: &(impl Abort + AllocGlobal), stream: &TcpStream, line: &str,
     assert_heard(rt, stream, want.as_str(), line);
 }
 
-// Calls a group with an argument, and asserts the line that answers it.
+/// Calls a group with an argument, and asserts the line that answers it.
 fn assert_call(
     rt: &(impl Abort + AllocGlobal),
     stream: &TcpStream,
@@ -101,7 +101,7 @@ fn assert_call(
     assert_reply(rt, stream, line.as_str(), reply);
 }
 
-// The groups, asked for in two pieces, and a call.
+/// The groups, asked for in two pieces, and a call.
 fn ask_for_groups<R: Net<Listener = TcpListener, Stream = TcpStream> + Abort + AllocGlobal>(
     rt: &R,
     addr: SocketAddr,
@@ -117,12 +117,12 @@ fn ask_for_groups<R: Net<Listener = TcpListener, Stream = TcpStream> + Abort + A
     assert_call(rt, &stream, "a", "hi", r#"{"body":"hi","reply":"value"}"#);
 }
 
-// What stands before and behind the equals sign.
+/// What stands before and behind the equals sign.
 fn split(line: &str) -> (&str, &str) {
     line.split_once(" = ").unwrap_or((line, ""))
 }
 
-// Each line is an argument and the reply to a call with it.
+/// Each line is an argument and the reply to a call with it.
 const ECHO: &str = r#"fail = {"body":"fallback","cause":"failure","reply":"fallback-value"}
 fail twice = {"cause":"failure","fallback":"failed","reply":"error"}
 fail bare = {"cause":"failure","fallback":"missing","reply":"error"}
@@ -134,7 +134,7 @@ sleep 1x = {"body":"sleep 1x","reply":"value"}
  = {"body":"","reply":"value"}
 "#;
 
-// Every argument that the echo tells apart, under a worker and under a permit.
+/// Every argument that the echo tells apart, under a worker and under a permit.
 fn ask_echo(rt: &(impl Abort + AllocGlobal), stream: &TcpStream) {
     for line in ECHO.lines() {
         let (arg, reply) = split(line);
@@ -143,7 +143,7 @@ fn ask_echo(rt: &(impl Abort + AllocGlobal), stream: &TcpStream) {
     }
 }
 
-// What else may be asked, and the replies.
+/// What else may be asked, and the replies.
 const ASKED: &str =
     r#"{"op":"call","group":"a","arg":"sleep 1500"} = {"body":"fallback","cause":"timeout","reply":"fallback-value"}
 {"op":"call","group":"z","arg":"x"} = {"error":"group"}
@@ -168,7 +168,7 @@ fn ask_for_everything<R: Net<Listener = TcpListener, Stream = TcpStream> + Abort
     }
 }
 
-// Each connection calls, with an argument of its own.
+/// Each connection calls, with an argument of its own.
 fn say_all(rt: &(impl Abort + AllocGlobal), streams: &Vec<TcpStream>, round: usize) {
     for (i, stream) in streams.iter().enumerate() {
         let group = i % 8;
@@ -179,7 +179,7 @@ fn say_all(rt: &(impl Abort + AllocGlobal), streams: &Vec<TcpStream>, round: usi
     }
 }
 
-// Each connection gets its own argument back.
+/// Each connection gets its own argument back.
 fn hear_all(rt: &(impl Abort + AllocGlobal), streams: &Vec<TcpStream>, round: usize) {
     for (i, stream) in streams.iter().enumerate() {
         let want = format!(in rt.alloc();
@@ -189,7 +189,7 @@ fn hear_all(rt: &(impl Abort + AllocGlobal), streams: &Vec<TcpStream>, round: us
     }
 }
 
-// All connections call at once.
+/// All connections call at once.
 fn call_at_once<R: Net<Listener = TcpListener, Stream = TcpStream> + Abort + AllocGlobal>(
     rt: &R,
     addr: SocketAddr,
@@ -204,7 +204,7 @@ fn call_at_once<R: Net<Listener = TcpListener, Stream = TcpStream> + Abort + All
     }
 }
 
-// A connection that says half a line.
+/// A connection that says half a line.
 fn say_half<R: Net<Listener = TcpListener, Stream = TcpStream> + Abort + AllocGlobal>(
     rt: &R,
     addr: SocketAddr,
@@ -216,7 +216,7 @@ fn say_half<R: Net<Listener = TcpListener, Stream = TcpStream> + Abort + AllocGl
     assert_heard(rt, &half, "", "half a line");
 }
 
-// A connection that says a line which is too long.
+/// A connection that says a line which is too long.
 fn say_long<R: Net<Listener = TcpListener, Stream = TcpStream> + Abort + AllocGlobal>(
     rt: &R,
     addr: SocketAddr,
@@ -226,7 +226,7 @@ fn say_long<R: Net<Listener = TcpListener, Stream = TcpStream> + Abort + AllocGl
     assert_heard(rt, &long, "", "a long line");
 }
 
-// Connections that end badly beside two that go on.
+/// Connections that end badly beside two that go on.
 fn break_off<R: Net<Listener = TcpListener, Stream = TcpStream> + Abort + AllocGlobal>(
     rt: &R,
     addr: SocketAddr,
@@ -243,7 +243,7 @@ fn break_off<R: Net<Listener = TcpListener, Stream = TcpStream> + Abort + AllocG
     assert_call(rt, &last, "b", "three", three);
 }
 
-// What the other side of the connections says.
+/// What the other side of the connections says.
 #[derive(Clone, Copy)]
 enum Talk {
     Groups,
@@ -265,7 +265,7 @@ fn speak<R: Net<Listener = TcpListener, Stream = TcpStream> + Abort + AllocGloba
     }
 }
 
-// Serves so many connections beside the talk, and asserts that the service ends well with these errors.
+/// Serves so many connections beside the talk, and asserts that the service ends well with these errors.
 fn assert_served<
     R: Threads
         + Wait

@@ -61,7 +61,7 @@ mail maxQueueSize -1
 mail queueSizeRejectionThreshold 5
 ";
 
-// A writer that takes so many bytes, and then fails or takes none.
+/// A writer that takes so many bytes, and then fails or takes none.
 #[derive(Drop)]
 struct FullWriter {
     room: usize,
@@ -83,7 +83,7 @@ impl Write for FullWriter {
     }
 }
 
-// Shows the settings, and asserts what comes of it.
+/// Shows the settings, and asserts what comes of it.
 fn assert_check<R: Abort + AllocGlobal>(
     rt: &R,
     settings: &[u8],
@@ -99,20 +99,20 @@ fn assert_check<R: Abort + AllocGlobal>(
     assert_bytes(rt, &reported, errors, "the errors");
 }
 
-// Asserts that the settings are refused so by a run and a check, and that nothing is written.
+/// Asserts that the settings are refused so by a run and a check, and that nothing is written.
 fn assert_refused<R: Abort + AllocGlobal>(rt: &R, settings: &[u8], text: &str) {
     assert_run(rt, settings, b"{}\n", 1, "", text);
     assert_check(rt, settings, 1, "", text);
 }
 
-// Asserts that the lines, behind others, are refused for the reason.
+/// Asserts that the lines, behind others, are refused for the reason.
 fn assert_refusal<R: Abort + AllocGlobal>(rt: &R, before: &str, lines: &str, reason: &str) {
     let settings = format!(in rt.alloc(); "{before}{lines}").expect(rt, "memory");
     let text = format!(in rt.alloc(); "settings refused: {reason}\n").expect(rt, "memory");
     assert_refused(rt, settings.as_str().as_bytes(), text.as_str());
 }
 
-// Asserts a refusal for each of the cases, which stand with a blank line between two: the reason, and the lines.
+/// Asserts a refusal for each of the cases, which stand with a blank line between two: the reason, and the lines.
 fn assert_refusals<R: Abort + AllocGlobal>(rt: &R, before: &str, cases: &str) {
     for case in cases.split("\n\n") {
         let (reason, lines) = case.split_once('\n').unwrap_or((case, ""));
@@ -233,7 +233,7 @@ fn a_groups_own_value_wins_and_other_names_are_passed_over(rt: HostRuntime) {
     assert_check(&rt, OWN_SETTINGS.as_bytes(), 0, OWN_LINES, "");
 }
 
-// Asserts that a check ends in a fault with a writer that takes so many bytes.
+/// Asserts that a check ends in a fault with a writer that takes so many bytes.
 fn assert_full<R: Abort + AllocGlobal>(rt: &R, room: usize, fails: bool) {
     let mut writer = FullWriter { room, fails };
     let mut reported = Vec::new(rt.alloc());
@@ -255,7 +255,7 @@ fn a_check_whose_writer_fails_or_takes_no_byte(rt: HostRuntime) {
     assert_full(&rt, 10, false);
 }
 
-// A writer that counts what it is asked.
+/// A writer that counts what it is asked.
 #[derive(Drop)]
 struct CountingWriter {
     writes: usize,

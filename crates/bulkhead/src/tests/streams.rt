@@ -7,7 +7,7 @@ use std::io;
 use std::io::{ErrorKind, Read, Write};
 use std::process::Abort;
 
-// A reader that gives so many bytes at a time, and fails at a call where one is given.
+/// A reader that gives so many bytes at a time, and fails at a call where one is given.
 #[derive(Drop)]
 struct PieceReader<'a> {
     rest: &'a [u8],
@@ -27,7 +27,7 @@ impl Read for PieceReader<'_> {
     }
 }
 
-// A writer that keeps what it takes, so many bytes at a time, and at a call where one is given fails or takes none.
+/// A writer that keeps what it takes, so many bytes at a time, and at a call where one is given fails or takes none.
 #[derive(Drop)]
 struct PieceWriter {
     written: Vec<u8>,
@@ -59,12 +59,12 @@ impl Write for PieceWriter {
     }
 }
 
-// How many line feeds there are.
+/// How many line feeds there are.
 fn feeds(bytes: &[u8]) -> usize {
     bytes.iter().filter(|byte| **byte == b'\n').count()
 }
 
-// A reader of the input.
+/// A reader of the input.
 fn pieces(input: &str, size: usize, fails_at: Option<usize>) -> PieceReader<'_> {
     PieceReader {
         rest: input.as_bytes(),
@@ -89,7 +89,7 @@ fn writer<R: AllocGlobal>(
     }
 }
 
-// Runs the input under the settings of the script of the cache, and asserts how it ends.
+/// Runs the input under the settings of the script of the cache, and asserts how it ends.
 fn assert_piecewise<R: Abort + AllocGlobal>(
     rt: &R,
     reader: &mut PieceReader<'_>,
@@ -119,7 +119,7 @@ fn the_answers_to_one_piece_are_one_write(rt: HostRuntime) {
     assert_bytes(&rt, &writer.written, cache.output.as_str(), "the output");
 }
 
-// Runs the script by pieces of such a size, and asserts that it is answered as ever.
+/// Runs the script by pieces of such a size, and asserts that it is answered as ever.
 fn assert_pieces<R: Abort + AllocGlobal>(rt: &R, cache: &Texts, size: usize) {
     let mut reader = pieces(cache.input.as_str(), size, None);
     let mut writer = writer(rt, size, None, false);
@@ -135,13 +135,13 @@ fn pieces_of_any_length_give_the_same_bytes(rt: HostRuntime) {
     }
 }
 
-// How many lines had come whole before the call of a reader of 40 bytes at a time.
+/// How many lines had come whole before the call of a reader of 40 bytes at a time.
 fn lines_before(input: &str, call: usize) -> usize {
     let given = input.len().min(call.saturating_sub(1).saturating_mul(40));
     feeds(&input.as_bytes()[..given])
 }
 
-// Asserts that the lines that had come whole were answered before the read that failed.
+/// Asserts that the lines that had come whole were answered before the read that failed.
 fn assert_failed_read<R: Abort + AllocGlobal>(rt: &R, cache: &Texts, call: usize) {
     let mut reader = pieces(cache.input.as_str(), 40, Some(call));
     let mut writer = writer(rt, cache.output.len(), None, false);
@@ -161,7 +161,7 @@ fn a_reader_that_fails_at_any_call(rt: HostRuntime) {
     }
 }
 
-// Asserts that what was written before the call that failed or took nothing stays written.
+/// Asserts that what was written before the call that failed or took nothing stays written.
 fn assert_stuck<R: Abort + AllocGlobal>(rt: &R, cache: &Texts, call: usize, fails: bool) {
     let mut reader = pieces(cache.input.as_str(), cache.input.len(), None);
     let mut writer = writer(rt, 40, Some(call), fails);

@@ -1,6 +1,6 @@
 use Rattle.std.proofs.Common.{◌≡◌, length}
-use Rattle.bh_control.specs.Answering.{responder}
-use Rattle.bh_control.proofs.Talking.{SoFar}
+use Rattle.bh_control.specs.AnswerLine.{responder}
+use Rattle.bh_control.proofs.Pieces.{SoFar}
 use Rattle.bh_control.proofs.conversation.answer_each.Given as goal
 
 abbrev pub invariant-loop-line : goal.invariant-loop-line

@@ -10,10 +10,10 @@ returns-in-String-clause-value c =
     let is : c.args.reader.now ≡ Token.string c.in-String.text.now ∷ c.next.new.self = grind arith in
     (json.string c.in-String.text.now, λ depth. ap (value depth) is ∙ value_is depth _, refl)
 
-pub returns-in-Some-clause-value : goal.returns-in-Some-clause-value
-returns-in-Some-clause-value c =
+pub returns-in_ok-whole_number-in-Number-clause-value : goal.returns-in_ok-whole_number-in-Number-clause-value
+returns-in_ok-whole_number-in-Number-clause-value c =
     let is : c.args.reader.now ≡ Token.number c.in-Number.text.now ∷ c.next.new.self = grind arith in
-    (json.number c.in-Number.text.now, λ depth. ap (value depth) is ∙ value_is depth _, rw c.in-Some.ensures.value)
+    (json.number c.in-Number.text.now, λ depth. ap (value depth) is ∙ value_is depth _, rw c.in_ok-whole_number-in-Number.ensures.value)
 
 pub returns-in-Bool-clause-value : goal.returns-in-Bool-clause-value
 returns-in-Bool-clause-value c =

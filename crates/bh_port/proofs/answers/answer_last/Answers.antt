@@ -1,12 +1,16 @@
+use Rattle.std.proofs.Common.{rules}
+use Rattle.std.proofs.lemmas.Result.{err_from_is_err_and}
 use Rattle.bh_port.proofs.Answering.{last-found, last-none, last-refused}
 use Rattle.bh_port.proofs.answers.answer_last.Goals as goal
 
-pub returns-in-Ok-None-clause-outcome : goal.returns-in-Ok-None-clause-outcome
-returns-in-Ok-None-clause-outcome c = λ before agrees. last-none _ _ before _ _ tt c.in-Ok-None.field-0-is c.in-Ok-None.ensures
+pub returns-in_default-clause-outcome : goal.returns-in_default-clause-outcome
+returns-in_default-clause-outcome c = λ before agrees. last-none _ _ before _ _ tt (search rules) c.in_ok-line.ensures
 
-pub returns-in-Err-clause-outcome : goal.returns-in-Err-clause-outcome
-returns-in-Err-clause-outcome c = λ before agrees. last-refused _ _ before _ _ c.in-Err.ensures
+pub returns-in_err-line-clause-outcome : goal.returns-in_err-line-clause-outcome
+returns-in_err-line-clause-outcome c = λ before agrees.
+    let p = err_from_is_err_and c.from_residual.result c.from_residual.ensures.1 in
+    rw (p.1, p.2) (last-refused _ _ before _ _ c.in_err-line.ensures)
 
-pub returns-in-Ok-clause-outcome : goal.returns-in-Ok-clause-outcome
-returns-in-Ok-clause-outcome c = λ before agrees.
-    last-found _ _ _ before _ _ _ _ _ _ tt c.in-Ok-Some.field-0-is c.in-Ok-Some.ensures c.as_str.ensures.value c.in-Ok.ensures.answers agrees
+pub returns-clause-outcome : goal.returns-clause-outcome
+returns-clause-outcome c = λ before agrees.
+    last-found _ _ _ before _ _ _ _ _ _ tt c.in-Some.is c.in_ok-line.ensures c.as_str.ensures.value c.in_ok-answer_line.ensures.answers agrees

@@ -7,12 +7,14 @@ returns-in_err-line-clause-stopped c =
     let p = err_from_is_err_and c.from_residual.result c.from_residual.ensures.1 in
     rw (p.1, p.2) (λ before more agrees. refused-next _ _ _ before _ _ _ _ more _ (c.loop-scratch.invariant before agrees) c.in_err-line.ensures)
 
-pub returns-in-Err-clause-stopped : goal.returns-in-Err-clause-stopped
-returns-in-Err-clause-stopped c = λ before more agrees. unanswered _ _ _ _ before _ _ _ more (c.loop-scratch.invariant before agrees) c.in-Err.ensures.kept
+pub returns-in_err-answer_line-clause-stopped : goal.returns-in_err-answer_line-clause-stopped
+returns-in_err-answer_line-clause-stopped c =
+    let p = err_from_is_err_and c.from_residual-in_err-answer_line.result c.from_residual-in_err-answer_line.ensures.1 in
+    rw (p.1, p.2) (λ before more agrees. unanswered _ _ _ _ before _ _ _ more (c.loop-scratch.invariant before agrees) c.in_err-answer_line.ensures.kept)
 
 pub loop-scratch-preserved : goal.loop-scratch-preserved
 loop-scratch-preserved c = λ before agrees.
-    answered-found _ _ _ _ before _ _ _ _ _ _ _ _ (c.loop-scratch.invariant before agrees) c.in-Some.is c.in_ok-line.ensures c.as_str.ensures.value c.in-Ok.ensures.answers
+    answered-found _ _ _ _ before _ _ _ _ _ _ _ _ (c.loop-scratch.invariant before agrees) c.in-Some.is c.in_ok-line.ensures c.as_str.ensures.value c.in_ok-answer_line.ensures.answers
 
 pub loop-scratch-init : goal.loop-scratch-init
 loop-scratch-init c = λ before agrees. answered-none _ _ before _ _ agrees

@@ -11,4 +11,4 @@ returns-clause-wrote c = λ service before inside agrees.
 
 pub returns-clause-agrees : goal.returns-clause-agrees
 returns-clause-agrees c = λ service before agrees.
-    agrees-after service _ _ before c.args.step agrees (record { own = c.apply-reply.ensures.own; others = c.apply-reply.ensures.others })
+    agrees-after service _ _ before c.args.step _ agrees c.apply-reply.ensures

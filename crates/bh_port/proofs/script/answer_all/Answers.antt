@@ -1,9 +1,10 @@
-use Rattle.std.proofs.Common.{rules, arith, refl, ap, ◌∙◌, Result, Ok, IfErr, ◌≡◌, ◌⊎◌, inl, inr, Err}
+use Rattle.std.proofs.Common.{rules, arith, refl, ap, ◌∙◌, Result, Ok, IfErr, ◌≡◌, inr, Err}
 use Rattle.std.proofs.lemmas.Result.{err_from_is_err_and}
 use Rattle.bh_lines.specs.declared.port_error.PortError.TheVariants.{Read, Write, Line, Memory}
 use Rattle.bh_lines.specs.declared.port_error.PortError.{PortError}
+use Rattle.bh_lines.proofs.PortErrors.{unless-ok}
 use Rattle.bh_streams.specs.Watched.{bytes_left, bytes_held}
-use Rattle.bh_port.specs.Port.{IsNotRead}
+use Rattle.bh_port.specs.Script.{IsNotRead}
 use Rattle.bh_port.proofs.Running.{progress-start, progress-lines, progress-read, progress-stops, progress-ends, progress-front, progress-failed}
 use Rattle.bh_port.proofs.script.answer_all.Goals as goal
 
@@ -25,10 +26,6 @@ returns-then-not-branch-clause-text g c =
     let ended = c.in_ok-fill.ensures.end (search rules) in
     progress-ends _ _ _ _ _ _ _ _ _ (progress-read _ _ _ _ _ _ _ _ _ _ now piece.1 piece.2) ended.0 c.write_last.ensures.outcome
 
-if-ok : {T : Type 0} (x : T) (e : PortError) {P : Type 0} → (Ok x ≡ Err e) ⊎ P → P
-if-ok x e (inl bad) = cc
-if-ok x e (inr p) = p
-
 pub loop-preserved : goal.loop-preserved
 loop-preserved g c =
     let now = progress-lines _ _ _ _ _ _ _ c.write_answers.new.core _ _ c.loop.invariant.progress c.in_ok-write_answers.ensures.answered in
@@ -38,8 +35,8 @@ loop-preserved g c =
       same_writer = c.in_ok-write_answers.ensures.same_writer ∙ c.loop.invariant.same_writer;
       read_enough = omega (arith, c.in_ok-fill.ensures.one);
       read_no_more = omega (arith, c.in_ok-fill.ensures.one);
-      none_failed = if-ok _ _ c.in_ok-fill.ensures.not_failed ∙ c.loop.invariant.none_failed;
-      none_refused = if-ok _ _ c.in_ok-write_answers.ensures.not_refused ∙ c.loop.invariant.none_refused;
+      none_failed = unless-ok _ _ c.in_ok-fill.ensures.not_failed ∙ c.loop.invariant.none_failed;
+      none_refused = unless-ok _ _ c.in_ok-write_answers.ensures.not_refused ∙ c.loop.invariant.none_refused;
       piece = omega (arith, c.fill.auto.piece);
       progress = progress-read _ _ _ _ _ _ _ _ _ _ now piece.1 piece.2;
     }

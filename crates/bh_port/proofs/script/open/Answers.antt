@@ -2,7 +2,7 @@ use Rattle.std.proofs.Common.{◌≡◌, ℕ, List, [], ◌∷◌, ◌++◌, ◌
 use Rattle.std.proofs.lemmas.Grind.{common_steps}
 use Rattle.bh_base.specs.declared.props.GroupProps.{GroupProps}
 use Rattle.bh_core.specs.Groups.{Groups}
-use Rattle.bh_props.specs.Seen.{settings_seen}
+use Rattle.bh_props.specs.SettingsView.{settings_seen}
 use Rattle.bh_port.proofs.OwnSteps.{opened_view, open-more, agrees-opened}
 use Rattle.bh_port.proofs.script.open.Goals as goal
 

@@ -1,6 +1,6 @@
 use Rattle.std.proofs.Common.{◌≡◌, ◌++◌, List, ℕ, map}
 use Rattle.bh_base.specs.declared.props.GroupProps.{GroupProps}
-use Rattle.bh_props.specs.Seen.{settings_seen}
+use Rattle.bh_props.specs.SettingsView.{settings_seen}
 use Rattle.bh_port.proofs.OwnSteps.{opened_view}
 use Rattle.bh_port.proofs.script.open.Given as goal
 

@@ -16,4 +16,4 @@ returns-in-Some c =
 pub loop-name-preserved : goal.loop-name-preserved
 loop-name-preserved c =
     let finds = c.first_of_group.ensures ∙ ap (λ name. find (is_at_fault c.args.fault name (view c.args.root.now)) all) c.as_str.ensures in
-    sym (checked_values-passed c.args.fault (view c.args.root.now) _ _ _ _ c.loop-name-test.true c.name-item.is finds c.in-None.is) ∙ c.loop-name.invariant
+    sym (checked_values-passed c.args.fault (view c.args.root.now) _ _ _ _ c.loop-name-test.true c.name-item.is finds c.in_default.is) ∙ c.loop-name.invariant

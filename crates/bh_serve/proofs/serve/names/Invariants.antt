@@ -1,6 +1,6 @@
 use Rattle.std.proofs.Common.{◌≡◌, ◌++◌}
 use Rattle.bh_port.specs.Text.{names_in}
-use Rattle.bh_props.specs.Seen.{settings_seen}
+use Rattle.bh_props.specs.SettingsView.{settings_seen}
 use Rattle.bh_serve.proofs.serve.names.Given as goal
 
 abbrev pub invariant-loop-name : goal.invariant-loop-name

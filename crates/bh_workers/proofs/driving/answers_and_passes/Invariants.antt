@@ -1,6 +1,6 @@
 use Rattle.std.proofs.Common.{◌≡◌, ◌++◌, map}
 use Rattle.std.specs.Vec.Iter.{into_iter_items}
-use Rattle.bh_workers.specs.declared.calls.Called.{Called}
+use Rattle.bh_workers.specs.declared.caller_threads.Called.{Called}
 use Rattle.bh_workers.proofs.driving.answers_and_passes.Given as goal
 
 abbrev pub invariant-loop-answers : goal.invariant-loop-answers

@@ -10,16 +10,16 @@ returns g c =
     let D = g.D.Dependency.ends in
     let F = g.D.Dependency.fallback_ends in
     let M = g.C.Clock.moments in
-    let a = c.args.shared.now.audited in
+    let a = c.args.environment.now.shared.now.audited in
     let lists = c.args.lists.now in
-    let called = c.in-Ok.called in
-    let worked = c.in-Ok-join_promised.worked in
+    let called = c.in_ok-called.called in
+    let worked = c.in_ok-worked.worked in
     driven_from D F M a lists called.items worked.items c.join-timed.result.items c.gather.result c.gather.ensures.answers c.gather.ensures.passes
-    (callers_from D F M a lists called.items (sym called.ok.0 ∙ c.in-Ok.ensures.len ∙ c.in_ok-callers.ensures.len)
+    (callers_from D F M a lists called.items (sym called.ok.0 ∙ c.in_ok-called.ensures.len ∙ c.in_ok-callers.ensures.len)
     (λ k l r atl atr.
     let lt : k < vec_len c.in_ok-callers.callers =
-    (let w = slice_get_within called.items k r atr in let v = called.ok.0 in let e = c.in-Ok.ensures.len in omega arith) in
-    let kept = (c.in-Ok.ensures.each k r lt).1 in
+    (let w = slice_get_within called.items k r atr in let v = called.ok.0 in let e = c.in_ok-called.ensures.len in omega arith) in
+    let kept = (c.in_ok-called.ensures.each k r lt).1 in
     let h = kept.handle in
     let at : slice_get c.in_ok-callers.callers.items k ≡ Some h =
     slice_get_read c.in_ok-callers.callers.items (vec_len c.in_ok-callers.callers) k h c.in_ok-callers.callers.ok.0 lt kept.handle_is in
@@ -29,8 +29,8 @@ returns g c =
     (all_places (IsWorkerPass D M) worked.items
     (λ k p at.
     let lt : k < vec_len c.in_ok-workers.workers =
-    (let w = slice_get_within worked.items k p at in let v = worked.ok.0 in let e = c.in-Ok-join_promised.ensures.len in omega arith) in
-    let kept = (c.in-Ok-join_promised.ensures.each k p lt).1 in
+    (let w = slice_get_within worked.items k p at in let v = worked.ok.0 in let e = c.in_ok-worked.ensures.len in omega arith) in
+    let kept = (c.in_ok-worked.ensures.each k p lt).1 in
     let P : PassView → Type 0 = λ x. IsWorkerPass D M x in
     subst P (get_or_from_slice_get worked.items k p p at) kept.kept))
     c.join-timed.ensures

@@ -1,6 +1,6 @@
 use Rattle.std.proofs.Common.{rules}
-use Rattle.bh_control.specs.Answering.{responder}
-use Rattle.bh_control.proofs.Talking.{fed-refused}
+use Rattle.bh_control.specs.AnswerLine.{responder}
+use Rattle.bh_control.proofs.Pieces.{fed-refused}
 use Rattle.bh_control.proofs.conversation.Conversation.feed.Goals as goal
 
 pub returns-in-Err-Line-clause-fed : goal.returns-in-Err-Line-clause-fed

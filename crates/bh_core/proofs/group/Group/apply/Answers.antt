@@ -1,19 +1,37 @@
-use Rattle.std.proofs.Common.{◌<◌, ◌≤◌, length, subst, arith}
+use Rattle.std.proofs.Common.{◌≡◌, ◌<◌, ◌≤◌, length, subst, arith}
 use Rattle.bh_base.specs.Runs.{View}
-use Rattle.bh_core.specs.Group.{group_view}
-use Rattle.bh_core.proofs.Stepping.{stepped}
+use Rattle.bh_core.specs.Group.{BareGroup, bare_group, view_in}
+use Rattle.bh_core.specs.Stepping.{released_view}
+use Rattle.bh_core.proofs.Own.{view_released}
+use Rattle.bh_core.proofs.Stepping.{replied, stepped}
 use Rattle.bh_core.proofs.Steady.{stays_steady}
 use Rattle.bh_core.proofs.group.Group.apply.Goals as goal
 
+pub returns-clause-reply : goal.returns-clause-reply
+returns-clause-reply c =
+    let ts = c.args.tickets.now in
+    let v : View = view_in ts (bare_group c.self.inside) in
+    rw (← c.self.view_is) (replied v (view_in ts c.begin.new.self) c.args.op.now c.args.now c.act-reply.result c.if-self.false (rw (← c.self.view_is) at c.begin.ensures.begins ts) c.act-reply.ensures.done.reply)
+
 pub returns-clause-view : goal.returns-clause-view
 returns-clause-view c =
-    let v : View = group_view c.self.inside in
-    rw (← c.self.view_is) (stepped v c.begin.new.self c.act-reply.new.self c.release.new.self c.args.op.now c.args.now
-    c.if-self.false (rw (← c.self.view_is) at c.begin.ensures.begins) c.act-reply.ensures.view c.release.ensures)
+    let ts = c.args.tickets.now in
+    let us = c.act-reply.new.tickets in
+    let vs = c.release.new.self in
+    let v : View = view_in ts (bare_group c.self.inside) in
+    let ended : view_in vs c.act-reply.new.self ≡ released_view (view_in us c.act-reply.new.self) = subst (λ (g : BareGroup). view_in vs g ≡ released_view (view_in us g)) c.self-2.view_is (view_released us vs (bare_group c.self-2.inside) c.release.ensures.items c.release.ensures.left.next) in
+    rw (← c.self.view_is) (stepped v (view_in ts c.begin.new.self) (view_in us c.act-reply.new.self) (view_in vs c.act-reply.new.self) c.args.op.now c.args.now
+    c.if-self.false (rw (← c.self.view_is) at c.begin.ensures.begins ts) c.act-reply.ensures.done.view ended)
 
 pub returns-clause-steady : goal.returns-clause-steady
 returns-clause-steady c =
+    let ts = c.args.tickets.now in
+    let us = c.act-reply.new.tickets in
+    let vs = c.release.new.self in
     let ready = c.self.invariant in
-    let some : 0 < c.args.self.now.present.props.buckets = subst (λ (v : View). 0 < v.present.props.buckets) c.self.view_is ready.served.buckets in
-    let few : length c.args.self.now.present.tickets ≤ 4096 = subst (λ (v : View). length v.present.tickets ≤ 4096) c.self.view_is (omega (arith, ready.tickets, ready.served.slots)) in
-    stays_steady c.args.self.now c.begin.new.self c.act-reply.new.self c.release.new.self c.args.op.now c.args.now c.act-reply.result some few c.requires c.begin.ensures.begins c.begin.ensures.bounded c.act-reply.ensures c.release.ensures
+    let has = c.requires.has in
+    let v : View = view_in ts c.args.self.now in
+    let some : 0 < v.present.props.buckets = rw (← c.self.view_is) ready.served.buckets in
+    let few : length v.present.tickets ≤ 4096 = rw (← c.self.view_is) (omega (arith, (rw (← c.self.view_is) at has.few), ready.served.slots)) in
+    let ended : view_in vs c.act-reply.new.self ≡ released_view (view_in us c.act-reply.new.self) = subst (λ (g : BareGroup). view_in vs g ≡ released_view (view_in us g)) c.self-2.view_is (view_released us vs (bare_group c.self-2.inside) c.release.ensures.items c.release.ensures.left.next) in
+    stays_steady v (view_in ts c.begin.new.self) (view_in us c.act-reply.new.self) (view_in vs c.act-reply.new.self) c.args.op.now c.args.now c.act-reply.result some few c.requires.steady (c.begin.ensures.begins ts) (c.begin.ensures.bounded ts has c.requires.steady) c.act-reply.ensures.done ended

@@ -1,7 +1,7 @@
 use Rattle.std.proofs.Common.{◌≡◌, ◌<◌, ℕ, ◌+◌, List, [], ◌∷◌, ◌++◌, length, take, get_or, ◌∙◌, sym, ap, arith, length-take-le}
 use Rattle.std.proofs.lemmas.List.{take_more, take_all}
 use Rattle.bh_base.specs.declared.step.Step.{Step}
-use Rattle.bh_core.proofs.Whole.{IsApplied, goes_on_in, stays_unknown_in}
+use Rattle.bh_core.proofs.Whole.{goes_on_in, stays_unknown_in}
 use Rattle.bh_core.proofs.service.Core.run.Goals as goal
 
 next_step : (steps : List Step) (i : ℕ) (x : Step) → i < length steps → x ≡ get_or steps i x → take (i + 1) steps ≡ take i steps ++ x ∷ []
@@ -12,20 +12,13 @@ loop-step-preserved c =
     let before = c.loop-step in
     let next : take (before.step-index + 1) c.args.steps.now ≡ take before.step-index c.args.steps.now ++ c.step-item.result ∷ [] = next_step c.args.steps.now before.step-index c.step-item.result c.loop-step-test.true c.step-item.is in
     let same : length (take before.step-index c.args.steps.now) ≡ length before.replies.items = length-take-le before.step-index c.args.steps.now (omega arith) ∙ sym before.invariant.count in
-    let applied : IsApplied before.self c.apply-reply.new.self c.step-item.result c.apply-reply.result = record {
-      reply = c.apply-reply.ensures.reply;
-      own = c.apply-reply.ensures.own;
-      others = c.apply-reply.ensures.others;
-      unknown = c.apply-reply.ensures.unknown;
-      unknown_same = c.apply-reply.ensures.unknown_same;
-    } in
     record {
       count = omega (arith, c.push_within.ensures.len);
       room = omega (arith, c.push_within.ensures.capacity);
       groups = c.apply-reply.ensures.count ∙ before.invariant.groups;
       limit = c.apply-reply.ensures.limit ∙ before.invariant.limit;
-      own = λ group s shows. goes_on_in group s c.args.steps.now before.step-index c.step-item.result before.replies.items c.push_within.new.items.items c.apply-reply.result before.self c.apply-reply.new.self same next c.push_within.ensures.items (before.invariant.own group s shows) applied;
-      unknown = λ group none. stays_unknown_in group c.args.steps.now before.step-index c.step-item.result before.replies.items c.push_within.new.items.items c.apply-reply.result before.self c.apply-reply.new.self same next c.push_within.ensures.items (before.invariant.unknown group none) applied;
+      own = λ group s shows. goes_on_in group s c.args.steps.now before.step-index c.step-item.result before.replies.items c.push_within.new.items.items c.apply-reply.result before.self c.apply-reply.new.self same next c.push_within.ensures.items (before.invariant.own group s shows) c.apply-reply.ensures;
+      unknown = λ group none. stays_unknown_in group c.args.steps.now before.step-index c.step-item.result before.replies.items c.push_within.new.items.items c.apply-reply.result before.self c.apply-reply.new.self same next c.push_within.ensures.items (before.invariant.unknown group none) c.apply-reply.ensures;
     }
 
 pub returns-clause-replies : goal.returns-clause-replies

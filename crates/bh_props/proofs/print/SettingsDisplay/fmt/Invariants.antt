@@ -2,11 +2,11 @@ use Rattle.std.proofs.Common.{◌≡◌, ◌++◌, List, ℕ}
 use Rattle.std.specs.List.{flat_map}
 use Rattle.std.specs.Fmt.{HasWritten, IsPlainFormatter}
 use Rattle.bh_base.specs.declared.props.GroupProps.{GroupProps}
-use Rattle.bh_props.specs.Printed.{lines_of_group}
+use Rattle.bh_props.specs.Printed.{group_lines}
 use Rattle.bh_props.proofs.print.SettingsDisplay.fmt.Given as goal
 
 abbrev pub invariant-loop-name : goal.invariant-loop-name
 invariant-loop-name g l =
     (done : List (List ℕ × GroupProps)) × (l.self.groups.entries ≡ done ++ l.name-iterator)
     × (IsPlainFormatter l.initial.f
-    → HasWritten g.W.Write.write_str_gives l.initial.f (flat_map (lines_of_group l.self.audit_steps) done) l.f)
+    → HasWritten g.W.Write.write_str_gives l.initial.f (flat_map (group_lines l.self.audit_steps) done) l.f)

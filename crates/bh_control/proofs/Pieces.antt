@@ -1,0 +1,165 @@
+-- Answers to the lines of a piece, one after the other.
+use Rattle.std.proofs.Common.{◌≡◌, ℕ, false, List, [], ◌∷◌, ◌++◌, codes, Option, Some, None, Result, Ok, Err, String, string_bytes, Vec, refl, sym, ◌∙◌, subst, ap, append-nil, append_assoc, inl}
+use Rattle.std.specs.declared.alloc.Global.{Global}
+use Rattle.bh_lines.specs.declared.port_error.PortError.{PortError}
+use Rattle.bh_lines.specs.declared.port_error.PortError.TheVariants.{Read, Write, Line, Memory}
+use Rattle.bh_lines.specs.Lines.{stopped, cut, has_line, lines_then}
+use Rattle.bh_lines.specs.Taken.{TakesLine, IsLast}
+use Rattle.bh_lines.proofs.LinesThen.{lines_then-append, IsBehind-more}
+use Rattle.bh_lines.specs.declared.fault.Fault.{Fault}
+use Rattle.bh_lines.specs.FaultLine.{fault_line, fault_word, error_data}
+use Rattle.bh_lines.specs.ReplyLine.{reply_line, reply_data}
+use Rattle.serde_json.specs.Written.{compact_text}
+use Rattle.bh_base.specs.declared.reply.Answer.{Answer}
+use Rattle.bh_base.specs.declared.reply.CallError.{CallError}
+use Rattle.bh_base.specs.declared.reply.CallError.TheVariants as call_errors
+use Rattle.bh_base.specs.declared.reply.Reply.{Reply}
+use Rattle.bh_base.specs.declared.reply.Reply.TheVariants as reply
+use Rattle.bh_control.specs.declared.control_line.ControlLine.{ControlLine}
+use Rattle.bh_control.specs.declared.control_line.ControlLine.TheVariants as lines
+use Rattle.bh_control.specs.ControlLine.{control_line}
+use Rattle.bh_control.specs.AnswerLine.{Responder, Answers, IsAnswer, groups_data, groups_line, answer_line}
+use Rattle.bh_control.specs.Pieces.{AnswersEach, AnsweredUpTo, Refused, Each, EachLast, UnlessEmpty, Fed}
+
+-- the lines in front of `all` were answered behind `before`, up to `rest`
+abbrev pub SoFar : Responder → List ℕ → List ℕ → List ℕ → List ℕ → Type 0
+SoFar who all before rest after = (out : List ℕ) × (after ≡ before ++ out) × AnsweredUpTo who all rest out
+
+answers-more : (who : Responder) (ls : List (List ℕ)) (l out one : List ℕ) → AnswersEach who ls out → Answers who l one → AnswersEach who (ls ++ l ∷ []) (out ++ one)
+answers-more who [] l out one h m = (one, [], m, refl, ap (λ ys. ys ++ one) h ∙ sym (append-nil one))
+answers-more who (k ∷ ls) l out one h m =
+    (h.0, h.1 ++ one, h.2, answers-more who ls l h.1 one h.3 m, ap (λ ys. ys ++ one) h.4 ∙ append_assoc h.0 h.1 one)
+
+-- no line was answered yet
+pub so_far-none : (who : Responder) (all before : List ℕ) → SoFar who all before all before
+so_far-none who all before = ([], sym (append-nil before), record { lines = []; each = refl; cut_is = λ more. refl; behind = inl refl })
+
+-- one line more was taken and answered
+pub so_far-one : (who : Responder) (all before mid after new later bytes one : List ℕ) (found : Option (String Global)) (s : String Global)
+    → SoFar who all before mid after → found ≡ Some s → TakesLine mid (Ok found) new → bytes ≡ string_bytes s → Answers who bytes one → later ≡ after ++ one
+    → SoFar who all before new later
+so_far-one who all before mid after new later bytes one found s so is taken same m e =
+    let took : TakesLine mid (Ok (Some s)) new = subst (λ (o : Option (String Global)). TakesLine mid (Ok o) new) is taken in
+    let m2 : Answers who (string_bytes s) one = subst (λ (ys : List ℕ). Answers who ys one) same m in
+    let ls : List (List ℕ) = so.2.lines in (
+      so.0 ++ one,
+      e ∙ ap (λ ys. ys ++ one) so.1 ∙ append_assoc before so.0 one,
+      record {
+        lines = ls ++ string_bytes s ∷ [];
+        each = answers-more who ls (string_bytes s) so.0 one so.2.each m2;
+        cut_is = λ more. so.2.cut_is more ∙ ap (λ c. lines_then ls c) (took.1 more) ∙ sym (lines_then-append ls (string_bytes s ∷ []) (cut (new ++ more)));
+        behind = IsBehind-more all mid new so.2.behind took.2;
+      },
+    )
+
+-- the next line is refused
+pub so_far-refused : (who : Responder) (all before mid after new : List ℕ) (e : PortError)
+    → SoFar who all before mid after → TakesLine mid (Err e) new → Each who all before (Err e) new after
+so_far-refused who all before mid after new Line so taken =
+    (so.0, so.1, record { lines = so.2.lines; each = so.2.each; cut_is = λ more. so.2.cut_is more ∙ ap (λ c. lines_then so.2.lines c) (taken more) })
+so_far-refused who all before mid after new Memory so taken = tt
+so_far-refused who all before mid after new Read so taken = taken
+so_far-refused who all before mid after new Write so taken = taken
+
+-- no further line has ended
+pub so_far-waits : (who : Responder) (all before mid after new : List ℕ) (found : Option (String Global))
+    → SoFar who all before mid after → found ≡ None → TakesLine mid (Ok found) new → Each who all before (Ok tt) new after
+so_far-waits who all before mid after new found so is taken =
+    let waits : TakesLine mid (Ok None) new = subst (λ (o : Option (String Global)). TakesLine mid (Ok o) new) is taken in
+    let same : SoFar who all before new after = subst (λ (ys : List ℕ). SoFar who all before ys after) (sym waits.1) so in
+    (same.0, same.1, same.2, subst (λ (ys : List ℕ). has_line ys ≡ false) (sym waits.1) waits.0)
+
+append-some : (xs : List ℕ) (x : ℕ) → [] ≡ xs ++ x ∷ [] → ⊥
+append-some [] x e = cc
+append-some (y ∷ ys) x e = cc
+
+fault_line-some : (fault : Fault) → [] ≡ fault_line fault → ⊥
+unfolding fault_line
+fault_line-some fault e = append-some (compact_text (error_data (fault_word fault))) 10 e
+
+reply_line-some : (r : Reply) → [] ≡ reply_line r → ⊥
+unfolding reply_line
+reply_line-some r e = append-some (compact_text (reply_data r)) 10 e
+
+groups_line-some : (names : List (List ℕ)) → [] ≡ groups_line names → ⊥
+unfolding groups_line
+groups_line-some names e = append-some (compact_text (groups_data names)) 10 e
+
+answer_line-some : (answer : Result Answer CallError) → [] ≡ answer_line answer → ⊥
+unfolding answer_line
+answer_line-some (Ok answer) e = reply_line-some (reply.Answered answer) e
+answer_line-some (Err call_errors.GroupFull) e = reply_line-some reply.GroupFull e
+answer_line-some (Err call_errors.Worn) e = reply_line-some reply.Worn e
+answer_line-some (Err call_errors.PassFull) e = append-some (compact_text (error_data (codes "full"))) 10 e
+answer_line-some (Err call_errors.Stopped) e = append-some (compact_text (error_data (codes "stopped"))) 10 e
+answer_line-some (Err call_errors.Taken) e = append-some (compact_text (error_data (codes "taken"))) 10 e
+answer_line-some (Err call_errors.NoGroup) e = append-some (compact_text (error_data (codes "group"))) 10 e
+
+is_answer-some : (who : Responder) (said : Result ControlLine Fault) → IsAnswer who said [] → ⊥
+is_answer-some who (Err fault) h = fault_line-some fault h
+is_answer-some who (Ok lines.Groups) h = groups_line-some who.names h
+is_answer-some who (Ok (lines.Metrics group)) h = reply_line-some h.0 h.2
+is_answer-some who (Ok (lines.Call group request)) h = answer_line-some h.0 h.2
+is_answer-some who (Ok (lines.Close group context)) h = reply_line-some h.0 h.2
+
+-- no line is answered by nothing
+answers-some : (who : Responder) (bytes : List ℕ) → Answers who bytes [] → ⊥
+unfolding Answers
+answers-some who bytes h = is_answer-some who (control_line who.names bytes) h
+
+append-none : (xs ys : List ℕ) → xs ++ ys ≡ [] → xs ≡ []
+append-none [] ys e = refl
+append-none (x ∷ xs) ys e = cc
+
+-- so lines that are answered by nothing are none
+each-none : (who : Responder) (ls : List (List ℕ)) (out : List ℕ) → AnswersEach who ls out → out ≡ [] → ls ≡ []
+each-none who [] out h is = refl
+each-none who (bytes ∷ ls) out h is =
+    let none : h.0 ≡ [] = append-none h.0 h.1 (sym h.4 ∙ is) in
+    absurd (answers-some who bytes (subst (λ (ys : List ℕ). Answers who bytes ys) none h.2))
+
+none-each : (who : Responder) (ls : List (List ℕ)) (out : List ℕ) → AnswersEach who ls out → ls ≡ [] → out ≡ []
+none-each who [] out h is = h
+none-each who (bytes ∷ ls) out h is = cc
+
+from-refused : (who : Responder) (all rest : List ℕ) (answers : Vec ℕ Global) (result : Result (Vec ℕ Global) PortError)
+    → Refused who all answers.items → UnlessEmpty answers result → Fed who all result rest (Some Line)
+from-refused who all rest answers (Ok out) refused h =
+    let is : answers.items ≡ out.items = ap (λ (v : Vec ℕ Global). v.items) (sym h.0) in
+    record {
+      lines = refused.lines;
+      some = λ none. h.1 (none-each who refused.lines answers.items refused.each none);
+      each = subst (λ (ys : List ℕ). AnswersEach who refused.lines ys) is refused.each;
+      cut_is = refused.cut_is;
+    }
+from-refused who all rest answers (Err Line) refused h =
+    let none : refused.lines ≡ [] = each-none who refused.lines answers.items refused.each h in
+    λ more. refused.cut_is more ∙ ap (λ ls. lines_then ls stopped) none
+from-refused who all rest answers (Err Memory) refused h = absurd h
+from-refused who all rest answers (Err Read) refused h = absurd h
+from-refused who all rest answers (Err Write) refused h = absurd h
+
+-- what was answered before a line that is refused, and its fault
+pub fed-refused : (who : Responder) (all whole before rest after : List ℕ) (fault : PortError) (answers : Vec ℕ Global) (result : Result (Vec ℕ Global) PortError)
+    → Each who whole before (Err fault) rest answers.items → fault ≡ Line → before ≡ [] → whole ≡ all → UnlessEmpty answers result → Fed who all result after (Some Line)
+fed-refused who all whole before rest after fault answers result was is-line none is h =
+    let each : Each who whole before (Err Line) rest answers.items = subst (λ (e : PortError). Each who whole before (Err e) rest answers.items) is-line was in
+    let same : each.0 ≡ answers.items = sym (each.1 ∙ ap (λ ys. ys ++ each.0) none) in
+    let refused : Refused who whole answers.items = subst (λ (ys : List ℕ). Refused who whole ys) same each.2 in
+    from-refused who all after answers result (subst (λ (ys : List ℕ). Refused who ys answers.items) is refused) h
+
+-- the last line was taken and answered
+pub last-found : (who : Responder) (rest before after bytes one : List ℕ) (found : Option (String Global)) (s : String Global)
+    → found ≡ Some s → IsLast rest (Ok found) → bytes ≡ string_bytes s → Answers who bytes one → after ≡ before ++ one
+    → EachLast who rest before (Ok tt) after
+last-found who rest before after bytes one found s is last same answered e =
+    let ends : IsLast rest (Ok (Some s)) = subst (λ (o : Option (String Global)). IsLast rest (Ok o)) is last in
+    let one' : Answers who (string_bytes s) one = subst (λ (ys : List ℕ). Answers who ys one) same answered in
+    (one, e, record { lines = string_bytes s ∷ []; each = (one, [], one', refl, sym (append-nil one)); cut_is = ends })
+
+-- there is no last line
+pub last-none : (who : Responder) (rest before : List ℕ) (found : Option (String Global))
+    → found ≡ None → IsLast rest (Ok found) → EachLast who rest before (Ok tt) before
+last-none who rest before found is last =
+    let ends : IsLast rest (Ok None) = subst (λ (o : Option (String Global)). IsLast rest (Ok o)) is last in
+    ([], sym (append-nil before), record { lines = []; each = refl; cut_is = ends })

@@ -1,6 +1,0 @@
-use Rattle.std.proofs.Common.{rules}
-use Rattle.std.proofs.lemmas.Fn.{filter_same}
-use Rattle.bh_core.proofs.tickets.Tickets.release.Goals as goal
-
-pub returns-clause-items : goal.returns-clause-items
-returns-clause-items c = rw (← c.self.view_is) (filter_same _ _ _ (λ x b f' k. search rules) _ _ c.retain.ensures.filtered)

@@ -1,0 +1,37 @@
+//! What the calls, the workers and the timer of a service have at hand, and one step by it.
+
+ghost use Rattle.std.specs.Prelude.{◌≡◌, ◌+◌, ◌≤◌, true};
+ghost use Rattle.bh_base.specs.Replies.{can_reply};
+ghost use Rattle.bh_workers.specs.Receipts.{StepAdds};
+
+use bh_audit::{Clock, Pass, Shared};
+use bh_base::{Op, Reply, Step};
+use std::sync::Wait;
+
+/// A service with all that its steps and runs need: the runtime to wait by, what is run for its requests, and where
+/// moments come from. Threads may share it.
+#[derive(Drop)]
+pub(crate) struct Environment<'e, D, C, R> {
+    pub(crate) rt: &'e R,
+    pub(crate) shared: &'e Shared,
+    pub(crate) dependency: &'e D,
+    pub(crate) clock: &'e C,
+}
+
+impl<'e, D, C: Clock, R: Wait> Environment<'e, D, C, R> {
+    /// Makes one step of the pass's own group, at the moment that the clock gives. It is read before the lock is
+    /// taken.
+    pub(crate) fn make_step(&self, pass: &mut Pass, op: Op) -> Reply
+        requires { self.now.shared.now.audited ≡ true → 1 ≤ pass.old.room }
+        ensures adds { StepAdds C.moments self.now.shared.now.audited pass.old op result pass.new }
+        ensures kinds { can_reply op result ≡ true }
+        ensures room { pass.old.room ≤ pass.new.room + 1 }
+    {
+        let group = pass.group();
+        let now = self.clock.now();
+        let Ok(reply) = self.shared.step(self.rt, pass, Step { group, now, op }) else {
+            unreachable!()
+        };
+        reply
+    }
+}

@@ -1,0 +1,163 @@
+//! The threads that a service needs beside its callers: workers and a timer.
+
+ghost use Rattle.std.specs.Prelude.{◌≡◌, [], IfOk};
+ghost use Rattle.std.specs.List.{AllByRecursion};
+ghost use Rattle.bh_workers.specs.Driving.{IsTimerPass, IsWorkerPass};
+ghost use Rattle.bh_journal.specs.Passes.{PassView};
+
+use crate::dependency::{Dependency, Pace};
+use crate::driving::DriveError;
+use crate::environment::Environment;
+use crate::timer::timer_loop;
+use crate::worker::worker_loop;
+use bh_audit::{Clock, Pass, Shared};
+use bh_base::GroupId;
+use std::alloc::Global;
+use std::marker::PhantomData;
+use std::sync::Wait;
+use std::thread::{Promise, PromisedHandle, Scope, Threads};
+
+/// The promise of a worker.
+#[derive(Drop)]
+pub(crate) struct WorkerOf<D, C> {
+    of: PhantomData<(D, C)>,
+}
+
+impl<D: Dependency, C: Clock> Promise<Pass> for WorkerOf<D, C> {
+    ghost kept_by = { λ p r. IsWorkerPass D.ends C.moments r };
+}
+
+/// Starts the workers of all groups.
+pub(crate) fn start_workers<
+    's,
+    'e,
+    D: Dependency + Sync,
+    C: Clock + Sync,
+    R: Threads + Wait + Sync,
+>(
+    environment: &'e Environment<'e, D, C, R>,
+    scope: &'s Scope<'s, &'e ()>,
+    alloc: Global,
+    room: u64,
+) -> Result<Vec<PromisedHandle<Pass, WorkerOf<D, C>>>, DriveError> {
+    let mut handles = Vec::new(alloc);
+    for number in 0..environment.shared.groups(environment.rt) {
+        let group = GroupId(number);
+        for _ in 0..environment.shared.workers(environment.rt, group) {
+            let pass = environment.shared.pass(alloc, group, room)?;
+            handles.push(start_worker(environment, scope, pass)?)?;
+        }
+    }
+    Ok(handles)
+}
+
+/// Starts one worker with an empty pass.
+fn start_worker<'s, 'e, D: Dependency + Sync, C: Clock + Sync, R: Threads + Wait + Sync>(
+    environment: &'e Environment<'e, D, C, R>,
+    scope: &'s Scope<'s, &'e ()>,
+    pass: Pass,
+) -> Result<PromisedHandle<Pass, WorkerOf<D, C>>, DriveError>
+    requires { pass.receipts ≡ [] }
+{
+    let (rt, shared) = (environment.rt, environment.shared);
+    let (dependency, clock) = (environment.dependency, environment.clock);
+    let promise: WorkerOf<D, C> = WorkerOf { of: PhantomData };
+    let spawned = scope.spawn_with(
+        promise,
+        move || -> Pass
+            requires { pass.receipts ≡ [] }
+            ensures { IsWorkerPass D.ends C.moments result }
+        { work(rt, shared, pass, dependency, clock) },
+    );
+    spawned.map_err(|_| DriveError::Spawn)
+}
+
+/// Works until there is a reason to end, and gives back the pass.
+fn work<D: Dependency, C: Clock, R: Wait>(
+    rt: &R,
+    shared: &Shared,
+    mut pass: Pass,
+    dependency: &D,
+    clock: &C,
+) -> Pass
+    requires { pass.receipts ≡ [] }
+    ensures { IsWorkerPass D.ends C.moments result }
+{
+    worker_loop(rt, shared, &mut pass, dependency, clock);
+    pass
+}
+
+/// The promise of the timer.
+#[derive(Drop)]
+pub(crate) struct TimerOf<C> {
+    of: PhantomData<C>,
+}
+
+impl<C: Clock> Promise<Vec<Pass>> for TimerOf<C> {
+    ghost kept_by = { λ p r. AllByRecursion (IsTimerPass C.moments) r.items };
+}
+
+/// Starts the timer of all groups.
+pub(crate) fn start_timer<
+    's,
+    'e,
+    D: Dependency + Sync,
+    C: Clock + Sync,
+    P: Pace + Send + Drop + 'e,
+    R: Threads + Wait + Sync,
+>(
+    environment: &'e Environment<'e, D, C, R>,
+    scope: &'s Scope<'s, &'e ()>,
+    alloc: Global,
+    pace: P,
+    room: u64,
+) -> Result<PromisedHandle<Vec<Pass>, TimerOf<C>>, DriveError> {
+    let groups = environment.shared.groups(environment.rt);
+    let passes = timer_passes(alloc, environment.shared, groups, room)?;
+    let promise: TimerOf<C> = TimerOf { of: PhantomData };
+    let spawned = scope.spawn_with(
+        promise,
+        move || -> Vec<Pass>
+            requires { AllByRecursion (λ (p : PassView). p.receipts ≡ []) passes.items }
+            ensures { AllByRecursion (IsTimerPass C.moments) result.items }
+        { keep_time(environment, passes, pace) },
+    );
+    spawned.map_err(|_| DriveError::Spawn)
+}
+
+/// A pass of each group.
+fn timer_passes(
+    alloc: Global,
+    shared: &Shared,
+    groups: u64,
+    room: u64,
+) -> Result<Vec<Pass>, DriveError>
+    ensures { IfOk result (λ v. AllByRecursion (λ (p : PassView). p.receipts ≡ []) v.items) }
+{
+    let mut passes = Vec::new(alloc);
+    for number in 0..groups {
+        let pass = shared.pass(alloc, GroupId(number), room)?;
+        passes.push(pass)?;
+    }
+    Ok(passes)
+}
+
+/// Keeps the time of all groups while the pace goes on, and gives back the passes.
+fn keep_time<D, C: Clock, P: Pace + Drop, R: Wait>(
+    environment: &Environment<'_, D, C, R>,
+    mut passes: Vec<Pass>,
+    mut pace: P,
+) -> Vec<Pass>
+    requires { AllByRecursion (λ (p : PassView). p.receipts ≡ []) passes.items }
+    ensures { AllByRecursion (IsTimerPass C.moments) result.items }
+{
+    let Environment {
+        rt,
+        shared,
+        clock,
+        ..
+    } = environment;
+    timer_loop(*rt, *shared, passes.as_mut_slice(), *clock, &mut pace);
+    drop(pace);
+    passes
+}

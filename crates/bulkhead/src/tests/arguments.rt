@@ -1,0 +1,75 @@
+//! The arguments of the program.
+
+use super::assert_end;
+use crate::{command, run_arguments};
+use std::net::{Net, TcpListener, TcpStream};
+use std::process::Abort;
+use std::rt::Clock;
+use std::sync::Wait;
+use std::thread::Threads;
+
+/// The arguments of a command line, of which the first is the program's name.
+fn arguments<R: Abort + AllocGlobal>(rt: &R, line: &str) -> Vec<String> {
+    let mut arguments = Vec::new(rt.alloc());
+    for argument in line.split(' ') {
+        let mut text = String::new(rt.alloc());
+        text.push_str(argument).expect(rt, "memory");
+        arguments.push(text).expect(rt, "memory");
+    }
+    arguments
+}
+
+/// Asserts the status that a command line leaves.
+fn assert_status<
+    R: Net<Listener = TcpListener, Stream = TcpStream>
+        + Threads
+        + Wait
+        + Clock
+        + Print
+        + Sync
+        + Abort
+        + AllocGlobal,
+>(rt: &HostRuntime, handles: &R, line: &str, status: u8) {
+    let arguments = arguments(handles, line);
+    let answered = run_arguments(rt, handles, arguments.as_slice()).expect(handles, "memory");
+    assert_end(handles, answered, status);
+}
+
+/// Command lines that are refused.
+const REFUSED: &str = "bulkhead
+bulkhead stop
+bulkhead check
+bulkhead run settings.toml more
+bulkhead serve settings.toml
+bulkhead serve settings.toml --port 0
+bulkhead serve settings.toml --port 65536
+bulkhead serve settings.toml --port 1 --connections 0
+bulkhead serve settings.toml --port 1 --connections 65";
+
+#[test]
+fn refused_arguments_leave_status_2(rt: HostRuntime) {
+    for line in REFUSED.lines() {
+        assert_status(&rt, &rt, line, 2);
+    }
+    assert_status(&rt, &rt, "bulkhead --help", 0);
+    assert_status(&rt, &rt, "bulkhead check no-such-file", 3);
+}
+
+const NO_FILE: &str = "error: the following required arguments were not provided:
+  <FILE>
+
+Usage: bulkhead check <FILE>
+
+For more information, try '--help'.
+";
+
+#[test]
+fn refused_arguments_are_told_with_the_usage(rt: HostRuntime) {
+    let arguments = arguments(&rt, "bulkhead check");
+    let command = command(rt.alloc()).expect(&rt, "memory");
+    let text = match command.try_get_matches_from(arguments.as_slice()) {
+        Ok(_) => String::new(rt.alloc()),
+        Err(error) => error.to_string(rt.alloc()).expect(&rt, "memory"),
+    };
+    assert_eq!(rt; text.as_str(), NO_FILE);
+}
