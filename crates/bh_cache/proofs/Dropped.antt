@@ -1,5 +1,5 @@
 -- What becomes of the slots of a list as a request context ends.
-use Rattle.std.proofs.Common.{◌≡◌, ℕ, zero, suc, ◌+◌, ◌<◌, ◌≤◌, inl, inr, Bool, true, false, List, [], ◌∷◌, ◌++◌, length, set, take, Option, Some, None, refl, ◌∙◌, sym, ap, subst, arith, add-one}
+use Rattle.std.proofs.Common.{◌≡◌, ℕ, ◌+◌, ◌<◌, ◌≤◌, inl, inr, Bool, true, false, List, [], ◌∷◌, ◌++◌, length, take, Option, Some, None, refl, ◌∙◌, sym, ap, subst, arith}
 use Rattle.std.specs.Prelude.{◌||◌, ◌&&◌, eqb, slice_get, count_by, if◌then◌else◌}
 use Rattle.std.specs.Option.{option_map}
 use Rattle.std.proofs.lemmas.Bool.{cases_eq, eq-eqb, ne_eqb}
@@ -12,6 +12,7 @@ use Rattle.bh_cache.specs.Listed.{listed}
 use Rattle.bh_cache.specs.Slots.{Slots, count_below, has, has_one, is_on, is_live, one, ticket_at, tickets_of}
 use Rattle.bh_cache.proofs.Counts.{count_all, count_listed, count_none, count_point}
 use Rattle.bh_cache.proofs.Listed.{listed_map}
+use Rattle.bh_cache.proofs.Places.{has_append, take_one_more}
 use Rattle.bh_cache.proofs.Order.{count_same}
 
 -- ---- one ticket
@@ -85,41 +86,7 @@ module _ (context : ℕ) (a b : Slots) (slot : ℕ) (t : Ticket) (n : ℕ) (with
         omega (arith, k, z, size, point);
   }
 
-get_set_same : (xs : List Ticket) (i : ℕ) (v : Ticket) → i < length xs → slice_get (set xs i v) i ≡ Some v
-get_set_same [] i v lt = absurd (omega (arith, lt))
-get_set_same (x ∷ xs) zero v lt = refl
-get_set_same (x ∷ xs) (suc i) v lt = get_set_same xs i v (omega (arith, lt))
-
-get_set_other : (xs : List Ticket) (i j : ℕ) (v : Ticket) → (j ≡ i → ⊥) → slice_get (set xs i v) j ≡ slice_get xs j
-get_set_other [] i j v ne = refl
-get_set_other (x ∷ xs) zero zero v ne = absurd (ne refl)
-get_set_other (x ∷ xs) zero (suc j) v ne = refl
-get_set_other (x ∷ xs) (suc i) zero v ne = refl
-get_set_other (x ∷ xs) (suc i) (suc j) v ne = get_set_other xs i j v (λ e. ne (ap suc e))
-
--- a payload that is written
-pub get_set : (xs : List Ticket) (i j : ℕ) (v : Ticket) → i < length xs → slice_get (set xs i v) j ≡ (if eqb j i then Some v else slice_get xs j)
-get_set xs i j v lt = elim (cases_eq j i) [
-  | inl e ↦ ap (slice_get (set xs i v)) e ∙ get_set_same xs i v lt ∙ sym (ap (λ b. if b then Some v else slice_get xs j) (eq-eqb j i e))
-  | inr ne ↦ get_set_other xs i j v ne ∙ sym (ap (λ b. if b then Some v else slice_get xs j) (ne_eqb j i ne))
-]
-
--- and one that stays
-pub get_same : (xs : List Ticket) (i j : ℕ) (v : Ticket) → slice_get xs i ≡ Some v → slice_get xs j ≡ (if eqb j i then Some v else slice_get xs j)
-get_same xs i j v is = elim (cases_eq j i) [
-  | inl e ↦ ap (slice_get xs) e ∙ is ∙ sym (ap (λ b. if b then Some v else slice_get xs j) (eq-eqb j i e))
-  | inr ne ↦ sym (ap (λ b. if b then Some v else slice_get xs j) (ne_eqb j i ne))
-]
-
 -- ---- many slots
-
-pub has_append : (x : ℕ) (xs ys : List ℕ) → has x (xs ++ ys) ≡ (has x xs || has x ys)
-has_append x [] ys = refl
-has_append x (z ∷ zs) ys = ap (λ b. eqb z x || b) (has_append x zs ys) ∙ regroup (eqb z x) (has x zs) (has x ys)
-  where
-    regroup : (a b c : Bool) → (a || (b || c)) ≡ ((a || b) || c)
-    regroup true b c = refl
-    regroup false b c = refl
 
 module _ (context : ℕ) (xs ys : List ℕ) (a b c : Slots) (n m : ℕ) (first : IsDroppedFrom context xs a b n) (second : IsDroppedFrom context ys b c m) where
   payload_both : (x : ℕ) → slice_get c.payloads x ≡ (if has x (xs ++ ys) then option_map (uncached_in context) (slice_get a.payloads x) else slice_get a.payloads x)
@@ -152,15 +119,6 @@ module _ (context : ℕ) (xs ys : List ℕ) (a b c : Slots) (n m : ℕ) (first :
       right : (d e : Bool) → e ≡ true → (d || e) ≡ true
       right true e h = refl
       right false e h = h
-
--- one slot more of a list
-pub take_one_more : (xs : List ℕ) (i x : ℕ) → slice_get xs i ≡ Some x → take (i + 1) xs ≡ take i xs ++ x ∷ []
-take_one_more xs i x e = ap (λ k. take k xs) (add-one i) ∙ at xs i e
-  where
-    at : (ys : List ℕ) (k : ℕ) → slice_get ys k ≡ Some x → take (suc k) ys ≡ take k ys ++ x ∷ []
-    at [] k e = absurd cc
-    at (y ∷ ys) zero e = let q : y ≡ x = cc in ap (λ z. z ∷ []) q
-    at (y ∷ ys) (suc k) e = ap (λ zs. y ∷ zs) (at ys k e)
 
 pub dropped_more : (context : ℕ) (xs : List ℕ) (i x : ℕ) (a b c : Slots) (n m : ℕ) → slice_get xs i ≡ Some x → IsDroppedFrom context (take i xs) a b n → IsDroppedFrom context (x ∷ []) b c m → IsDroppedFrom context (take (i + 1) xs) a c (n + m)
 dropped_more context xs i x a b c n m at first second = subst (λ ys. IsDroppedFrom context ys a c (n + m)) (sym (take_one_more xs i x at)) (dropped_both context (take i xs) (x ∷ []) a b c n m first second)

@@ -1,5 +1,5 @@
 -- The slot of the least serial among those whose tickets pass.
-use Rattle.std.proofs.Common.{◌≡◌, ℕ, zero, suc, ◌+◌, ◌<◌, ◌≤◌, ◌⊎◌, inl, inr, Bool, true, false, List, [], ◌∷◌, length, drop, Option, Some, None, refl, ◌∙◌, sym, ap, subst, arith, add-one}
+use Rattle.std.proofs.Common.{◌≡◌, ℕ, suc, ◌+◌, ◌<◌, ◌≤◌, ◌⊎◌, inl, inr, Bool, true, false, List, [], ◌∷◌, length, drop, Option, Some, None, refl, ◌∙◌, sym, ap, subst, arith, add-one}
 use Rattle.std.specs.Prelude.{◌||◌, eqb, find, nat_lt, slice_get, IfSome, if◌then◌else◌}
 use Rattle.std.proofs.lemmas.Bool.{cases_eq, eq-eqb, ne_eqb}
 use Rattle.std.proofs.lemmas.Bool.Decides.{nat_tests}
@@ -9,11 +9,7 @@ use Rattle.bh_cache.specs.declared.lists.GroupLists.{GroupLists}
 use Rattle.bh_cache.specs.Cache.{IsEarliest, earlier, earliest}
 use Rattle.bh_cache.specs.Slots.{Slots, has, has_one, is_on, is_live, serial_in, ticket_at, tickets_of}
 use Rattle.bh_cache.proofs.Listed.{Distinct, find_least, find_none, from_listed, in_listed, rising}
-use Rattle.bh_cache.proofs.Walks.{drop_at}
-
-or_cases : (b c : Bool) → (b || c) ≡ true → (b ≡ true) ⊎ (c ≡ true)
-or_cases true c e = inl refl
-or_cases false c e = inr e
+use Rattle.bh_cache.proofs.Places.{drop_at, get_within}
 
 or_left : (b c : Bool) → b ≡ true → (b || c) ≡ true
 or_left b c e = ap (λ d. d || c) e
@@ -172,11 +168,6 @@ module _ (p : Ticket → Bool) (a : Slots) (g : GroupLists) where
       by true live = best x live
       by false live = refl
   if_none (Some w) best e x = absurd cc
-
-pub get_within : (xs : List Ticket) (i : ℕ) (v : Ticket) → slice_get xs i ≡ Some v → i < length xs
-get_within [] i v e = absurd cc
-get_within (x ∷ xs) zero v e = omega arith
-get_within (x ∷ xs) (suc i) v e = let lt : i < length xs = get_within xs i v e in omega (arith, lt)
 
 -- where the serials differ, the one of least serial is the first of the group's tickets
 module _ (p : Ticket → Bool) (a : Slots) (g : GroupLists) (distinct : Distinct (ticket_at a g)) where

@@ -146,10 +146,6 @@ listed_same at now (suc n) same = ap (λ o. put_in o (listed now n)) (same n (om
 
 -- ---- a ticket that comes, of the greatest serial
 
-last_if : (b : Bool) (t u v : Ticket) (us ws : List Ticket) → nat_lt u.serial v.serial ≡ b → ws ≡ us ++ t ∷ [] → (if b then u ∷ v ∷ (us ++ t ∷ []) else v ∷ ws) ≡ (if b then u ∷ v ∷ us else v ∷ us) ++ t ∷ []
-last_if true t u v us ws is e = refl
-last_if false t u v us ws is e = ap (λ zs. v ∷ zs) e
-
 last_split : (b : Bool) (t u v : Ticket) (us ws : List Ticket) → insert u (us ++ t ∷ []) ≡ ws ++ t ∷ [] → (if b then u ∷ v ∷ (us ++ t ∷ []) else v ∷ insert u (us ++ t ∷ [])) ≡ (if b then u ∷ v ∷ us else v ∷ ws) ++ t ∷ []
 last_split true t u v us ws e = refl
 last_split false t u v us ws e = ap (λ zs. v ∷ zs) e
@@ -293,13 +289,3 @@ changed_is_map p f (u ∷ us) t v order found e same = by (p u) refl found (λ k
 
 pub count_cons : (q : Ticket → Bool) (u : Ticket) (us : List Ticket) → count_by q (u ∷ us) ≡ one (q u) + count_by q us
 count_cons q u us = sum_by-cons (λ v. one (q v)) u us
-
-pub count_changed : (q p : Ticket → Bool) (f : Ticket → Ticket) (ts : List Ticket) (t : Ticket) → find p ts ≡ Some t → count_by q (changed_first p f ts) + one (q t) ≡ count_by q ts + one (q (f t))
-count_changed q p f [] t found = absurd cc
-count_changed q p f (u ∷ us) t found = by (p u) found (count_changed q p f us t)
-  where
-    by : (b : Bool) → cond b (Some u) (find p us) ≡ Some t → (find p us ≡ Some t → count_by q (changed_first p f us) + one (q t) ≡ count_by q us + one (q (f t))) → count_by q (if b then f u ∷ us else u ∷ changed_first p f us) + one (q t) ≡ count_by q (u ∷ us) + one (q (f t))
-    by true found rest =
-        let k : u ≡ t = cc in
-        omega (arith, count_cons q (f u) us, count_cons q u us, ap (λ (w : Ticket). one (q w)) k, ap (λ (w : Ticket). one (q (f w))) k)
-    by false found rest = omega (arith, rest found, count_cons q u us, count_cons q u (changed_first p f us))

@@ -1,30 +1,13 @@
 -- A walk along a list.
-use Rattle.std.proofs.Common.{◌≡◌, ℕ, zero, suc, ◌+◌, ◌<◌, ◌≤◌, ◌⊎◌, inl, inr, Bool, true, false, cond, List, [], ◌∷◌, length, drop, Some, None, refl, ◌∙◌, sym, ap, arith, add-one}
+use Rattle.std.proofs.Common.{◌≡◌, ℕ, suc, ◌+◌, ◌<◌, ◌⊎◌, inl, inr, Bool, true, false, cond, List, [], ◌∷◌, length, drop, Some, None, refl, ◌∙◌, sym, ap, arith, add-one}
 use Rattle.std.specs.Prelude.{◌||◌, eqb, slice_get, find, if◌then◌else◌}
 use Rattle.std.proofs.lemmas.Bool.{cases_eq, eq-eqb, ne_eqb}
 use Rattle.bh_base.specs.declared.ticket.Ticket.{Ticket}
 use Rattle.bh_cache.specs.declared.lists.GroupLists.{GroupLists}
 use Rattle.bh_slot_arena.specs.Lists.{IsPartition}
 use Rattle.bh_slot_arena.specs.Slots.{lists_in, slots_on}
+use Rattle.bh_cache.proofs.Places.{drop_at, has_place}
 use Rattle.bh_cache.specs.Slots.{Slots, has, is_on, is_live, ticket_at, has_serial_in, serial_on, Once, IsArena}
-
-pub drop_at : (xs : List ℕ) (i x : ℕ) → slice_get xs i ≡ Some x → drop i xs ≡ x ∷ drop (suc i) xs
-drop_at [] zero x e = absurd cc
-drop_at [] (suc i) x e = absurd cc
-drop_at (y ∷ ys) zero x e = let k : y ≡ x = cc in ap (λ z. z ∷ ys) k
-drop_at (y ∷ ys) (suc i) x e = drop_at ys i x e
-
-pub drop_past : (xs : List ℕ) (i : ℕ) → slice_get xs i ≡ None → drop i xs ≡ []
-drop_past [] zero e = refl
-drop_past [] (suc i) e = refl
-drop_past (y ∷ ys) zero e = absurd cc
-drop_past (y ∷ ys) (suc i) e = drop_past ys i e
-
-pub drop_end : (xs : List ℕ) (i : ℕ) → length xs ≤ i → drop i xs ≡ []
-drop_end [] zero h = refl
-drop_end [] (suc i) h = refl
-drop_end (y ∷ ys) zero h = absurd (omega (arith, h))
-drop_end (y ∷ ys) (suc i) h = drop_end ys i (omega (arith, h))
 
 module _ (p : ℕ → Bool) (xs : List ℕ) (i x : ℕ) (at : slice_get xs i ≡ Some x) where
   pub found_at : p x ≡ true → find p (drop i xs) ≡ Some x
@@ -32,23 +15,6 @@ module _ (p : ℕ → Bool) (xs : List ℕ) (i x : ℕ) (at : slice_get xs i ≡
 
   pub next_at : p x ≡ false → find p (drop i xs) ≡ find p (drop (i + 1) xs)
   next_at no' = ap (find p) (drop_at xs i x at) ∙ ap (λ b. cond b (Some x) (find p (drop (suc i) xs))) no' ∙ ap (λ n. find p (drop n xs)) (sym (add-one i))
-
-pub has_at : (xs : List ℕ) (i x : ℕ) → slice_get xs i ≡ Some x → has x xs ≡ true
-has_at [] i x e = absurd cc
-has_at (y ∷ ys) zero x e = let k : y ≡ x = cc in ap (λ b. b || has x ys) (eq-eqb y x k)
-has_at (y ∷ ys) (suc i) x e = ap (λ b. eqb y x || b) (has_at ys i x e) ∙ either (eqb y x)
-  where
-    either : (b : Bool) → (b || true) ≡ true
-    either true = refl
-    either false = refl
-
--- a member of a list has a place on it
-pub has_place : (xs : List ℕ) (x : ℕ) → has x xs ≡ true → (k : ℕ) × (slice_get xs k ≡ Some x)
-has_place [] x e = absurd cc
-has_place (y ∷ ys) x e = elim (cases_eq y x) [
-  | inl q ↦ (0, ap Some q)
-  | inr ne ↦ let r = has_place ys x (ap (λ b. b || has x ys) (sym (ne_eqb y x ne)) ∙ e) in (suc r.0, r.1)
-]
 
 -- the law of an arena's lists says that each slot is on one list at most, and there once
 pub arena_is : (a : Slots) (f : ℕ) → f < length a.families → IsPartition (length a.payloads) (lists_in a f) → IsArena a f
@@ -133,8 +99,3 @@ serial_none a g serial q r s x = by (is_on a 0 g.queued x) (is_on a 0 g.running 
     by false true d e f h = off g.running r f
     by false false true e f h = off g.settled s h
     by false false false e f h = refl
-
-pub not_past : (xs : List ℕ) (i : ℕ) → i < length xs → None ≡ slice_get xs i → ⊥
-not_past [] i lt e = absurd (omega (arith, lt))
-not_past (y ∷ ys) zero lt e = absurd cc
-not_past (y ∷ ys) (suc i) lt e = not_past ys i (omega (arith, lt)) e

@@ -253,7 +253,7 @@ module _ (a m b : Slots) (ss : List GroupSlots) (g : GroupLists) (count : ℕ) (
           | inr l ↦ whole.apart i j s r k.1 l.1 ne
         ]
       ];
-      slots = omega (arith, size, ap (λ (ps : List Ticket). length ps) (same_payloads a m ss whole more), whole.slots, sum_by-append (λ (s : GroupSlots). s.room) ss (made ∷ []), sum_by-cons (λ (s : GroupSlots). s.room) made [], ap (λ (z : GroupSlots). z.room) is_new);
+      slots = omega (arith, size, ap (λ (ps : List Ticket). length ps) (same_payloads a m ss whole more), whole.slots, sum_by-append (λ (s : GroupSlots). s.slots.max) ss (made ∷ []), sum_by-cons (λ (s : GroupSlots). s.slots.max) made [], ap (λ (z : GroupSlots). z.slots.max) is_new);
     }
 
     shown_new : group_of b made ≡ no_tickets_in count

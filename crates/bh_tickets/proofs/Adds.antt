@@ -46,7 +46,7 @@ live_is a g x arena = by (is_live a g x) refl
     by false e = refl
 
 -- where no slot is free, all are taken
-pub all_taken : (a : Slots) (s : GroupSlots) → IsArena a 0 → IsGroupSlots a s → slice_get (slots_on a 0 s.lists.free) 0 ≡ None → s.taken ≡ s.room
+pub all_taken : (a : Slots) (s : GroupSlots) → IsArena a 0 → IsGroupSlots a s → slice_get (slots_on a 0 s.lists.free) 0 ≡ None → s.slots.taken ≡ s.slots.max
 all_taken a s arena group none =
     group.taken
     ∙ count_same (λ x. has_one is_any (ticket_at a s.lists x)) (is_owned a s.lists) (length a.payloads)
@@ -64,7 +64,7 @@ free_slot a s x arena group on = by (is_on a 0 s.lists.queued x) (is_on a 0 s.li
     by false false false i j k = refl
 
 -- no count is more than that of all tickets
-pub count_few : (a : Slots) (s : GroupSlots) (q : Ticket → Bool) → IsGroupSlots a s → count_at a s.lists q ≤ s.taken
+pub count_few : (a : Slots) (s : GroupSlots) (q : Ticket → Bool) → IsGroupSlots a s → count_at a s.lists q ≤ s.slots.taken
 count_few a s q group = omega (arith, group.taken, count_le (λ x. has_one q (ticket_at a s.lists x)) (λ x. has_one is_any (ticket_at a s.lists x)) (length a.payloads) (λ x e. any (ticket_at a s.lists x) e))
   where
     any : (o : Option Ticket) → has_one q o ≡ true → has_one is_any o ≡ true
@@ -140,7 +140,7 @@ module _ (a b : Slots) (s : GroupSlots) (x : ℕ) (v : Ticket) (arena : IsArena 
       let m : count_at b s.lists q ≡ count_below (length a.payloads) (λ y. has_one q (ticket_at b s.lists y)) = ap (λ n. count_below n (λ y. has_one q (ticket_at b s.lists y))) touched.slots in
       omega (arith, k, l, m, count_point (λ y. has_one q (ticket_at a s.lists y)) (λ y. has_one q (ticket_at b s.lists y)) (length a.payloads) x within (λ y ne. ap (has_one q) (else_same y ne)))
 
-  module _ (r : GroupSlots) (made : r ≡ record (counted_in v s) { taken = s.taken + 1; next = s.next + 1 }) where
+  module _ (r : GroupSlots) (made : r ≡ record (counted_in v s) { slots = record s.slots { taken = s.slots.taken + 1 }; next = s.next + 1 }) where
     needed : (y : ℕ) (u : Ticket) → ticket_at b s.lists y ≡ Some u → is_kept u ≡ false → may_go s.needless y ≡ true
     needed y u e k = elim (cases_eq y x) [
       | inl q ↦
@@ -156,7 +156,7 @@ module _ (a b : Slots) (s : GroupSlots) (x : ℕ) (v : Ticket) (arena : IsArena 
       | inr ne ↦ ap is_some (else_same y ne) ∙ group.noted y e
     ]
 
-    whole : IsGroupSlots b (record (counted_in v s) { taken = s.taken + 1; next = s.next + 1 })
+    whole : IsGroupSlots b (record (counted_in v s) { slots = record s.slots { taken = s.slots.taken + 1 }; next = s.next + 1 })
     whole = record {
       numbered = group.numbered;
       there = omega (arith, group.there, touched.count);
@@ -181,7 +181,7 @@ module _ (a b : Slots) (s : GroupSlots) (x : ℕ) (v : Ticket) (arena : IsArena 
         frame = touched_frame a b x (list_for s.lists v.state) v touched s.lists s.lists.free arena on (record { from = omega arith; to = omega (arith, group.numbered.settled) }) (own_for s.lists group.numbered v.state);
         limit = touched.limit;
         lists = ap (λ (z : GroupSlots). z.lists) made;
-        room = ap (λ (z : GroupSlots). z.room) made;
+        room = ap (λ (z : GroupSlots). z.slots.max) made;
       };
       next = ap (λ (z : GroupSlots). z.next) made;
       items = come_tickets a b s.lists x s.next v group.arranged within was can.serial touched;
@@ -200,6 +200,6 @@ to_list a s to r group is = subst (λ l. l < length (lists_in a 0)) (sym is) (ea
 
 -- as the code reads it
 pub add_from : (a b : Slots) (s : GroupSlots) (x to : ℕ) (v : Ticket) → IsArena a 0 → IsGroupSlots a s → slice_get (slots_on a 0 s.lists.free) 0 ≡ Some x → CanAdd s v → to ≡ list_for s.lists v.state
-    → (s.lists.free ≢ to → b ≡ with_moved 0 x to (with_payload x v a)) → (r : GroupSlots) → r ≡ record (counted_in v s) { taken = s.taken + 1; next = s.next + 1 } → IsAdded a s v b r
+    → (s.lists.free ≢ to → b ≡ with_moved 0 x to (with_payload x v a)) → (r : GroupSlots) → r ≡ record (counted_in v s) { slots = record s.slots { taken = s.slots.taken + 1 }; next = s.next + 1 } → IsAdded a s v b r
 add_from a b s x to v arena group front can is moved r made =
     add_is a b s x v arena group front can (moved (λ e. not_free s.lists v.state group.numbered (e ∙ is)) ∙ ap (λ l. with_moved 0 x l (with_payload x v a)) is) r made

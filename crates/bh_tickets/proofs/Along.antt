@@ -6,8 +6,7 @@ use Rattle.bh_base.specs.declared.ticket.Ticket.{Ticket}
 use Rattle.bh_index_lists.specs.Lists.{without}
 use Rattle.bh_cache.specs.declared.lists.GroupLists.{GroupLists}
 use Rattle.bh_cache.specs.Slots.{Slots, has, is_on, is_live, is_live_list, ticket_at, Once, IsArena, IsFrame}
-use Rattle.bh_cache.proofs.Walks.{drop_at}
-use Rattle.bh_cache.proofs.Dropped.{has_append, take_one_more}
+use Rattle.bh_cache.proofs.Places.{drop_at, has_append, take_one_more}
 use Rattle.bh_tickets.specs.declared.group_slots.GroupSlots.{GroupSlots}
 use Rattle.bh_tickets.specs.GroupSlots.{IsGroupChange}
 use Rattle.bh_tickets.specs.Sweeps.{IsSwept}
@@ -20,9 +19,6 @@ use Rattle.bh_tickets.proofs.Touched.{without_at}
 pub record IsAlong (now old : List ℕ) (i : ℕ) : Type 0 where
   pub behind : List ℕ
   pub is : now ≡ behind ++ drop i old
-
-pub along_first : (old : List ℕ) → IsAlong old old 0
-along_first old = record { behind = []; is = refl }
 
 get_ahead : (behind rest : List ℕ) (x : ℕ) → slice_get (behind ++ x ∷ rest) (length behind) ≡ Some x
 get_ahead [] rest x = refl
@@ -132,9 +128,6 @@ module _ (f : Option Ticket → Option Ticket) (again : (o : Option Ticket) → 
 
   pub swept_more : (xs : List ℕ) (i x : ℕ) (a : Slots) (s : GroupSlots) (b : Slots) (r : GroupSlots) (c : Slots) (u : GroupSlots) → slice_get xs i ≡ Some x → IsSwept f (take i xs) a s b r → IsSwept f (x ∷ []) b r c u → IsSwept f (take (i + 1) xs) a s c u
   swept_more xs i x a s b r c u at first second = subst (λ ys. IsSwept f ys a s c u) (sym (take_one_more xs i x at)) (swept_both (take i xs) (x ∷ []) a s b r c u first second)
-
-  pub swept_none : (a : Slots) (s : GroupSlots) → IsGroupChange a s a s → IsSwept f [] a s a s
-  swept_none a s change = record { change = change; next = refl; tickets = λ y. refl }
 
 -- one slot
 pub has_one_slot : (x y : ℕ) → has y (x ∷ []) ≡ eqb y x

@@ -10,16 +10,17 @@ use Rattle.bh_base.specs.Tickets.{is_queued, is_running}
 use Rattle.bh_slot_arena.specs.Slots.{slots_on}
 use Rattle.bh_cache.specs.Cache.{IsEarliest}
 use Rattle.bh_cache.specs.Slots.{Slots, is_on, is_live, ticket_at, tickets_of, list_for, has_serial_in, has, has_one}
-use Rattle.bh_cache.proofs.Listed.{IsIn, from_listed, find_least, find_none}
-use Rattle.bh_cache.proofs.Walks.{on_queued, on_running, drop_at, drop_past, drop_end}
+use Rattle.bh_cache.proofs.Listed.{IsIn, from_listed, find_none}
+use Rattle.bh_cache.proofs.Walks.{on_queued, on_running}
+use Rattle.bh_cache.proofs.Places.{drop_at, drop_past, drop_end}
+use Rattle.bh_cache.proofs.Earliest.{earliest_first, none_first as no_first}
 use Rattle.bh_tickets.specs.declared.group_slots.GroupSlots.{GroupSlots}
 use Rattle.bh_tickets.specs.declared.states.DueRule.{DueRule}
 use Rattle.bh_tickets.specs.Changes.{is_due_by, queued_in}
 use Rattle.bh_tickets.specs.GroupSlots.{any_at}
 use Rattle.bh_tickets.specs.TicketsView.{GroupTickets, group_at, IsFirstAt}
 use Rattle.bh_tickets.specs.Whole.{view_of, IsWhole}
-use Rattle.bh_tickets.proofs.Finds.{is_in, found_first, other_first, none_first, front_first, no_front, first_at, none_at, ticket_of}
-use Rattle.bh_tickets.proofs.Own.{tickets_rising}
+use Rattle.bh_tickets.proofs.Finds.{is_in, found_first, other_first, none_first, first_at, none_at, ticket_of}
 use Rattle.bh_tickets.proofs.Puts.{held_at}
 use Rattle.bh_tickets.proofs.Whole.{group_is}
 
@@ -117,24 +118,25 @@ slot_any f (y ∷ ys) x h e = elim (cases_eq y x) [
 
 -- ---- the ticket of a name
 module _ (a : Slots) (ss : List GroupSlots) (i : ℕ) (s : GroupSlots) (whole : IsWhole a ss) (is : slice_get ss i ≡ Some s) (p : Ticket → Bool) where
-  earliest_first : (x : ℕ) → IsEarliest p a s.lists x → IsFirstAt p (group_at (view_of a ss) i) x
-  earliest_first x e = first_at a ss i s whole is p x e.ticket e.here (find_least p (tickets_of a s.lists) e.ticket (tickets_rising a s.lists s.next (whole.each i s is).arranged) (is_in a s whole.arena (whole.each i s is) x e.ticket e.here) e.passes (λ u k q. let r = from_listed (ticket_at a s.lists) (length a.payloads) u k in e.least r.0 u r.2 q))
+  first_named : (x : ℕ) → IsEarliest p a s.lists x → IsFirstAt p (group_at (view_of a ss) i) x
+  first_named x e = first_at a ss i s whole is p x e.ticket e.here (earliest_first p a s.lists (whole.each i s is).arranged.distinct x e)
 
   pub name_found : (o : Option ℕ) → IfSome o (λ x. IsEarliest p a s.lists x) → IfSome o (λ x. IsFirstAt p (group_at (view_of a ss) i) x)
   name_found None e = tt
-  name_found (Some x) e = earliest_first x e
+  name_found (Some x) e = first_named x e
 
   pub name_none : ((x : ℕ) → has_one p (ticket_at a s.lists x) ≡ false) → find p (group_at (view_of a ss) i).items ≡ None
-  name_none none = none_at a ss i s whole is p (find_none p (tickets_of a s.lists) (λ u k. let r = from_listed (ticket_at a s.lists) (length a.payloads) u k in ap (has_one p) (sym r.2) ∙ none r.0))
+  name_none none = none_at a ss i s whole is p (no_first p a s.lists none)
 
 -- ---- whether there is one
+
+pub any_first : (p : Ticket → Bool) (g : GroupTickets) (o : Option ℕ) → IfSome o (λ x. IsFirstAt p g x) → (o ≡ None → find p g.items ≡ None) → is_some o ≡ list_any p g.items
+any_first p g None found none = sym (any_none p g.items (none refl))
+any_first p g (Some x) found none = sym (any_found p g.items found.ticket found.first)
+
 module _ (a : Slots) (ss : List GroupSlots) (i : ℕ) (s : GroupSlots) (whole : IsWhole a ss) (is : slice_get ss i ≡ Some s) where
   pub shown_any : (p : Ticket → Bool) → list_any p (group_at (view_of a ss) i).items ≡ list_any p (tickets_of a s.lists)
   shown_any p = ap (λ (z : GroupTickets). list_any p z.items) (group_is a ss i s is)
-
-  pub any_waits : (o : Option ℕ) → o ≡ slice_get (slots_on a 0 s.lists.queued) 0 → is_some o ≡ list_any is_queued (group_at (view_of a ss) i).items
-  any_waits None e = sym (shown_any is_queued ∙ any_none is_queued (tickets_of a s.lists) (no_front a s whole.arena (whole.each i s is) (sym e)))
-  any_waits (Some x) e = let r = front_first a s whole.arena (whole.each i s is) x (sym e) in sym (shown_any is_queued ∙ any_found is_queued (tickets_of a s.lists) r.0 r.2)
 
   module _ (due : DueRule) where
     shown_due : (serial : ℕ) → list_any (λ u. u.serial == serial) (filter (is_due_by due) (group_at (view_of a ss) i).items) ≡ list_any (λ u. u.serial == serial && is_due_by due u) (tickets_of a s.lists)

@@ -14,7 +14,7 @@ use Rattle.bh_tickets.specs.Changes.{IsAllowed, changed_by}
 use Rattle.bh_tickets.specs.GroupSlots.{CanBe, IsGroupSlots, IsPut, counted_in, counted_out, noted}
 use Rattle.bh_tickets.proofs.Changed.{serial_kept, waits_kept}
 use Rattle.bh_tickets.proofs.Puts.{put_from, was_is, within_slots}
-use Rattle.bh_tickets.proofs.Touched.{get_set}
+use Rattle.bh_cache.proofs.Places.{get_set}
 
 some_same : (t u : Ticket) → Some t ≡ Some u → t ≡ u
 some_same t u e = cc

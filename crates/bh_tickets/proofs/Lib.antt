@@ -9,7 +9,8 @@ pub mod Whole
 pub mod Finds
 pub mod Times
 pub mod Along
-pub mod Swept
+pub mod TimedAll
+pub mod ReleasedAll
 pub mod AddedGroup
 pub mod Exists
 pub mod Uncached

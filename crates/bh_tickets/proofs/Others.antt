@@ -159,4 +159,4 @@ module _ (a b : Slots) (h : GroupSlots) (same : IsSame h.lists a b) (arena : IsA
   }
 
   pub group_same : group_of b h ≡ group_of a h
-  group_same = λ i. record { items = tickets_same i; room = h.room; next = h.next; slots = slotted_same i }
+  group_same = λ i. record { items = tickets_same i; room = h.slots.max; next = h.next; slots = slotted_same i }

@@ -1,5 +1,5 @@
 -- What a change of one slot does to its group's tickets.
-use Rattle.std.proofs.Common.{◌≡◌, ℕ, ◌+◌, ◌<◌, ◌⊎◌, inl, inr, Bool, true, false, not, [], ◌∷◌, ◌++◌, map, filter, length, Option, Some, None, refl, ◌∙◌, sym, ap, subst, arith}
+use Rattle.std.proofs.Common.{◌≡◌, ℕ, ◌+◌, ◌<◌, ◌⊎◌, inl, inr, Bool, true, false, [], ◌∷◌, ◌++◌, map, length, Option, Some, None, refl, ◌∙◌, sym, ap, subst, arith}
 use Rattle.std.specs.Prelude.{◌||◌, ◌==◌, eqb, if◌then◌else◌}
 use Rattle.std.specs.Option.{option_map}
 use Rattle.std.proofs.lemmas.Bool.{cases_eq, eq-eqb, ne_eqb}
@@ -12,7 +12,7 @@ use Rattle.bh_cache.specs.Listed.{listed, now_is}
 use Rattle.bh_slot_arena.specs.Slots.{slots_on}
 use Rattle.bh_cache.specs.Slots.{Slots, is_on, is_live_list, ticket_at, tickets_of, list_for, InOrder}
 use Rattle.bh_tickets.specs.GroupSlots.{IsNumbered, IsArranged}
-use Rattle.bh_cache.proofs.Listed.{Rising, rising, listed_map, listed_added, listed_filter, option_filter}
+use Rattle.bh_cache.proofs.Listed.{Rising, rising, listed_map, listed_added}
 use Rattle.bh_tickets.proofs.Touched.{IsTouched, on_other, on_slot, at_other, at_slot}
 
 second : (a b c : Bool) → b ≡ true → (a || (b || c)) ≡ true
@@ -155,25 +155,3 @@ module _ (a b : Slots) (g : GroupLists) (x s : ℕ) (t v : Ticket) (arranged : I
     placed = λ y u p. let k = still y u p in on_other a b x g.free v touched (list_for g u.state) y k.0 ∙ arranged.placed y u k.1;
     order = order;
   }
-
-  abbrev stays : Ticket → Bool
-  stays u = not (u.serial == t.serial)
-
-  filtered : (y : ℕ) → ticket_at b g y ≡ option_filter stays (ticket_at a g y)
-  filtered y = elim (cases_eq y x) [
-    | inl q ↦ ap (ticket_at b g) q ∙ gone_at ∙ sym (ap (λ z. option_filter stays (ticket_at a g z)) q ∙ ap (option_filter stays) was ∙ ap (λ c. if not c then Some t else None) same)
-    | inr ne ↦ at_other a b x g.free v touched g y ne ∙ other (ticket_at a g y) refl ne
-  ]
-    where
-      same : (t.serial == t.serial) ≡ true
-      same = grind (arith, nat_tests)
-
-      other : (o : Option Ticket) → ticket_at a g y ≡ o → (y ≡ x → ⊥) → o ≡ option_filter stays o
-      other None e ne = refl
-      other (Some u) e ne =
-          let differ : (u.serial ≡ t.serial) → ⊥ = λ k. ne (arranged.distinct y x u t e was k) in
-          let c : (u.serial == t.serial) ≡ false = grind (arith, nat_tests, differ) in
-          sym (ap (λ d. if not d then Some u else None) c)
-
-  pub gone_tickets : tickets_of b g ≡ filter (λ u. not (u.serial == t.serial)) (tickets_of a g)
-  gone_tickets = ap (listed (ticket_at b g)) touched.slots ∙ listed_filter stays (ticket_at a g) (ticket_at b g) (length a.payloads) arranged.distinct (λ y lt. filtered y)

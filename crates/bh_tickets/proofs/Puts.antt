@@ -17,7 +17,8 @@ use Rattle.bh_index_lists.specs.Lists.{without}
 use Rattle.bh_tickets.specs.Changes.{queued_in}
 use Rattle.bh_cache.proofs.Order.{order_same, order_without, count_le, count_same, one_le}
 use Rattle.bh_cache.proofs.Counts.{count_point}
-use Rattle.bh_tickets.proofs.Touched.{IsTouched, touched_both, touched_set, payload_other, payload_slot, at_other, at_slot, touched_arena, touched_frame, owned_same, get_within}
+use Rattle.bh_tickets.proofs.Touched.{IsTouched, touched_both, touched_set, payload_other, payload_slot, at_other, at_slot, touched_arena, touched_frame, owned_same}
+use Rattle.bh_cache.proofs.Places.{get_within}
 use Rattle.bh_tickets.proofs.Own.{changed_arranged, changed_tickets, live_for}
 use Rattle.bh_tickets.proofs.Others.{own_for}
 
@@ -74,7 +75,7 @@ module _ (a : Slots) (s : GroupSlots) (x : ℕ) (t : Ticket) (group : IsGroupSlo
   counted_at q = subst (λ o. one (has_one q o) ≤ count_at a s.lists q) here (count_has (λ y. has_one q (ticket_at a s.lists y)) (length a.payloads) x (within_slots a s.lists x t here))
 
   -- and it may pass in place of not passing
-  pub room_at : (q : Ticket → Bool) → count_at a s.lists q + 1 ≤ s.room + one (q t)
+  pub room_at : (q : Ticket → Bool) → count_at a s.lists q + 1 ≤ s.slots.max + one (q t)
   room_at q =
       let k : one (has_one q (ticket_at a s.lists x)) ≡ one (q t) = ap (λ o. one (has_one q o)) here in
       omega (
@@ -198,7 +199,7 @@ module _ (a b : Slots) (s : GroupSlots) (x : ℕ) (t v : Ticket) (arena : IsAren
       let m : count_at b s.lists q ≡ count_below (length a.payloads) (λ y. has_one q (ticket_at b s.lists y)) = ap (λ n. count_below n (λ y. has_one q (ticket_at b s.lists y))) touched.slots in
       omega (arith, k, l, m, count_point (λ y. has_one q (ticket_at a s.lists y)) (λ y. has_one q (ticket_at b s.lists y)) (length a.payloads) x (within_slots a s.lists x t here) (λ y ne. ap (has_one q) (else_same y ne)))
 
-  owned_now : count_below (length b.payloads) (is_owned b s.lists) ≡ s.room
+  owned_now : count_below (length b.payloads) (is_owned b s.lists) ≡ s.slots.max
   owned_now = ap (λ n. count_below n (is_owned b s.lists)) touched.slots
       ∙ count_same (is_owned b s.lists) (is_owned a s.lists) (length a.payloads) (owned_same a b x (list_for s.lists v.state) v touched s.lists (or_right (is_on a 0 s.lists.free x) (is_live a s.lists x) (held_at a s.lists x t here).0) (or_right (eqb s.lists.free (list_for s.lists v.state)) (is_live_list s.lists (list_for s.lists v.state)) (live_for s.lists v.state)))
       ∙ group.slots
@@ -251,7 +252,7 @@ module _ (a b : Slots) (s : GroupSlots) (x : ℕ) (t v : Ticket) (arena : IsAren
         frame = touched_frame a b x (list_for s.lists v.state) v touched s.lists (list_for s.lists t.state) arena lies (own_for s.lists group.numbered t.state) (own_for s.lists group.numbered v.state);
         limit = touched.limit;
         lists = ap (λ (z : GroupSlots). z.lists) is;
-        room = ap (λ (z : GroupSlots). z.room) is;
+        room = ap (λ (z : GroupSlots). z.slots.max) is;
       };
       next = ap (λ (z : GroupSlots). z.next) is;
       items = changed_tickets a b s.lists x s.next t v group.arranged here serial touched;

@@ -98,8 +98,8 @@ module _ (a b : Slots) (s : GroupSlots) (x : ℕ) (t : Ticket) (arena : IsArena 
   never_one : (y : ℕ) → s.needless ≡ needless.One y → ⊥
   never_one y e = let f : needless.Many ≡ needless.One y = sym many ∙ e in cc
 
-  module _ (r : GroupSlots) (made : r ≡ record (counted_out t s) { taken = s.taken - 1 }) where
-    whole : IsGroupSlots b (record (counted_out t s) { taken = s.taken - 1 })
+  module _ (r : GroupSlots) (made : r ≡ record (counted_out t s) { slots = record s.slots { taken = s.slots.taken - 1 } }) where
+    whole : IsGroupSlots b (record (counted_out t s) { slots = record s.slots { taken = s.slots.taken - 1 } })
     whole = record {
       numbered = group.numbered;
       there = omega (arith, group.there, touched.count);
@@ -124,7 +124,7 @@ module _ (a b : Slots) (s : GroupSlots) (x : ℕ) (t : Ticket) (arena : IsArena 
         frame = touched_frame a b x s.lists.free t touched s.lists (list_for s.lists t.state) arena lies (own_for s.lists group.numbered t.state) (record { from = omega arith; to = omega (arith, group.numbered.settled) });
         limit = touched.limit;
         lists = ap (λ (z : GroupSlots). z.lists) made;
-        room = ap (λ (z : GroupSlots). z.room) made;
+        room = ap (λ (z : GroupSlots). z.slots.max) made;
       };
       next = ap (λ (z : GroupSlots). z.next) made;
       needless = ap (λ (z : GroupSlots). z.needless) made;

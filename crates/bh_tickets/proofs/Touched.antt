@@ -1,5 +1,5 @@
 -- One slot gets another ticket, or goes to another list.
-use Rattle.std.proofs.Common.{◌≡◌, ℕ, zero, suc, ◌<◌, inl, inr, Bool, true, false, not, cond, List, [], ◌∷◌, ◌++◌, map, length, get_or, set, Some, None, refl, ◌∙◌, sym, ap, subst, arith, length-set, get_or-set_same, get_or-set_other}
+use Rattle.std.proofs.Common.{◌≡◌, ℕ, zero, suc, ◌<◌, inl, inr, Bool, true, false, not, cond, List, [], ◌∷◌, ◌++◌, map, length, get_or, Some, None, refl, ◌∙◌, sym, ap, subst, arith, length-set, get_or-set_same, get_or-set_other}
 use Rattle.std.specs.Prelude.{◌||◌, eqb, slice_get, if◌then◌else◌}
 use Rattle.std.proofs.lemmas.Bool.{cases_eq, eq-eqb, ne_eqb}
 use Rattle.std.proofs.lemmas.Bool.Decides.{nat_tests}
@@ -9,6 +9,7 @@ use Rattle.bh_index_lists.specs.Lists.{without}
 use Rattle.bh_slot_arena.specs.Lists.{moved, put_last}
 use Rattle.bh_cache.specs.declared.lists.GroupLists.{GroupLists}
 use Rattle.bh_slot_arena.specs.Slots.{lists_in, slots_on, with_payload, with_moved}
+use Rattle.bh_cache.proofs.Places.{get_set, has_append}
 use Rattle.bh_cache.specs.Slots.{Slots, has, is_on, is_live_list, is_owned, ticket_at, Once, IsArena, IsOwn, IsFrame}
 
 pub has_without : (x s : ℕ) (xs : List ℕ) → has x (without s xs) ≡ (if eqb x s then false else has x xs)
@@ -27,14 +28,6 @@ has_without x s (y ∷ ys) = elim (cases_eq y s) [
 
     there : (y ≡ s → ⊥) → (eqb y x || (if eqb x s then false else has x ys)) ≡ (if eqb x s then false else (eqb y x || has x ys))
     there ne = grind (arith, nat_tests)
-
-pub has_append : (x : ℕ) (xs ys : List ℕ) → has x (xs ++ ys) ≡ (has x xs || has x ys)
-has_append x [] ys = refl
-has_append x (z ∷ zs) ys = ap (λ b. eqb z x || b) (has_append x zs ys) ∙ regroup (eqb z x) (has x zs) (has x ys)
-  where
-    regroup : (a b c : Bool) → (a || (b || c)) ≡ ((a || b) || c)
-    regroup true b c = refl
-    regroup false b c = refl
 
 pub without_absent : (x : ℕ) (xs : List ℕ) → has x xs ≡ false → without x xs ≡ xs
 without_absent x [] out = refl
@@ -81,29 +74,6 @@ on_moved a x to l y wide there = elim (cases_eq l to) [
   where
     same : (p q : Bool) → p ≡ q → (r : Bool) → r ≡ true → ((if eqb y x then false else p) || (eqb x y || false)) ≡ (if eqb y x then r else q)
     same p q e r f = grind (arith, nat_tests)
-
-get_set_same : (xs : List Ticket) (i : ℕ) (v : Ticket) → i < length xs → slice_get (set xs i v) i ≡ Some v
-get_set_same [] i v lt = absurd (omega (arith, lt))
-get_set_same (x ∷ xs) zero v lt = refl
-get_set_same (x ∷ xs) (suc i) v lt = get_set_same xs i v (omega (arith, lt))
-
-get_set_other : (xs : List Ticket) (i j : ℕ) (v : Ticket) → (j ≡ i → ⊥) → slice_get (set xs i v) j ≡ slice_get xs j
-get_set_other [] i j v ne = refl
-get_set_other (x ∷ xs) zero zero v ne = absurd (ne refl)
-get_set_other (x ∷ xs) zero (suc j) v ne = refl
-get_set_other (x ∷ xs) (suc i) zero v ne = refl
-get_set_other (x ∷ xs) (suc i) (suc j) v ne = get_set_other xs i j v (λ e. ne (ap suc e))
-
-pub get_set : (xs : List Ticket) (i j : ℕ) (v : Ticket) → i < length xs → slice_get (set xs i v) j ≡ (if eqb j i then Some v else slice_get xs j)
-get_set xs i j v lt = elim (cases_eq j i) [
-  | inl e ↦ ap (slice_get (set xs i v)) e ∙ get_set_same xs i v lt ∙ sym (ap (λ b. if b then Some v else slice_get xs j) (eq-eqb j i e))
-  | inr ne ↦ get_set_other xs i j v ne ∙ sym (ap (λ b. if b then Some v else slice_get xs j) (ne_eqb j i ne))
-]
-
-pub get_within : (xs : List Ticket) (i : ℕ) (v : Ticket) → slice_get xs i ≡ Some v → i < length xs
-get_within [] i v e = absurd cc
-get_within (x ∷ xs) zero v e = omega arith
-get_within (x ∷ xs) (suc i) v e = let lt : i < length xs = get_within xs i v e in omega (arith, lt)
 
 -- ---- no slot comes twice
 

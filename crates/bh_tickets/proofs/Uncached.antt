@@ -179,7 +179,7 @@ module _ (a b : Slots) (s : GroupSlots) (context n : ℕ) (arena : IsArena a 0) 
         frame = frame;
         limit = dropped.limit;
         lists = ap (λ (z : GroupSlots). z.lists) made;
-        room = ap (λ (z : GroupSlots). z.room) made;
+        room = ap (λ (z : GroupSlots). z.slots.max) made;
       };
       next = ap (λ (z : GroupSlots). z.next) made;
       items = dropped.tickets;

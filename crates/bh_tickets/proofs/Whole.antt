@@ -54,16 +54,16 @@ get_is (y ∷ ys) (suc i) s lt e = get_is ys i s (omega (arith, lt)) e
 
 -- the room of all groups
 abbrev pub rooms : List GroupSlots → ℕ
-rooms ss = sum_by (λ (s : GroupSlots). s.room) ss
+rooms ss = sum_by (λ (s : GroupSlots). s.slots.max) ss
 
-pub rooms_set : (ss : List GroupSlots) (i : ℕ) (s r : GroupSlots) → slice_get ss i ≡ Some s → r.room ≡ s.room → rooms (set ss i r) ≡ rooms ss
+pub rooms_set : (ss : List GroupSlots) (i : ℕ) (s r : GroupSlots) → slice_get ss i ≡ Some s → r.slots.max ≡ s.slots.max → rooms (set ss i r) ≡ rooms ss
 rooms_set [] i s r is same = absurd cc
 rooms_set (y ∷ ys) zero s r is same =
     let k : y ≡ s = cc in
-    let e : r.room ≡ y.room = same ∙ ap (λ (z : GroupSlots). z.room) (sym k) in
-    omega (arith, e, sum_by-cons (λ (s : GroupSlots). s.room) r ys, sum_by-cons (λ (s : GroupSlots). s.room) y ys)
+    let e : r.slots.max ≡ y.slots.max = same ∙ ap (λ (z : GroupSlots). z.slots.max) (sym k) in
+    omega (arith, e, sum_by-cons (λ (s : GroupSlots). s.slots.max) r ys, sum_by-cons (λ (s : GroupSlots). s.slots.max) y ys)
 rooms_set (y ∷ ys) (suc i) s r is same =
-    omega (arith, rooms_set ys i s r is same, sum_by-cons (λ (s : GroupSlots). s.room) y (set ys i r), sum_by-cons (λ (s : GroupSlots). s.room) y ys)
+    omega (arith, rooms_set ys i s r is same, sum_by-cons (λ (s : GroupSlots). s.slots.max) y (set ys i r), sum_by-cons (λ (s : GroupSlots). s.slots.max) y ys)
 
 module _ (a b : Slots) (ss : List GroupSlots) (i : ℕ) (s r : GroupSlots) (whole : IsWhole a ss) (is : slice_get ss i ≡ Some s)
     (change : IsGroupChange a s b r) where
@@ -150,7 +150,7 @@ shows a s x arena = elim (cases_lt x (length a.payloads)) [
     by false e past = refl
 
 module _ (a : Slots) (s : GroupSlots) (group : IsGroupSlots a s) where
-  pub taken_is : s.taken ≡ length (tickets_of a s.lists)
+  pub taken_is : s.slots.taken ≡ length (tickets_of a s.lists)
   taken_is = group.taken ∙ sym (length_listed (ticket_at a s.lists) (λ x. has_one is_any (ticket_at a s.lists x)) (length a.payloads) (λ x lt. any_is (ticket_at a s.lists x)))
 
   pub count_is : (q : Ticket → Bool) → count_at a s.lists q ≡ count_by q (tickets_of a s.lists)
@@ -217,7 +217,7 @@ changed_is a b ss i x s r change whole is can done = record {
 pub can_add_at : (a : Slots) (ss : List GroupSlots) (i : ℕ) (s : GroupSlots) (v : Ticket) → IsWhole a ss → slice_get ss i ≡ Some s → CanPush (group_at (view_of a ss) i) v → CanAdd s v
 can_add_at a ss i s v whole is can =
     let store = group_is a ss i s is in
-    let room : length (tickets_of a s.lists) < s.room = subst (λ (z : GroupTickets). length z.items < z.room) store can.room in
+    let room : length (tickets_of a s.lists) < s.slots.max = subst (λ (z : GroupTickets). length z.items < z.room) store can.room in
     record {
       room = omega (arith, room, taken_is a s (whole.each i s is));
       serial = can.serial ∙ ap (λ (z : GroupTickets). z.next) store;
@@ -225,7 +225,7 @@ can_add_at a ss i s v whole is can =
       needed = can.needed;
     }
 
-pub len_is : (a : Slots) (ss : List GroupSlots) (i : ℕ) (s : GroupSlots) → IsWhole a ss → slice_get ss i ≡ Some s → s.taken ≡ length (group_at (view_of a ss) i).items
+pub len_is : (a : Slots) (ss : List GroupSlots) (i : ℕ) (s : GroupSlots) → IsWhole a ss → slice_get ss i ≡ Some s → s.slots.taken ≡ length (group_at (view_of a ss) i).items
 len_is a ss i s whole is = taken_is a s (whole.each i s is) ∙ ap (λ (z : GroupTickets). length z.items) (sym (group_is a ss i s is))
 
 pub shown_length : (a : Slots) (ss : List GroupSlots) (i : ℕ) (s : GroupSlots) → slice_get ss i ≡ Some s → (f : List Ticket → List Ticket) → length (f (group_at (view_of a ss) i).items) ≡ length (f (tickets_of a s.lists))
@@ -260,6 +260,6 @@ some_part a ss i x t u whole lt e is =
 pub items_few : (a : Slots) (ss : List GroupSlots) (i : ℕ) (s : GroupSlots) → IsWhole a ss → slice_get ss i ≡ Some s → length (group_at (view_of a ss) i).items ≤ (group_at (view_of a ss) i).room
 items_few a ss i s whole is =
     let group = whole.each i s is in
-    let taken : s.taken ≤ s.room = omega (arith, group.taken, group.slots, count_le (λ x. has_one is_any (ticket_at a s.lists x)) (is_owned a s.lists) (length a.payloads) (owned_if a s.lists is_any)) in
+    let taken : s.slots.taken ≤ s.slots.max = omega (arith, group.taken, group.slots, count_le (λ x. has_one is_any (ticket_at a s.lists x)) (is_owned a s.lists) (length a.payloads) (owned_if a s.lists is_any)) in
     let shown = group_is a ss i s is in
     omega (arith, taken, taken_is a s group, ap (λ (z : GroupTickets). length z.items) shown, ap (λ (z : GroupTickets). z.room) shown)

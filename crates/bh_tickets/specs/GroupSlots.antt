@@ -59,16 +59,16 @@ noted x needless.Many = needless.Many
 
 -- so many slots, none of which has a ticket
 abbrev pub no_slot_taken : GroupLists → ℕ → GroupSlots
-no_slot_taken lists room = record { lists = lists; room = room; next = 1; taken = 0; busy = 0; queued = 0; in_fallback = 0; needless = needless.Nothing }
+no_slot_taken lists slots = record { lists = lists; slots = record { max = slots; taken = 0 }; next = 1; busy = 0; queued = 0; in_fallback = 0; needless = needless.Nothing }
 
 -- what a group keeps fits its tickets in the arena
 pub record IsGroupSlots (a : Slots) (s : GroupSlots) : Type 0 where
   pub numbered : IsNumbered s.lists
   pub there : s.lists.settled < length (lists_in a 0)
   pub arranged : IsArranged a s.lists s.next
-  pub slots : count_below (length a.payloads) (is_owned a s.lists) ≡ s.room
-  pub few : s.room < 2 ^ 63
-  pub taken : s.taken ≡ count_at a s.lists is_any
+  pub slots : count_below (length a.payloads) (is_owned a s.lists) ≡ s.slots.max
+  pub few : s.slots.max < 2 ^ 63
+  pub taken : s.slots.taken ≡ count_at a s.lists is_any
   pub busy : s.busy ≡ count_at a s.lists is_busy
   pub queued : s.queued ≡ count_at a s.lists is_queued
   pub in_fallback : s.in_fallback ≡ count_at a s.lists is_in_fallback
@@ -83,7 +83,7 @@ pub record IsGroupChange (a : Slots) (s : GroupSlots) (b : Slots) (r : GroupSlot
   pub frame : IsFrame s.lists a b
   pub limit : b.limit ≡ a.limit
   pub lists : r.lists ≡ s.lists
-  pub room : r.room ≡ s.room
+  pub room : r.slots.max ≡ s.slots.max
 
 -- the counts without a ticket, and with one
 abbrev pub counted_out : Ticket → GroupSlots → GroupSlots
@@ -117,7 +117,7 @@ pub record IsPut (a : Slots) (s : GroupSlots) (x : ℕ) (v : Ticket) (b : Slots)
 
 -- a ticket of the next serial that somebody needs, where a slot is free
 pub record CanAdd (s : GroupSlots) (v : Ticket) : Type 0 where
-  pub room : s.taken < s.room
+  pub room : s.slots.taken < s.slots.max
   pub serial : v.serial ≡ s.next
   pub few : s.next < 2 ^ 63
   pub needed : is_kept v ≡ true

@@ -20,7 +20,7 @@ slotted at (suc n) = slot_in n (at n) (slotted at n)
 
 -- what contracts see of a group
 abbrev pub group_of : Slots → GroupSlots → GroupTickets
-group_of a s = record { items = tickets_of a s.lists; room = s.room; next = s.next; slots = slotted (ticket_at a s.lists) (length a.payloads) }
+group_of a s = record { items = tickets_of a s.lists; room = s.slots.max; next = s.next; slots = slotted (ticket_at a s.lists) (length a.payloads) }
 
 abbrev pub groups_of : Slots → List GroupSlots → List GroupTickets
 groups_of a ss = map (group_of a) ss
@@ -34,7 +34,7 @@ pub record IsWhole (a : Slots) (ss : List GroupSlots) : Type 0 where
   pub arena : IsArena a 0
   pub each : (i : ℕ) (s : GroupSlots) → slice_get ss i ≡ Some s → IsGroupSlots a s
   pub apart : (i j : ℕ) (s r : GroupSlots) → slice_get ss i ≡ Some s → slice_get ss j ≡ Some r → i ≢ j → IsApart s.lists r.lists
-  pub slots : length a.payloads ≡ sum_by (λ (s : GroupSlots). s.room) ss
+  pub slots : length a.payloads ≡ sum_by (λ (s : GroupSlots). s.slots.max) ss
 
 -- the slot has a ticket to which that may happen
 pub record CanChange (g : GroupTickets) (slot : ℕ) (change : TicketChange) : Type 0 where

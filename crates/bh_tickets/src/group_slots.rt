@@ -10,7 +10,8 @@ ghost use Rattle.bh_tickets.specs.Changes.{changed_by};
 
 use crate::changes::{TicketChange, apply};
 use crate::states::{DueRule, is_due, is_in_fallback, is_kept, is_queued};
-use bh_base::{Cause, Serial, Ticket, TicketState};
+use bh_admit::Permits;
+use bh_base::{Serial, Ticket, TicketState};
 use bh_cache::{GroupLists, drop_context};
 use bh_slot_arena::Arena;
 
@@ -27,12 +28,11 @@ pub enum Needless {
 #[derive(Clone, Copy, Debug)]
 pub struct GroupSlots {
     pub lists: GroupLists,
-    /// How many slots the group has.
-    pub room: u64,
+    /// Of the group's slots each ticket takes one.
+    pub slots: Permits,
     /// The next ticket's serial.
     pub next: Serial,
-    /// How many slots have a ticket, and how many of the tickets are busy, queued and in their fallback.
-    pub taken: u64,
+    /// How many of the tickets are busy, queued and in their fallback.
     pub busy: u64,
     pub queued: u64,
     pub in_fallback: u64,
@@ -41,14 +41,13 @@ pub struct GroupSlots {
 
 impl GroupSlots {
     /// So many slots, none of which has a ticket.
-    pub fn new(lists: GroupLists, room: u64) -> Self
-        ensures { result ≡ no_slot_taken lists room }
+    pub fn new(lists: GroupLists, slots: u64) -> Self
+        ensures { result ≡ no_slot_taken lists slots }
     {
         GroupSlots {
             lists,
-            room,
+            slots: Permits::new(slots),
             next: 1,
-            taken: 0,
             busy: 0,
             queued: 0,
             in_fallback: 0,
@@ -160,6 +159,9 @@ pub fn add(arena: &mut Arena<Ticket, 1>, group: &mut GroupSlots, ticket: &Ticket
     requires ticket { CanAdd group.old ticket.now }
     ensures { IsAdded arena.old group.old ticket.now arena.new group.new }
 {
+    if !group.slots.try_take() {
+        return;
+    }
     let Some(slot) = arena.front(0, group.lists.free) else {
         return;
     };
@@ -167,7 +169,6 @@ pub fn add(arena: &mut Arena<Ticket, 1>, group: &mut GroupSlots, ticket: &Ticket
     arena.set(slot, *ticket);
     arena.move_to_back(0, slot, to);
     count_in(group, ticket);
-    group.taken += 1;
     group.next += 1;
 }
 
@@ -184,7 +185,7 @@ pub fn release_at(arena: &mut Arena<Ticket, 1>, group: &mut GroupSlots, slot: u3
         return;
     }
     count_out(group, was);
-    group.taken -= 1;
+    group.slots.give();
     arena.move_to_back(0, slot, group.lists.free);
 }
 

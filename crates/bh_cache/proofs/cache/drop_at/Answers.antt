@@ -5,7 +5,8 @@ use Rattle.bh_base.specs.Tickets.{is_cached_in}
 use Rattle.bh_slot_arena.specs.Slots.{with_payload}
 use Rattle.bh_cache.specs.Cache.{IsDroppedFrom, uncached_in}
 use Rattle.bh_cache.specs.Slots.{Slots, one}
-use Rattle.bh_cache.proofs.Dropped.{dropped_at, get_set}
+use Rattle.bh_cache.proofs.Dropped.{dropped_at}
+use Rattle.bh_cache.proofs.Places.{get_set}
 use Rattle.bh_cache.proofs.cache.drop_at.Goals as goal
 
 dropped : (context : ℕ) (a b : Slots) (slot : ℕ) (t : Ticket) → slot < length a.payloads → Some t ≡ slice_get a.payloads slot → is_cached_in context t ≡ true → b ≡ with_payload slot (record t { cached = false }) a → IsDroppedFrom context (slot ∷ []) a b 1

@@ -1,5 +1,6 @@
 use Rattle.std.proofs.Common.{sym, ap, ◌∙◌, arith, ◌-◌}
 use Rattle.bh_base.specs.Tickets.{is_queued, is_in_fallback}
+use Rattle.bh_admit.specs.Permits.{PermitCount}
 use Rattle.bh_tickets.specs.declared.group_slots.GroupSlots.{GroupSlots}
 use Rattle.bh_slot_arena.specs.Slots.{with_moved}
 use Rattle.bh_tickets.specs.GroupSlots.{is_busy, is_any}
@@ -30,10 +31,10 @@ count_out-requires-clause-in_fallback c =
     let here = there_at c.args.arena.now c.args.group.now c.args.slot c.get-was.result.now c.requires.there c.get-was.ensures in
     omega (arith, c.requires.group.in_fallback, counted_at c.args.arena.now c.args.group.now c.args.slot c.get-was.result.now c.requires.group here is_in_fallback)
 
-pub overflow_sub-group : goal.overflow_sub-group
-overflow_sub-group c =
+pub give-requires : goal.give-requires
+give-requires c =
     let here = there_at c.args.arena.now c.args.group.now c.args.slot c.get-was.result.now c.requires.there c.get-was.ensures in
-    let out = ap (λ (s : GroupSlots). s.taken) c.count_out.ensures in
+    let out = ap (λ (s : GroupSlots). s.slots.taken) c.count_out.ensures in
     omega (arith, out, c.requires.group.taken, counted_at c.args.arena.now c.args.group.now c.args.slot c.get-was.result.now c.requires.group here is_any)
 
 pub returns : goal.returns
@@ -41,4 +42,4 @@ returns c =
     let here = there_at c.args.arena.now c.args.group.now c.args.slot c.get-was.result.now c.requires.there c.get-was.ensures in
     gone_from c.args.arena.now c.move_to_back.new.self c.args.group.now c.args.slot c.get-was.result.now c.requires.arena c.requires.group c.requires.many here (sym c.is_kept.ensures ∙ c.if-is_kept.false)
     (c.move_to_back.ensures.moved ∙ ap (λ l. with_moved 0 c.args.slot l c.args.arena.now) (ap (λ (s : GroupSlots). s.lists.free) c.count_out.ensures)) _
-    (ap (λ (s : GroupSlots). record s { taken = s.taken - 1 }) c.count_out.ensures)
+    (ap (λ (p : PermitCount). record c.count_out.new.group { slots = p }) c.give.ensures ∙ ap (λ (s : GroupSlots). record s { slots = record s.slots { taken = s.slots.taken - 1 } }) c.count_out.ensures)

@@ -1,4 +1,4 @@
-use Rattle.bh_tickets.proofs.Swept.{released_none}
+use Rattle.bh_tickets.proofs.ReleasedAll.{released_none}
 use Rattle.bh_tickets.proofs.sweeps.release.Goals as goal
 
 pub returns-in-Nothing : goal.returns-in-Nothing

@@ -1,4 +1,4 @@
-use Rattle.bh_tickets.proofs.Swept.{released_all}
+use Rattle.bh_tickets.proofs.ReleasedAll.{released_all}
 use Rattle.bh_tickets.proofs.sweeps.release_all.Goals as goal
 
 pub returns : goal.returns

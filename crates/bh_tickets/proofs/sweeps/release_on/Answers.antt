@@ -6,7 +6,7 @@ use Rattle.bh_cache.specs.Slots.{has_one, is_live_list, ticket_at}
 use Rattle.bh_tickets.specs.GroupSlots.{IsNumbered}
 use Rattle.bh_tickets.proofs.Along.{along_at, along_next, along_on, along_unless, on_live}
 use Rattle.bh_tickets.proofs.Own.{not_live_free}
-use Rattle.bh_tickets.proofs.Swept.{released_more}
+use Rattle.bh_tickets.proofs.ReleasedAll.{released_more}
 use Rattle.bh_tickets.proofs.sweeps.release_on.Goals as goal
 
 -- a list with tickets is not that of free slots

@@ -1,4 +1,4 @@
-use Rattle.bh_tickets.proofs.Swept.{released_one}
+use Rattle.bh_tickets.proofs.ReleasedAll.{released_one}
 use Rattle.bh_tickets.proofs.sweeps.release_one.Goals as goal
 
 pub returns : goal.returns

@@ -2,7 +2,7 @@ use Rattle.std.proofs.Common.{arith, subst, sym}
 use Rattle.bh_slot_arena.specs.Slots.{slots_on}
 use Rattle.bh_cache.specs.declared.lists.GroupLists.{GroupLists}
 use Rattle.bh_tickets.specs.Sweeps.{IsTimedFrom}
-use Rattle.bh_tickets.proofs.Swept.{timed_few, timed_out_all}
+use Rattle.bh_tickets.proofs.TimedAll.{timed_few, timed_out_all}
 use Rattle.bh_tickets.proofs.sweeps.time_out.Goals as goal
 
 pub overflow_add-result : goal.overflow_add-result

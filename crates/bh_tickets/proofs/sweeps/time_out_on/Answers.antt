@@ -4,7 +4,7 @@ use Rattle.bh_cache.specs.declared.lists.GroupLists.{GroupLists}
 use Rattle.bh_cache.specs.Slots.{has_one, is_live_list, ticket_at}
 use Rattle.bh_tickets.specs.Changes.{is_due_by}
 use Rattle.bh_tickets.proofs.Along.{along_either, along_next, along_on, along_at, on_live}
-use Rattle.bh_tickets.proofs.Swept.{timed_few, timed_more}
+use Rattle.bh_tickets.proofs.TimedAll.{timed_few, timed_more}
 use Rattle.bh_tickets.proofs.sweeps.time_out_on.Goals as goal
 
 pub time_out_at-number-requires-clause-there : goal.time_out_at-number-requires-clause-there

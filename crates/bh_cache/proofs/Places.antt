@@ -1,0 +1,79 @@
+-- Members and places of a list of slots, and payloads by their slots.
+use Rattle.std.proofs.Common.{◌≡◌, ℕ, zero, suc, ◌+◌, ◌<◌, ◌≤◌, inl, inr, Bool, true, false, List, [], ◌∷◌, ◌++◌, length, drop, set, take, Some, None, refl, ◌∙◌, sym, ap, arith, add-one}
+use Rattle.std.specs.Prelude.{◌||◌, eqb, slice_get, if◌then◌else◌}
+use Rattle.std.proofs.lemmas.Bool.{cases_eq, eq-eqb, ne_eqb}
+use Rattle.bh_base.specs.declared.ticket.Ticket.{Ticket}
+use Rattle.bh_cache.specs.Slots.{has}
+
+-- ---- members and places
+
+pub has_append : (x : ℕ) (xs ys : List ℕ) → has x (xs ++ ys) ≡ (has x xs || has x ys)
+has_append x [] ys = refl
+has_append x (z ∷ zs) ys = ap (λ b. eqb z x || b) (has_append x zs ys) ∙ regroup (eqb z x) (has x zs) (has x ys)
+  where
+    regroup : (a b c : Bool) → (a || (b || c)) ≡ ((a || b) || c)
+    regroup true b c = refl
+    regroup false b c = refl
+
+-- a member of a list has a place on it
+pub has_place : (xs : List ℕ) (x : ℕ) → has x xs ≡ true → (k : ℕ) × (slice_get xs k ≡ Some x)
+has_place [] x e = absurd cc
+has_place (y ∷ ys) x e = elim (cases_eq y x) [
+  | inl q ↦ (0, ap Some q)
+  | inr ne ↦ let r = has_place ys x (ap (λ b. b || has x ys) (sym (ne_eqb y x ne)) ∙ e) in (suc r.0, r.1)
+]
+
+-- ---- what is ahead of a place, and what is behind it
+
+pub drop_at : (xs : List ℕ) (i x : ℕ) → slice_get xs i ≡ Some x → drop i xs ≡ x ∷ drop (suc i) xs
+drop_at [] zero x e = absurd cc
+drop_at [] (suc i) x e = absurd cc
+drop_at (y ∷ ys) zero x e = let k : y ≡ x = cc in ap (λ z. z ∷ ys) k
+drop_at (y ∷ ys) (suc i) x e = drop_at ys i x e
+
+pub drop_past : (xs : List ℕ) (i : ℕ) → slice_get xs i ≡ None → drop i xs ≡ []
+drop_past [] zero e = refl
+drop_past [] (suc i) e = refl
+drop_past (y ∷ ys) zero e = absurd cc
+drop_past (y ∷ ys) (suc i) e = drop_past ys i e
+
+pub drop_end : (xs : List ℕ) (i : ℕ) → length xs ≤ i → drop i xs ≡ []
+drop_end [] zero h = refl
+drop_end [] (suc i) h = refl
+drop_end (y ∷ ys) zero h = absurd (omega (arith, h))
+drop_end (y ∷ ys) (suc i) h = drop_end ys i (omega (arith, h))
+
+-- one place more
+pub take_one_more : (xs : List ℕ) (i x : ℕ) → slice_get xs i ≡ Some x → take (i + 1) xs ≡ take i xs ++ x ∷ []
+take_one_more xs i x e = ap (λ k. take k xs) (add-one i) ∙ at xs i e
+  where
+    at : (ys : List ℕ) (k : ℕ) → slice_get ys k ≡ Some x → take (suc k) ys ≡ take k ys ++ x ∷ []
+    at [] k e = absurd cc
+    at (y ∷ ys) zero e = let q : y ≡ x = cc in ap (λ z. z ∷ []) q
+    at (y ∷ ys) (suc k) e = ap (λ zs. y ∷ zs) (at ys k e)
+
+-- ---- payloads
+
+get_set_same : (xs : List Ticket) (i : ℕ) (v : Ticket) → i < length xs → slice_get (set xs i v) i ≡ Some v
+get_set_same [] i v lt = absurd (omega (arith, lt))
+get_set_same (x ∷ xs) zero v lt = refl
+get_set_same (x ∷ xs) (suc i) v lt = get_set_same xs i v (omega (arith, lt))
+
+get_set_other : (xs : List Ticket) (i j : ℕ) (v : Ticket) → (j ≡ i → ⊥) → slice_get (set xs i v) j ≡ slice_get xs j
+get_set_other [] i j v ne = refl
+get_set_other (x ∷ xs) zero zero v ne = absurd (ne refl)
+get_set_other (x ∷ xs) zero (suc j) v ne = refl
+get_set_other (x ∷ xs) (suc i) zero v ne = refl
+get_set_other (x ∷ xs) (suc i) (suc j) v ne = get_set_other xs i j v (λ e. ne (ap suc e))
+
+-- a payload that is written
+pub get_set : (xs : List Ticket) (i j : ℕ) (v : Ticket) → i < length xs → slice_get (set xs i v) j ≡ (if eqb j i then Some v else slice_get xs j)
+get_set xs i j v lt = elim (cases_eq j i) [
+  | inl e ↦ ap (slice_get (set xs i v)) e ∙ get_set_same xs i v lt ∙ sym (ap (λ b. if b then Some v else slice_get xs j) (eq-eqb j i e))
+  | inr ne ↦ get_set_other xs i j v ne ∙ sym (ap (λ b. if b then Some v else slice_get xs j) (ne_eqb j i ne))
+]
+
+pub get_within : (xs : List Ticket) (i : ℕ) (v : Ticket) → slice_get xs i ≡ Some v → i < length xs
+get_within [] i v e = absurd cc
+get_within (x ∷ xs) zero v e = omega arith
+get_within (x ∷ xs) (suc i) v e = let lt : i < length xs = get_within xs i v e in omega (arith, lt)
