@@ -20,7 +20,7 @@ use Rattle.bh_tickets.specs.Changes.{is_due_by, queued_in}
 use Rattle.bh_tickets.specs.GroupSlots.{any_at}
 use Rattle.bh_tickets.specs.TicketsView.{GroupTickets, group_at, IsFirstAt}
 use Rattle.bh_tickets.specs.Whole.{view_of, IsWhole}
-use Rattle.bh_tickets.proofs.Finds.{is_in, found_first, other_first, none_first, front_first, no_front, first_at, none_at, ticket_of}
+use Rattle.bh_tickets.proofs.Finds.{is_in, found_first, other_first, none_first, first_at, none_at, ticket_of}
 use Rattle.bh_tickets.proofs.Puts.{held_at}
 use Rattle.bh_tickets.proofs.Whole.{group_is}
 
@@ -129,13 +129,14 @@ module _ (a : Slots) (ss : List GroupSlots) (i : ℕ) (s : GroupSlots) (whole : 
   name_none none = none_at a ss i s whole is p (no_first p a s.lists none)
 
 -- ---- whether there is one
+
+pub any_first : (p : Ticket → Bool) (g : GroupTickets) (o : Option ℕ) → IfSome o (λ x. IsFirstAt p g x) → (o ≡ None → find p g.items ≡ None) → is_some o ≡ list_any p g.items
+any_first p g None found none = sym (any_none p g.items (none refl))
+any_first p g (Some x) found none = sym (any_found p g.items found.ticket found.first)
+
 module _ (a : Slots) (ss : List GroupSlots) (i : ℕ) (s : GroupSlots) (whole : IsWhole a ss) (is : slice_get ss i ≡ Some s) where
   pub shown_any : (p : Ticket → Bool) → list_any p (group_at (view_of a ss) i).items ≡ list_any p (tickets_of a s.lists)
   shown_any p = ap (λ (z : GroupTickets). list_any p z.items) (group_is a ss i s is)
-
-  pub any_waits : (o : Option ℕ) → o ≡ slice_get (slots_on a 0 s.lists.queued) 0 → is_some o ≡ list_any is_queued (group_at (view_of a ss) i).items
-  any_waits None e = sym (shown_any is_queued ∙ any_none is_queued (tickets_of a s.lists) (no_front a s whole.arena (whole.each i s is) (sym e)))
-  any_waits (Some x) e = let r = front_first a s whole.arena (whole.each i s is) x (sym e) in sym (shown_any is_queued ∙ any_found is_queued (tickets_of a s.lists) r.0 r.2)
 
   module _ (due : DueRule) where
     shown_due : (serial : ℕ) → list_any (λ u. u.serial == serial) (filter (is_due_by due) (group_at (view_of a ss) i).items) ≡ list_any (λ u. u.serial == serial && is_due_by due u) (tickets_of a s.lists)

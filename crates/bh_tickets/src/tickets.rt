@@ -182,8 +182,7 @@ impl Tickets {
         requires { group < length self.now.groups }
         ensures { result ≡ list_any is_queued (group_at self.now group).items }
     {
-        let entry = &self.groups[group];
-        self.arena.front(0, entry.lists.queued).is_some()
+        self.first_queued(group).is_some()
     }
 
     /// Whether the ticket of the serial has timed out: it is queued or running, and was submitted so many

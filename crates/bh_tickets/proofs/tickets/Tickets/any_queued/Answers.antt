@@ -1,17 +1,8 @@
-use Rattle.std.proofs.Common.{◌∙◌, arith}
-use Rattle.bh_tickets.proofs.Finds.{lists_there}
-use Rattle.bh_tickets.proofs.Exists.{any_waits}
-use Rattle.bh_tickets.proofs.Whole.{part_is}
+use Rattle.std.proofs.Common.{◌∙◌}
+use Rattle.bh_base.specs.Tickets.{is_queued}
+use Rattle.bh_tickets.specs.TicketsView.{group_at}
+use Rattle.bh_tickets.proofs.Exists.{any_first}
 use Rattle.bh_tickets.proofs.tickets.Tickets.any_queued.Goals as goal
 
-pub front-requires : goal.front-requires
-front-requires c =
-    let s = c.index-entry.result.now in
-    let is = part_is c.self.inside.arena c.self.inside.groups.items c.args.self.now c.args.group s c.self.view_is c.requires c.index-entry.ensures in
-    (omega arith, (omega arith, (lists_there c.self.inside.arena s (c.self.invariant.each c.args.group s is)).queued))
-
 pub returns : goal.returns
-returns c =
-    let s = c.index-entry.result.now in
-    let is = part_is c.self.inside.arena c.self.inside.groups.items c.args.self.now c.args.group s c.self.view_is c.requires c.index-entry.ensures in
-    rw (← c.self.view_is) (c.is_some.ensures ∙ any_waits c.self.inside.arena c.self.inside.groups.items c.args.group s c.self.invariant is c.front.result c.front.ensures)
+returns c = c.is_some.ensures ∙ any_first is_queued (group_at c.args.self.now c.args.group) c.first_queued.result c.first_queued.ensures.found c.first_queued.ensures.none
