@@ -108,12 +108,10 @@ fn drop_at(arena: &mut Arena<Ticket, 1>, slot: u32, context: u64) -> u64
     requires { slot < length arena.old.payloads }
     ensures { IsDroppedFrom context (slot ∷ []) arena.old arena.new result }
 {
-    let mut ticket = *arena.get(slot);
-    if !has_context(&ticket, context) {
+    if !has_context(arena.get(slot), context) {
         return 0;
     }
-    ticket.cached = false;
-    arena.set(slot, ticket);
+    arena.get_mut(slot).cached = false;
     1
 }
 
