@@ -1,10 +1,7 @@
 -- One more group.
-use Rattle.std.proofs.Common.{◌≡◌, ℕ, ◌+◌, ◌<◌, true, false, List, [], ◌∷◌, ◌++◌, length, filter, Some, zero, suc, refl, ◌∙◌, sym, ap, subst, arith, length-append}
+use Rattle.std.proofs.Common.{◌≡◌, ℕ, ◌+◌, ◌<◌, true, false, List, [], ◌∷◌, ◌++◌, length, filter, Some, zero, suc, refl, ◌∙◌, sym, ap, subst, arith, length-append, ◌≤◌, Bool}
 use Rattle.std.proofs.lemmas.List.{map-append}
-use Rattle.std.specs.Prelude.{Err, OnOk, nat_le, slice_get}
-use Rattle.std.specs.Result.{is_ok}
-use Rattle.std.specs.declared.result.Result.{Result}
-use Rattle.std.specs.declared.result.Result.TheVariants.{Ok}
+use Rattle.std.specs.Prelude.{nat_le, slice_get}
 use Rattle.std.proofs.lemmas.Bool.Decides.{nat_tests}
 use Rattle.bh_base.specs.declared.props.GroupProps.{GroupProps}
 use Rattle.bh_base.specs.History.{window_of}
@@ -12,12 +9,13 @@ use Rattle.bh_base.specs.Bounds.{HeldBy}
 use Rattle.bh_base.specs.Runs.{opened, view}
 use Rattle.bh_base.specs.Tickets.{is_kept}
 use Rattle.bh_core.specs.Group.{BareGroup, HasTickets, new_group, view_in}
+use Rattle.bh_core.specs.Groups.{slots_in}
 use Rattle.bh_core.specs.Stepping.{IsSteady}
 use Rattle.bh_core.specs.Whole.{AreGroups, views_in}
-use Rattle.bh_core.proofs.AllGroups.{map_alike}
+use Rattle.bh_core.proofs.AllGroups.{map_alike, slots_alike}
 use Rattle.bh_core.proofs.Counting.{counted-opened}
 use Rattle.bh_core.proofs.Own.{group_read, tickets_same, view_same}
-use Rattle.bh_tickets.specs.TicketsView.{GroupTickets, TicketsView, group_at, no_tickets_in}
+use Rattle.bh_tickets.specs.TicketsView.{GroupTickets, TicketsView, group_at, no_tickets_in, slots_of}
 
 slice_get-push : {X : Type 0} (xs : List X) (x : X) (i : ℕ) → i < length xs → slice_get (xs ++ x ∷ []) i ≡ slice_get xs i
 slice_get-push [] x i inside = absurd (omega (arith, inside))
@@ -35,17 +33,22 @@ push_cases C [] x (suc i) k e old new = absurd cc
 push_cases C (y ∷ ys) x zero k e old new = old e
 push_cases C (y ∷ ys) x (suc i) k e old new = push_cases C ys x i k e old (λ p q. new (ap suc p) q)
 
--- there are too many slots where no more fit
-pub too_many : (have more limit : ℕ) → nat_le (have + more) limit ≡ false → limit < have + more
-too_many have more limit h = grind (arith, nat_tests)
+-- whether the slots of one more group are within the limit
+pub within : (ts : TicketsView) (gs : List BareGroup) (slots : ℕ) (b : Bool) → AreGroups ts gs → b ≡ nat_le (slots_of ts + slots) ts.limit → b ≡ true → slots_in (views_in ts gs) + slots ≤ ts.limit
+within ts gs slots b all asked is =
+    let fits : slots_of ts + slots ≤ ts.limit = at_most _ _ (sym asked ∙ is) in
+    omega (arith, fits, slots_alike ts gs all)
+  where
+    at_most : (m n : ℕ) → nat_le m n ≡ true → m ≤ n
+    at_most m n h = grind (arith, nat_tests)
 
-pub not_too_many : (have more limit : ℕ) → nat_le (have + more) limit ≡ true → limit < have + more → ⊥
-not_too_many have more limit h less = grind (arith, nat_tests)
-
--- what holds on success holds where there was one
-pub on_ok : {X E : Type 0} (P : Type 0) (r : Result X E) → is_ok r ≡ true → OnOk r P → P
-on_ok P (Ok x) ok holds = holds
-on_ok P (Err e) ok holds = absurd cc
+pub beyond : (ts : TicketsView) (gs : List BareGroup) (slots : ℕ) (b : Bool) → AreGroups ts gs → b ≡ nat_le (slots_of ts + slots) ts.limit → b ≡ false → ts.limit < slots_in (views_in ts gs) + slots
+beyond ts gs slots b all asked is =
+    let passes : ts.limit < slots_of ts + slots = more _ _ (sym asked ∙ is) in
+    omega (arith, passes, slots_alike ts gs all)
+  where
+    more : (m n : ℕ) → nat_le m n ≡ false → n < m
+    more m n h = grind (arith, nat_tests)
 
 -- with one more group of so many slots behind the others
 abbrev pub with_group : TicketsView → ℕ → TicketsView

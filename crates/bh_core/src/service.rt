@@ -74,18 +74,26 @@ impl Core {
         if !self.tickets.has_slots_for(props.slots) {
             return Err(RegisterError::TooManySlots);
         }
-        let number = self.groups.len();
-        let Ok(group) = Group::new(self.alloc, number, props, step_limit) else {
-            return Err(RegisterError::Memory);
-        };
-        if self.groups.reserve(1).is_err() {
+        let number = self.groups.len() as u64;
+        if self.add_group(props, step_limit).is_err() {
             return Err(RegisterError::Memory);
         }
-        if self.tickets.add_group(props.slots).is_err() {
-            return Err(RegisterError::Memory);
-        }
+        Ok(GroupId(number))
+    }
+
+    // A group more, where its slots are within the limit. Its slots come last, when nothing more can be refused.
+    fn add_group(&mut self, props: GroupProps, step_limit: u64) -> Result<(), AllocError>
+        requires props { IsInRange props }
+        requires few_steps { step_limit ≤ 2 ^ 40 }
+        requires within { slots_in self.old.views + props.slots ≤ self.old.slot_limit }
+        ensures added { OnOk result (self.new ≡ record self.old { views = self.old.views ++ view (opened props step_limit) ∷ [] }) }
+        ensures err { OnErr result (self.new ≡ self.old) }
+    {
+        let group = Group::new(self.alloc, self.groups.len(), props, step_limit)?;
+        self.groups.reserve(1)?;
+        self.tickets.add_group(props.slots)?;
         self.groups.push_reserved(group);
-        Ok(GroupId(number as u64))
+        Ok(())
     }
 
     /// One step of its group: the reply is that of the one-group machine, whatever other groups did.
