@@ -1,8 +1,11 @@
 //! All groups, and in an audited book a journal of each.
 
-ghost use Rattle.std.specs.Prelude.{◌≡◌, ◌<◌, List, length, nat_lt, replicate, slice_get, is_some, IfOk, IfErr, IfSome, None, Some, true, false};
+ghost use Rattle.std.specs.Prelude.{◌≡◌, ◌<◌, ℕ, List, length, nat_lt, replicate, slice_get, is_some, IfOk, IfErr, IfSome, None, Some, true, false};
 ghost use Rattle.bh_base.specs.Replies.{is_refusal};
 ghost use Rattle.bh_base.specs.Runs.{View};
+ghost use Rattle.bh_base.specs.declared.step.Op.TheVariants as op;
+ghost use Rattle.bh_base.specs.Seen.{view_reply};
+ghost use Rattle.bh_core.specs.Looks.{is_assigned};
 ghost use Rattle.bh_core.specs.Step.{IsStep};
 ghost use Rattle.bh_journal.specs.Replay.{written};
 ghost use Rattle.bh_audit.specs.Calls.{NeedsNoWait};
@@ -121,7 +124,8 @@ impl Book {
 
     /// Whether a worker of the group has to wait: else a Start would be answered with a run, or refused.
     pub(crate) fn must_wait(&self, group: GroupId) -> bool
-        ensures { result ≡ false → (v : View) → slice_get self.now.groups.views group.0 ≡ Some v → NeedsNoWait v }
+        ensures goes_on { result ≡ false → (v : View) → slice_get self.now.groups.views group.0 ≡ Some v → NeedsNoWait v }
+        ensures waits { result ≡ true → (v : View) (moment : ℕ) → slice_get self.now.groups.views group.0 ≡ Some v → is_assigned (view_reply v op.Start moment) ≡ false }
     {
         if !self.is_registered(group) {
             return false;

@@ -5,10 +5,12 @@ mod account;
 pub mod book;
 pub mod clock;
 pub mod error;
+mod freed;
 mod locked;
 pub mod next;
 pub mod pass;
 pub mod shared;
+mod waiting;
 
 pub use bh_journal::{AuditReport, Marks, Receipt};
 pub use book::Book;

@@ -1,18 +1,22 @@
 //! What the lock guards, and what a thread that has it does there.
 
-ghost use Rattle.std.specs.Prelude.{◌≡◌, ◌≢◌, ◌==◌, ◌<◌, ◌||◌, ℕ, Bool, IfSome, IsNone, None, Some, true, false, length, slice_get};
+ghost use Rattle.std.specs.Prelude.{◌≡◌, ◌≢◌, ◌==◌, ◌<◌, ◌||◌, ℕ, Bool, IfSome, IsNone, OnSome, None, Some, true, false, length, slice_get};
 ghost use Rattle.bh_base.specs.declared.reply.Reply.TheVariants as reply;
 ghost use Rattle.bh_base.specs.declared.step.Op.TheVariants as op;
 ghost use Rattle.bh_base.specs.declared.step.Step.{Step};
 ghost use Rattle.bh_base.specs.Replies.{can_reply, is_refusal};
-ghost use Rattle.bh_base.specs.Runs.{View};
+ghost use Rattle.bh_base.specs.Runs.{View, is_worn};
+ghost use Rattle.bh_base.specs.Seen.{view_reply};
+ghost use Rattle.bh_core.specs.Looks.{is_assigned, is_pending};
 ghost use Rattle.bh_core.specs.Step.{IsStep};
 ghost use Rattle.bh_journal.specs.Passes.{Adds, added, receipt_of};
 ghost use Rattle.bh_audit.specs.Books.{IsAudited, IsWritten};
 ghost use Rattle.bh_audit.specs.Calls.{AddsCollect, AddsExpire, AddsNext, NeedsNoWait, workers_of};
+ghost use Rattle.bh_audit.specs.Waking.{IsEverybody, KeepsWakeUps, frees_by, frees_one, is_told_again};
 
 use crate::book::Book;
 use crate::clock::Clock;
+use crate::freed::{Freed, FreedCallers, Notice, is_told_again};
 use crate::next::Next;
 use crate::pass::Pass;
 use bh_base::{GroupId, GroupProps, Op, Reply, Serial, Step, Strategy};
@@ -35,36 +39,80 @@ impl<const A: u32> Locked<A> {
         self.book.journals_agree();
     }
 
-    /// Makes one step, and writes what it was answered in the pass.
-    pub(crate) fn step(&mut self, pass: &mut Pass, step: Step) -> Reply
+    /// Makes one step, and writes what it was answered in the pass. It says whom the step lets go on.
+    pub(crate) fn step(&mut self, pass: &mut Pass, step: Step) -> (Reply, Freed)
         requires { (A == 1) ≡ true → 0 < pass.old.room }
-        ensures adds { Adds (A == 1) pass.old step result pass.new }
-        ensures groups { IsStep self.old.book.groups step result self.new.book.groups }
-        ensures refused { is_refusal result ≡ true → self.new.book ≡ self.old.book }
-        ensures written { (A == 1) ≡ true → is_refusal result ≡ false → IsWritten self.old.book.journals step.group.0 step result self.new.book.journals }
-        ensures place { (A == 1) ≡ true → is_refusal result ≡ false → (v : View) × (slice_get self.new.book.groups.views step.group.0 ≡ Some v) × (pass.new ≡ added pass.old (receipt_of v.present.steps step result)) }
+        ensures adds { Adds (A == 1) pass.old step result.0 pass.new }
+        ensures groups { IsStep self.old.book.groups step result.0 self.new.book.groups }
+        ensures refused { is_refusal result.0 ≡ true → self.new.book ≡ self.old.book }
+        ensures written { (A == 1) ≡ true → is_refusal result.0 ≡ false → IsWritten self.old.book.journals step.group.0 step result.0 self.new.book.journals }
+        ensures place { (A == 1) ≡ true → is_refusal result.0 ≡ false → (v : View) × (slice_get self.new.book.groups.views step.group.0 ≡ Some v) × (pass.new ≡ added pass.old (receipt_of v.present.steps step result.0)) }
         ensures stopped { self.new.stopped ≡ self.old.stopped }
+        ensures told { KeepsWakeUps self.old.book.groups step.group step.op self.new.book.groups result.1 }
     {
+        let was_startable = self.book.core().startable(step.group);
         let (place, reply) = self.book.apply(step);
+        let freed = self.freed(&step, was_startable);
         let Some(place) = place else {
             mark(pass, &reply);
-            return reply;
+            return (reply, freed);
         };
-        if !self.book.audited() {
-            return reply;
+        if self.book.audited() {
+            receive(pass, place, &step, &reply);
         }
-        receive(pass, place, &step, &reply);
-        reply
+        (reply, freed)
+    }
+
+    /// Whom the step that was just made lets go on. `was_startable` says whether a Start would have been answered with
+    /// a run before it.
+    fn freed(&self, step: &Step, was_startable: bool) -> Freed
+        ensures worker { (v : View) (moment : ℕ) → slice_get self.now.book.groups.views step.entry.now.group.0 ≡ Some v → was_startable ≡ false → is_assigned (view_reply v op.Start moment) ≡ true → frees_one result.workers ≡ true }
+        ensures next_worker { (v : View) (moment : ℕ) → slice_get self.now.book.groups.views step.entry.now.group.0 ≡ Some v → is_told_again step.entry.now.op ≡ true → is_assigned (view_reply v op.Start moment) ≡ true → frees_one result.workers ≡ true }
+        ensures worn { (v : View) → slice_get self.now.book.groups.views step.entry.now.group.0 ≡ Some v → is_worn v.present ≡ true → IsEverybody result }
+        ensures fresh { (v : View) → slice_get self.now.book.groups.views step.entry.now.group.0 ≡ Some v → is_worn v.present ≡ false → result.callers ≡ frees_by step.entry.now.op }
+    {
+        if self.book.core().worn(step.group) {
+            return Freed::everybody();
+        }
+        let callers = FreedCallers::after(&step.op);
+        if !self.book.core().startable(step.group) {
+            return Freed {
+                workers: Notice::Nobody,
+                callers,
+            };
+        }
+        if was_startable && !is_told_again(&step.op) {
+            return Freed {
+                workers: Notice::Nobody,
+                callers,
+            };
+        }
+        Freed {
+            workers: Notice::One,
+            callers,
+        }
+    }
+
+    /// Sets the stop mark, by which everybody goes on.
+    pub(crate) fn stop(&mut self) -> Freed
+        ensures stopped { self.new.stopped ≡ true }
+        ensures book { self.new.book ≡ self.old.book }
+        ensures told { IsEverybody result }
+    {
+        self.stopped = true;
+        Freed::everybody()
     }
 }
 
 impl<const A: u32> Locked<A> {
     /// What a worker of the pass's group is told now; None where it has to wait. Then nothing has changed.
-    pub(crate) fn try_next<C: Clock>(&mut self, pass: &mut Pass, clock: &C) -> Option<Next>
+    pub(crate) fn try_next<C: Clock>(&mut self, pass: &mut Pass, clock: &C) -> Option<(Next, Freed)>
         requires { (A == 1) ≡ true → 0 < pass.old.room }
-        ensures adds { IfSome result (λ n. AddsNext C.moments (A == 1) pass.old n pass.new) }
-        ensures told { result ≡ Some Next.Stopped → self.old.stopped ≡ true }
-        ensures registered { result ≡ Some Next.Stopped → pass.old.group.0 < length self.old.book.groups.views }
+        ensures adds { IfSome result (λ n. AddsNext C.moments (A == 1) pass.old n.0 pass.new) }
+        ensures told { IfSome result (λ n. n.0 ≡ Next.Stopped → self.old.stopped ≡ true) }
+        ensures registered { IfSome result (λ n. n.0 ≡ Next.Stopped → pass.old.group.0 < length self.old.book.groups.views) }
+        ensures waits { IsNone result → (v : View) (moment : ℕ) → slice_get self.old.book.groups.views pass.old.group.0 ≡ Some v → is_assigned (view_reply v op.Start moment) ≡ false }
+        ensures wakes { IfSome result (λ n. n.0 ≢ Next.Stopped → KeepsWakeUps self.old.book.groups pass.old.group op.Start self.new.book.groups n.1) }
         ensures pass { IsNone result → pass.new ≡ pass.old }
         ensures book { IsNone result → self.new.book ≡ self.old.book }
         ensures stopped { self.new.stopped ≡ self.old.stopped }
@@ -72,7 +120,7 @@ impl<const A: u32> Locked<A> {
         let group = pass.group();
         if self.stopped && self.book.is_registered(group) {
             pass.mark_stopped();
-            return Some(Next::Stopped);
+            return Some((Next::Stopped, Freed::nobody()));
         }
         if self.book.must_wait(group) {
             return None;
@@ -81,22 +129,28 @@ impl<const A: u32> Locked<A> {
     }
 
     /// Makes a Start that is answered with a run, or refused.
-    fn start<C: Clock>(&mut self, pass: &mut Pass, clock: &C) -> Next
+    fn start<C: Clock>(&mut self, pass: &mut Pass, clock: &C) -> (Next, Freed)
         requires room { (A == 1) ≡ true → 0 < pass.old.room }
         requires ready { (v : View) → slice_get self.old.book.groups.views pass.old.group.0 ≡ Some v → NeedsNoWait v }
-        ensures adds { AddsNext C.moments (A == 1) pass.old result pass.new }
-        ensures told { result ≢ Next.Stopped }
+        ensures adds { AddsNext C.moments (A == 1) pass.old result.0 pass.new }
+        ensures told { result.0 ≢ Next.Stopped }
+        ensures wakes { KeepsWakeUps self.old.book.groups pass.old.group op.Start self.new.book.groups result.1 }
         ensures stopped { self.new.stopped ≡ self.old.stopped }
     {
         let group = pass.group();
         let now = clock.now();
         let op = Op::Start;
-        match self.step(pass, Step { group, now, op }) {
-            Reply::Assigned { serial, arg } => Next::Assigned { serial, arg },
+        let (reply, freed) = self.step(pass, Step { group, now, op });
+        let next = match &reply {
+            Reply::Assigned { serial, arg } => Next::Assigned {
+                serial: *serial,
+                arg: *arg,
+            },
             Reply::Worn => Next::Worn,
             Reply::NoGroup => Next::NoGroup,
             _ => unreachable!(),
-        }
+        };
+        (next, freed)
     }
 
     /// Makes a Collect of the serial, unless it would be answered `Pending` and the service is not stopped. Then it
@@ -106,11 +160,14 @@ impl<const A: u32> Locked<A> {
         pass: &mut Pass,
         serial: Serial,
         clock: &C,
-    ) -> Option<Reply>
+    ) -> Option<(Reply, Freed)>
         requires { (A == 1) ≡ true → 0 < pass.old.room }
-        ensures adds { IfSome result (λ r. AddsCollect C.moments (A == 1) pass.old serial r pass.new) }
-        ensures kinds { IfSome result (λ r. can_reply (op.Collect serial) r ≡ true) }
-        ensures told { result ≡ Some reply.Pending → self.old.stopped ≡ true }
+        ensures adds { IfSome result (λ r. AddsCollect C.moments (A == 1) pass.old serial r.0 pass.new) }
+        ensures kinds { IfSome result (λ r. can_reply (op.Collect serial) r.0 ≡ true) }
+        ensures told { IfSome result (λ r. r.0 ≡ reply.Pending → self.old.stopped ≡ true) }
+        ensures waits { IsNone result → (v : View) (moment : ℕ) → slice_get self.old.book.groups.views pass.old.group.0 ≡ Some v → is_pending (view_reply v (op.Collect serial) moment) ≡ true }
+        ensures waits_on { IsNone result → self.old.stopped ≡ false }
+        ensures wakes { IfSome result (λ r. KeepsWakeUps self.old.book.groups pass.old.group (op.Collect serial) self.new.book.groups r.1) }
         ensures pass { IsNone result → pass.new ≡ pass.old }
         ensures book { IsNone result → self.new.book ≡ self.old.book }
         ensures stopped { self.new.stopped ≡ self.old.stopped }
@@ -121,28 +178,30 @@ impl<const A: u32> Locked<A> {
         }
         let now = clock.now();
         let op = Op::Collect { serial };
-        let reply = self.step(pass, Step { group, now, op });
+        let (reply, freed) = self.step(pass, Step { group, now, op });
         if matches!(reply, Reply::Pending) {
             pass.mark_stopped();
         }
-        Some(reply)
+        Some((reply, freed))
     }
 
     /// Makes an Expire where a ticket is due, and says how many timed out.
-    pub(crate) fn expire<C: Clock>(&mut self, pass: &mut Pass, clock: &C) -> Option<u64>
+    pub(crate) fn expire<C: Clock>(&mut self, pass: &mut Pass, clock: &C) -> (Option<u64>, Freed)
         requires { (A == 1) ≡ true → 0 < pass.old.room }
-        ensures adds { AddsExpire C.moments (A == 1) pass.old result pass.new }
-        ensures book { IsNone result → self.new.book ≡ self.old.book }
+        ensures adds { AddsExpire C.moments (A == 1) pass.old result.0 pass.new }
+        ensures book { IsNone result.0 → self.new.book ≡ self.old.book }
         ensures stopped { self.new.stopped ≡ self.old.stopped }
+        ensures wakes { OnSome result.0 (KeepsWakeUps self.old.book.groups pass.old.group op.Expire self.new.book.groups result.1) }
     {
         let group = pass.group();
         let now = clock.now();
         if !self.book.core().due(group, now) {
-            return None;
+            return (None, Freed::nobody());
         }
         let op = Op::Expire;
-        match self.step(pass, Step { group, now, op }) {
-            Reply::Expired(number) => Some(number),
+        let (reply, freed) = self.step(pass, Step { group, now, op });
+        match &reply {
+            Reply::Expired(number) => (Some(*number), freed),
             _ => unreachable!(),
         }
     }
@@ -166,9 +225,9 @@ pub(crate) fn next_in<const A: u32, R: Wait, C: Clock>(
     changed: Option<&Condvar>,
     pass: &mut Pass,
     clock: &C,
-) -> Next
+) -> (Next, Freed)
     requires { (A == 1) ≡ true → 0 < pass.old.room }
-    ensures { AddsNext C.moments (A == 1) pass.old result pass.new }
+    ensures { AddsNext C.moments (A == 1) pass.old result.0 pass.new }
 {
     let mut guard = lock.lock(rt);
     for _ in rt.forever() {
@@ -188,10 +247,10 @@ pub(crate) fn await_in<const A: u32, R: Wait, C: Clock>(
     pass: &mut Pass,
     serial: Serial,
     clock: &C,
-) -> Reply
+) -> (Reply, Freed)
     requires { (A == 1) ≡ true → 0 < pass.old.room }
-    ensures adds { AddsCollect C.moments (A == 1) pass.old serial result pass.new }
-    ensures kinds { can_reply (op.Collect serial) result ≡ true }
+    ensures adds { AddsCollect C.moments (A == 1) pass.old serial result.0 pass.new }
+    ensures kinds { can_reply (op.Collect serial) result.0 ≡ true }
 {
     let mut guard = lock.lock(rt);
     for _ in rt.forever() {
@@ -221,10 +280,10 @@ pub(crate) fn step_in<const A: u32, R: Wait>(
     lock: &Mutex<Locked<A>>,
     pass: &mut Pass,
     step: Step,
-) -> Reply
+) -> (Reply, Freed)
     requires { (A == 1) ≡ true → 0 < pass.old.room }
-    ensures adds { Adds (A == 1) pass.old step result pass.new }
-    ensures kinds { can_reply step.op result ≡ true }
+    ensures adds { Adds (A == 1) pass.old step result.0 pass.new }
+    ensures kinds { can_reply step.op result.0 ≡ true }
 {
     lock.lock(rt).step(pass, step)
 }
@@ -235,16 +294,18 @@ pub(crate) fn expire_in<const A: u32, R: Wait, C: Clock>(
     lock: &Mutex<Locked<A>>,
     pass: &mut Pass,
     clock: &C,
-) -> Option<u64>
+) -> (Option<u64>, Freed)
     requires { (A == 1) ≡ true → 0 < pass.old.room }
-    ensures { AddsExpire C.moments (A == 1) pass.old result pass.new }
+    ensures { AddsExpire C.moments (A == 1) pass.old result.0 pass.new }
 {
     lock.lock(rt).expire(pass, clock)
 }
 
-/// Sets the stop mark.
-pub(crate) fn stop_in<const A: u32, R: Wait>(rt: &R, lock: &Mutex<Locked<A>>) {
-    lock.lock(rt).stopped = true;
+/// Sets the stop mark under the lock.
+pub(crate) fn stop_in<const A: u32, R: Wait>(rt: &R, lock: &Mutex<Locked<A>>) -> Freed
+    ensures { IsEverybody result }
+{
+    lock.lock(rt).stop()
 }
 
 /// Reads the stop mark.

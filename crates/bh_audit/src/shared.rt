@@ -15,16 +15,18 @@ use crate::account::audit;
 use crate::book::Book;
 use crate::clock::Clock;
 use crate::error::AuditError;
+use crate::freed::Freed;
 use crate::locked::{
     Locked, await_in, expire_in, groups_in, next_in, step_in, stop_in, stopped_in, workers_in,
 };
 use crate::next::{Next, PassError, StepError};
 use crate::pass::Pass;
+use crate::waiting::Waiting;
 use bh_base::{GroupId, Reply, Serial, Step};
 use bh_journal::AuditReport;
 use std::alloc::{AllocError, Global};
 use std::marker::Model;
-use std::sync::{Condvar, Mutex, Wait};
+use std::sync::{Mutex, Wait};
 
 /// The lock of an audited book, or of another.
 #[derive(Drop)]
@@ -44,8 +46,8 @@ enum Lock {
 #[derive(Drop)]
 pub struct Shared {
     lock: Lock,
-    /// One for each group: told of each change in it that may let a call go on.
-    changed: Vec<Condvar>,
+    /// One for each group.
+    waiting: Vec<Waiting>,
 }
 
 impl Model for Shared {
@@ -54,7 +56,7 @@ impl Model for Shared {
 
     ghost Value = { ServiceView };
 
-    ghost view = { λ s. record { audited = is_audited s.lock; groups = vec_len s.changed } };
+    ghost view = { λ s. record { audited = is_audited s.lock; groups = vec_len s.waiting } };
 }
 
 impl Shared {
@@ -64,10 +66,10 @@ impl Shared {
         ensures groups { IfOk result (λ s. s.groups ≡ length book.groups.views) }
         ensures err { IfErr result (λ e. e.0 ≡ book) }
     {
-        match condvars(alloc, book.core().groups()) {
-            Ok(changed) => Ok(Shared {
+        match all_waiting(alloc, book.core().groups()) {
+            Ok(waiting) => Ok(Shared {
                 lock: lock_of(book),
-                changed,
+                waiting,
             }),
             Err(error) => Err((book, error)),
         }
@@ -92,7 +94,7 @@ impl Shared {
         ensures unknown { (result ≡ Err NoGroup) ↔ (self.now.groups ≤ group.0) }
         ensures memory { result ≡ Err Memory → self.now.audited ≡ true }
     {
-        if group.0 >= self.changed.len() as u64 {
+        if group.0 >= self.waiting.len() as u64 {
             return Err(PassError::NoGroup);
         }
         let room = if self.audited() { room } else { 0 };
@@ -120,11 +122,8 @@ impl Shared {
             return Err(StepError::PassFull);
         }
         let group = pass.group();
-        let reply = match &self.lock {
-            Lock::Audited(lock) => step_in(rt, lock, pass, step),
-            Lock::Plain(lock) => step_in(rt, lock, pass, step),
-        };
-        self.wake(group);
+        let (reply, freed) = self.make(rt, pass, step);
+        self.wake(group, &freed);
         Ok(reply)
     }
 
@@ -151,13 +150,13 @@ impl Shared {
             return Err(StepError::PassFull);
         }
         let group = pass.group();
-        let changed = self.condvar(group);
-        let next = match &self.lock {
-            Lock::Audited(lock) => next_in(rt, lock, changed, pass, clock),
-            Lock::Plain(lock) => next_in(rt, lock, changed, pass, clock),
+        let idle = self.waiting_at(group).map(|waiting| waiting.workers());
+        let told = match &self.lock {
+            Lock::Audited(lock) => next_in(rt, lock, idle, pass, clock),
+            Lock::Plain(lock) => next_in(rt, lock, idle, pass, clock),
         };
-        self.wake(group);
-        Ok(next)
+        self.wake(group, &told.1);
+        Ok(told.0)
     }
 
     /// Waits while a Collect of the serial would be answered `Pending` and the service is not stopped, and then makes
@@ -184,13 +183,15 @@ impl Shared {
             return Err(StepError::PassFull);
         }
         let group = pass.group();
-        let changed = self.condvar(group);
-        let reply = match &self.lock {
-            Lock::Audited(lock) => await_in(rt, lock, changed, pass, serial, clock),
-            Lock::Plain(lock) => await_in(rt, lock, changed, pass, serial, clock),
+        let callers = self
+            .waiting_at(group)
+            .map(|waiting| waiting.callers_of(serial));
+        let told = match &self.lock {
+            Lock::Audited(lock) => await_in(rt, lock, callers, pass, serial, clock),
+            Lock::Plain(lock) => await_in(rt, lock, callers, pass, serial, clock),
         };
-        self.wake(group);
-        Ok(reply)
+        self.wake(group, &told.1);
+        Ok(told.0)
     }
 
     /// Makes an Expire where a ticket of the pass's group is due and the group is not worn, and says how many tickets
@@ -214,24 +215,22 @@ impl Shared {
             return Err(StepError::PassFull);
         }
         let group = pass.group();
-        let expired = match &self.lock {
+        let expiry = match &self.lock {
             Lock::Audited(lock) => expire_in(rt, lock, pass, clock),
             Lock::Plain(lock) => expire_in(rt, lock, pass, clock),
         };
-        if expired.is_some() {
-            self.wake(group);
-        }
-        Ok(expired)
+        self.wake(group, &expiry.1);
+        Ok(expiry.0)
     }
 
     /// Stops the service: workers and callers that wait go on at once, and later ones do not wait.
     pub fn stop<R: Wait>(&self, rt: &R) {
-        match &self.lock {
+        let freed = match &self.lock {
             Lock::Audited(lock) => stop_in(rt, lock),
             Lock::Plain(lock) => stop_in(rt, lock),
-        }
-        for changed in &self.changed {
-            changed.notify_all();
+        };
+        for waiting in &self.waiting {
+            waiting.tell(&freed);
         }
     }
 
@@ -269,7 +268,7 @@ impl Shared {
         ensures not_audited { (result ≡ Err NotAudited) ↔ (self.audited ≡ false) }
         ensures says { FinishSays passes.items result }
     {
-        let Shared { lock, changed: _ } = self;
+        let Shared { lock, waiting: _ } = self;
         match lock {
             Lock::Audited(lock) => audit(alloc, lock.into_inner(), &passes),
             Lock::Plain(_) => Err(AuditError::NotAudited),
@@ -285,15 +284,27 @@ impl Shared {
         self.audited() && pass.room_left() < receipts
     }
 
-    /// The condition variable of the group, where it is registered.
-    fn condvar(&self, group: GroupId) -> Option<&Condvar> {
-        self.changed.get(group.0 as usize)
+    /// Makes one step, and says whom it lets go on.
+    fn make<R: Wait>(&self, rt: &R, pass: &mut Pass, step: Step) -> (Reply, Freed)
+        requires { self.now.audited ≡ true → 0 < pass.old.room }
+        ensures adds { Adds self.now.audited pass.old step result.0 pass.new }
+        ensures kinds { can_reply step.op result.0 ≡ true }
+    {
+        match &self.lock {
+            Lock::Audited(lock) => step_in(rt, lock, pass, step),
+            Lock::Plain(lock) => step_in(rt, lock, pass, step),
+        }
     }
 
-    /// Wakes all who wait in the group.
-    fn wake(&self, group: GroupId) {
-        if let Some(changed) = self.condvar(group) {
-            changed.notify_all();
+    /// Where calls of the group wait, where it is registered.
+    fn waiting_at(&self, group: GroupId) -> Option<&Waiting> {
+        self.waiting.get(group.0 as usize)
+    }
+
+    /// Notifies those of the group whom a step lets go on. The lock is given up by then.
+    fn wake(&self, group: GroupId, freed: &Freed) {
+        if let Some(waiting) = self.waiting_at(group) {
+            waiting.tell(freed);
         }
     }
 }
@@ -315,13 +326,13 @@ fn lock_of(book: Book) -> Lock
     }
 }
 
-/// So many condition variables.
-fn condvars(alloc: Global, count: u64) -> Result<Vec<Condvar>, AllocError>
+/// For so many groups, where their calls wait.
+fn all_waiting(alloc: Global, count: u64) -> Result<Vec<Waiting>, AllocError>
     ensures { IfOk result (λ all. vec_len all ≡ count) }
 {
     let mut all = Vec::new(alloc);
     for made in 0..count {
-        all.push(Condvar::new())?;
+        all.push(Waiting::new())?;
     }
     Ok(all)
 }

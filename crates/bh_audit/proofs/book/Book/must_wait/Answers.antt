@@ -6,7 +6,7 @@ use Rattle.bh_audit.specs.Books.{BookView}
 use Rattle.bh_audit.proofs.Looking.{or_right}
 use Rattle.bh_audit.proofs.book.Book.must_wait.Goals as goal
 
-pub returns-then-worn : goal.returns-then-worn
-returns-then-worn c = λ goes_on v at moment.
+pub returns-then-worn-clause-goes_on : goal.returns-then-worn-clause-goes_on
+returns-then-worn-clause-goes_on c = λ goes_on v at moment.
     or_right (is_assigned (view_reply v op.Start moment)) (is_worn_out (view_reply v op.Start moment))
     (sym (c.worn.ensures.known v op.Start moment (rw (ap (λ (b : BookView). b.groups) c.self.view_is) at)) ∙ c.if-worn.true)

@@ -8,8 +8,8 @@ pub returns-clause-told : goal.returns-clause-told
 returns-clause-told g c = λ is.
     elim c.else-not-self.branch [
       | else-not-self-via-then-not-self+else-pending w ↦
-          let waits : c.step-reply.result ≡ reply.Pending = cc in
-          absurd (collects c.args.self.now.book.groups _ c.group-group.result c.args.serial c.now-now.result c.step-reply.result w.pending.result c.step-reply.ensures.groups w.if-pending.false
+          let waits : c.step-reply.result.0 ≡ reply.Pending = is in
+          absurd (collects c.args.self.now.book.groups _ c.group-group.result c.args.serial c.now-now.result c.step-reply.result.0 w.pending.result c.step-reply.ensures.groups w.if-pending.false
           (rw w.core.ensures at w.pending.ensures.known) waits)
       | else-not-self-via-else-not-self w ↦ w.if-not-self.false
     ]

@@ -1,0 +1,94 @@
+//! Whom a step lets go on, of those that wait in its group.
+
+ghost use Rattle.std.specs.Prelude.{◌≡◌, ℕ, ◌%◌, true};
+ghost use Rattle.bh_audit.specs.Waking.{IsEverybody, frees_by, frees_caller, is_told_again};
+
+use bh_base::{Op, Serial};
+
+/// How many are notified of those that wait at one condition variable.
+#[derive(Clone, Copy, Debug, PartialEq, Eq)]
+pub enum Notice {
+    Nobody,
+    One,
+    All,
+}
+
+/// Which waiting callers a step lets go on. Each waits for the ticket of a serial.
+#[derive(Clone, Copy, Debug, PartialEq, Eq)]
+pub enum FreedCallers {
+    Nobody,
+    /// All that wait for the ticket of the serial.
+    Of(Serial),
+    All,
+}
+
+/// Whom a step lets go on. All idle workers of a group wait for the same, so one is as good as another.
+#[derive(Clone, Copy, Debug, PartialEq, Eq)]
+pub struct Freed {
+    pub workers: Notice,
+    pub callers: FreedCallers,
+}
+
+impl Freed {
+    /// Everybody that waits in the group.
+    pub(crate) fn everybody() -> Freed
+        ensures { IsEverybody result }
+    {
+        Freed {
+            workers: Notice::All,
+            callers: FreedCallers::All,
+        }
+    }
+
+    /// Nobody, where no step was made.
+    pub(crate) fn nobody() -> Freed {
+        Freed {
+            workers: Notice::Nobody,
+            callers: FreedCallers::Nobody,
+        }
+    }
+}
+
+impl FreedCallers {
+    /// The callers whose wait a step of the operation can end, where the group is not worn after it.
+    pub(crate) fn after(op: &Op) -> FreedCallers
+        ensures { result ≡ frees_by op.now }
+    {
+        match op {
+            Op::Finish { serial, .. } | Op::Fail { serial, .. } | Op::FallbackDone { serial, .. } =>
+                { FreedCallers::Of(*serial) }
+            Op::Expire => FreedCallers::All,
+            Op::Submit(_) | Op::Start | Op::Collect { .. } | Op::Close { .. } | Op::Read => {
+                FreedCallers::Nobody
+            }
+        }
+    }
+
+    /// How many are notified of those that wait at the place: all, where one of them is let go on.
+    pub(crate) fn at(self, place: u64) -> Notice
+        ensures { (serial : ℕ) → serial % 8 ≡ place → frees_caller self serial ≡ true → result ≡ Notice.All }
+    {
+        match self {
+            FreedCallers::Nobody => Notice::Nobody,
+            FreedCallers::Of(serial) if place_of(serial) != place => Notice::Nobody,
+            FreedCallers::Of(_) | FreedCallers::All => Notice::All,
+        }
+    }
+}
+
+/// The place, of eight, at which callers wait for the ticket of the serial.
+pub(crate) fn place_of(serial: Serial) -> u64
+    ensures { result ≡ serial % 8 }
+{
+    serial % 8
+}
+
+/// Whether a worker is told after the operation wherever one would get a run, also where one was told before.
+///
+/// A request that was queued brings a worker of its own: whoever was to tell one before may not have come to it yet.
+/// A worker that took a run tells the next one.
+pub(crate) fn is_told_again(op: &Op) -> bool
+    ensures { result ≡ is_told_again op.now }
+{
+    matches!(op, Op::Submit(_) | Op::Start)
+}
