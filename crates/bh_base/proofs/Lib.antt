@@ -16,3 +16,4 @@ pub mod Answering
 pub mod Refusing
 pub mod Bounded
 pub mod Few
+pub mod OneMore

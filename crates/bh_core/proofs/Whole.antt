@@ -7,16 +7,9 @@ use Rattle.bh_base.specs.declared.step.Step.{Step}
 use Rattle.bh_base.specs.declared.reply.Reply.{Reply}
 use Rattle.bh_base.specs.declared.reply.Reply.TheVariants.{NoGroup}
 use Rattle.bh_base.specs.Runs.{State, step, replies, state_after, own}
+use Rattle.bh_base.proofs.OneMore.{replies-push, state_after-push, own-push, own-push_same, own-push_other}
 use Rattle.bh_core.specs.Groups.{Groups, Shows, own_replies}
 use Rattle.bh_core.specs.Step.{IsStep}
-
-pub replies-push : (s : State) (xs : List Step) (x : Step) → replies s (xs ++ x ∷ []) ≡ replies s xs ++ (step (state_after s xs) x.op x.now).reply ∷ []
-replies-push s [] x = refl
-replies-push s (y ∷ ys) x = ap (λ rs. (step s y.op y.now).reply ∷ rs) (replies-push (step s y.op y.now).state ys x)
-
-pub state_after-push : (s : State) (xs : List Step) (x : Step) → state_after s (xs ++ x ∷ []) ≡ (step (state_after s xs) x.op x.now).state
-state_after-push s [] x = refl
-state_after-push s (y ∷ ys) x = state_after-push (step s y.op y.now).state ys x
 
 -- what a step adds to the own replies of a group
 abbrev added : Bool → Reply → List Reply
@@ -36,16 +29,6 @@ own_replies-push group (y ∷ ys) x (q ∷ qs) r same =
     front : (b z : Bool) → own_replies group (ys ++ x ∷ []) (qs ++ r ∷ []) ≡ own_replies group ys qs ++ added z r → (if b then q ∷ own_replies group (ys ++ x ∷ []) (qs ++ r ∷ []) else own_replies group (ys ++ x ∷ []) (qs ++ r ∷ [])) ≡ (if b then q ∷ own_replies group ys qs else own_replies group ys qs) ++ added z r
     front true z e = ap (λ us. q ∷ us) e
     front false z e = e
-
--- the own steps of a group with one more step behind
-pub own-push : (group : ℕ) (xs : List Step) (x : Step) → own group (xs ++ x ∷ []) ≡ own group xs ++ (if x.group.0 == group then x ∷ [] else [])
-own-push group xs x = filter-append (λ y. y.group.0 == group) xs (x ∷ [])
-
-pub own-push_same : (group : ℕ) (xs : List Step) (x : Step) → (x.group.0 == group) ≡ true → own group (xs ++ x ∷ []) ≡ own group xs ++ x ∷ []
-own-push_same group xs x test = own-push group xs x ∙ ap (λ b. own group xs ++ (if b then x ∷ [] else [])) test
-
-pub own-push_other : (group : ℕ) (xs : List Step) (x : Step) → (x.group.0 == group) ≡ false → own group (xs ++ x ∷ []) ≡ own group xs
-own-push_other group xs x test = own-push group xs x ∙ ap (λ b. own group xs ++ (if b then x ∷ [] else [])) test ∙ append-nil (own group xs)
 
 -- so far the group was told what its machine tells, and shows its state
 pub record GoesAs (group : ℕ) (s : State) (xs : List Step) (rs : List Reply) (now : Groups) : Type 0 where

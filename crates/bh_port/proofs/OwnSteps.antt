@@ -2,43 +2,36 @@
 use Rattle.std.proofs.Common.{◌≡◌, ◌≢◌, ℕ, ◌<◌, Bool, true, false, List, [], ◌∷◌, ◌++◌, length, Some, refl, sym, ◌∙◌, ap, subst, arith, rules, append-nil, zero, suc}
 use Rattle.std.specs.Prelude.{◌==◌, slice_get, map, if◌then◌else◌}
 use Rattle.std.proofs.lemmas.Bool.Decides.{nat_tests}
-use Rattle.std.proofs.lemmas.List.Elements.{filter-append}
 use Rattle.bh_base.specs.declared.props.GroupProps.{GroupProps}
 use Rattle.bh_base.specs.declared.step.Step.{Step}
 use Rattle.bh_base.specs.declared.reply.Reply.{Reply}
 use Rattle.bh_base.specs.Runs.{State, View, IsSound, view, opened, step, state_after, own}
+use Rattle.bh_base.proofs.OneMore.{state_after-push, own-push_same, own-push_other}
 use Rattle.bh_core.specs.Groups.{Groups, Shows}
 use Rattle.bh_core.specs.Step.{IsStep}
-use Rattle.bh_props.specs.Settings.{GroupSettings}
+use Rattle.bh_props.specs.SettingsView.{SettingsView}
 use Rattle.bh_port.specs.Text.{step_limit}
 use Rattle.bh_port.specs.Text.{opened_group, group_after, reply_of, reply_to}
 use Rattle.bh_port.specs.Script.{GroupsShow}
 
-state_after-push : (s : State) (xs : List Step) (x : Step) → state_after s (xs ++ x ∷ []) ≡ (step (state_after s xs) x.op x.now).state
-state_after-push s [] x = refl
-state_after-push s (y ∷ ys) x = state_after-push (step s y.op y.now).state ys x
-
-own-push : (group : ℕ) (xs : List Step) (x : Step) → own group (xs ++ x ∷ []) ≡ own group xs ++ (if x.group.0 == group then x ∷ [] else [])
-own-push group xs x = filter-append (λ y. y.group.0 == group) xs (x ∷ [])
-
-group_after-own : (service : GroupSettings) (props : GroupProps) (group : ℕ) (xs : List Step) (x : Step) → (x.group.0 == group) ≡ true
+group_after-own : (service : SettingsView) (props : GroupProps) (group : ℕ) (xs : List Step) (x : Step) → (x.group.0 == group) ≡ true
     → group_after service props group (xs ++ x ∷ []) ≡ (step (group_after service props group xs) x.op x.now).state
 unfolding group_after
 group_after-own service props group xs x test =
     let s : State = opened_group service props in
-    let mine : own group (xs ++ x ∷ []) ≡ own group xs ++ x ∷ [] = own-push group xs x ∙ ap (λ b. own group xs ++ (if b then x ∷ [] else [])) test in
+    let mine : own group (xs ++ x ∷ []) ≡ own group xs ++ x ∷ [] = own-push_same group xs x test in
     ap (state_after s) mine ∙ state_after-push s (own group xs) x
 
-group_after-other : (service : GroupSettings) (props : GroupProps) (group : ℕ) (xs : List Step) (x : Step) → (x.group.0 == group) ≡ false
+group_after-other : (service : SettingsView) (props : GroupProps) (group : ℕ) (xs : List Step) (x : Step) → (x.group.0 == group) ≡ false
     → group_after service props group (xs ++ x ∷ []) ≡ group_after service props group xs
 unfolding group_after
 group_after-other service props group xs x test =
     let s : State = opened_group service props in
-    let mine : own group (xs ++ x ∷ []) ≡ own group xs = own-push group xs x ∙ ap (λ b. own group xs ++ (if b then x ∷ [] else [])) test ∙ append-nil (own group xs) in
+    let mine : own group (xs ++ x ∷ []) ≡ own group xs = own-push_other group xs x test in
     ap (state_after s) mine
 
 -- after one step more the groups show one step more
-pub agrees-after : (service : GroupSettings) (old new : Groups) (xs : List Step) (x : Step) (r : Reply) → GroupsShow service old xs → IsStep old x r new → GroupsShow service new (xs ++ x ∷ [])
+pub agrees-after : (service : SettingsView) (old new : Groups) (xs : List Step) (x : Step) (r : Reply) → GroupsShow service old xs → IsStep old x r new → GroupsShow service new (xs ++ x ∷ [])
 agrees-after service old new xs x r agrees applied = record { shows = λ group g there. at group g there (x.group.0 == group) refl }
   where
     at : (group : ℕ) (g : List ℕ × GroupProps) → slice_get service.groups group ≡ Some g → (b : Bool) → (x.group.0 == group) ≡ b
@@ -62,7 +55,7 @@ slice_get-within (x ∷ xs) zero inside = (x, refl)
 slice_get-within (x ∷ xs) (suc i) inside = slice_get-within xs i (omega arith)
 
 -- the reply of the groups is the one that the definition has
-pub reply_to-shown : (service : GroupSettings) (core : Groups) (xs : List Step) (x : Step) (r : Reply) → x.group.0 < length service.groups → GroupsShow service core xs
+pub reply_to-shown : (service : SettingsView) (core : Groups) (xs : List Step) (x : Step) (r : Reply) → x.group.0 < length service.groups → GroupsShow service core xs
     → ((s : State) → Shows core x.group.0 s → r ≡ (step s x.op x.now).reply) → r ≡ reply_to service xs x
 unfolding reply_to
 reply_to-shown service core xs x r inside agrees replies =
@@ -72,7 +65,7 @@ reply_to-shown service core xs x r inside agrees replies =
 -- groups that are opened one after the other
 
 -- the view of a new group
-abbrev pub opened_view : GroupSettings → List ℕ × GroupProps → View
+abbrev pub opened_view : SettingsView → List ℕ × GroupProps → View
 opened_view service g = view (opened_group service g.1)
 
 map-push : {X Y : Type 0} (f : X → Y) (xs : List X) (x : X) → map f (xs ++ x ∷ []) ≡ map f xs ++ f x ∷ []
@@ -85,18 +78,18 @@ slice_get-map f (y ∷ ys) zero x is = let e : Some y ≡ Some x = is in let sam
 slice_get-map f (y ∷ ys) (suc i) x is = slice_get-map f ys i x is
 
 -- one more group stands
-pub open-more : (service : GroupSettings) (done : List (List ℕ × GroupProps)) (g : List ℕ × GroupProps) (old new : Groups) (limit : ℕ)
+pub open-more : (service : SettingsView) (done : List (List ℕ × GroupProps)) (g : List ℕ × GroupProps) (old new : Groups) (limit : ℕ)
     → limit ≡ step_limit service.audit_steps → old.views ≡ map (opened_view service) done → new.views ≡ old.views ++ view (opened g.1 limit) ∷ []
     → new.views ≡ map (opened_view service) (done ++ g ∷ [])
 open-more service done g old new limit is was added =
     added ∙ ap (λ vs. vs ++ view (opened g.1 limit) ∷ []) was ∙ ap (λ n. map (opened_view service) done ++ view (opened g.1 n) ∷ []) is ∙ sym (map-push (opened_view service) done g)
 
-group_after-none : (service : GroupSettings) (props : GroupProps) (group : ℕ) → group_after service props group [] ≡ opened_group service props
+group_after-none : (service : SettingsView) (props : GroupProps) (group : ℕ) → group_after service props group [] ≡ opened_group service props
 unfolding group_after
 group_after-none service props group = refl
 
 -- all groups stand, and are new
-pub agrees-opened : (service : GroupSettings) (core : Groups) → core.views ≡ map (opened_view service) service.groups → GroupsShow service core []
+pub agrees-opened : (service : SettingsView) (core : Groups) → core.views ≡ map (opened_view service) service.groups → GroupsShow service core []
 agrees-opened service core is = record {
   shows = λ group g there.
       subst (Shows core group) (sym (group_after-none service g.1 group)) (record {
@@ -105,5 +98,5 @@ agrees-opened service core is = record {
       });
 }
   where
-    opened-sound : (s : GroupSettings) (props : GroupProps) → IsSound (opened_group s props)
+    opened-sound : (s : SettingsView) (props : GroupProps) → IsSound (opened_group s props)
     opened-sound s props = search rules

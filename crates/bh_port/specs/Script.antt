@@ -4,7 +4,7 @@ use Rattle.std.specs.Io.KnownBytes.{Appends}
 use Rattle.bh_base.specs.declared.props.GroupProps.{GroupProps}
 use Rattle.bh_base.specs.declared.step.Step.{Step}
 use Rattle.bh_core.specs.Groups.{Groups, Shows}
-use Rattle.bh_props.specs.Settings.{GroupSettings}
+use Rattle.bh_props.specs.SettingsView.{SettingsView}
 use Rattle.bh_lines.specs.declared.port_error.PortError.{PortError}
 use Rattle.bh_lines.specs.declared.port_error.PortError.TheVariants.{Read, Write, Line, Memory}
 use Rattle.bh_lines.specs.Lines.{Cut, cut, stops, has_line}
@@ -13,16 +13,16 @@ use Rattle.bh_streams.specs.Watched.{WritesFront}
 use Rattle.bh_port.specs.Text.{names_in, group_after, answer_to, steps_with, text}
 
 -- each group of the service looks as after its own steps of these
-pub record GroupsShow (service : GroupSettings) (core : Groups) (steps : List Step) : Type 0 where
+pub record GroupsShow (service : SettingsView) (core : Groups) (steps : List Step) : Type 0 where
   pub shows : (group : ℕ) (g : List ℕ × GroupProps) → slice_get service.groups group ≡ Some g → Shows core group (group_after service g.1 group steps)
 
 -- the line that answers the line stands behind what was there, and the groups did the step that it says, if any
-pub record AnswersLine (service : GroupSettings) (before : List Step) (bytes : List ℕ) (core : Groups) (old new : List ℕ) : Type 0 where
+pub record AnswersLine (service : SettingsView) (before : List Step) (bytes : List ℕ) (core : Groups) (old new : List ℕ) : Type 0 where
   pub wrote : new ≡ old ++ answer_to service before (line_step (names_in service) bytes)
   pub agrees : GroupsShow service core (steps_with before (line_step (names_in service) bytes))
 
 -- The lines that `old` begins with were answered, up to `new`, whatever bytes follow.
-pub record ScriptAnswered (w0 w1 : Option (List ℕ)) (service : GroupSettings) (before : List Step) (core : Groups) (old new : List ℕ) : Type 0 where
+pub record ScriptAnswered (w0 w1 : Option (List ℕ)) (service : SettingsView) (before : List Step) (core : Groups) (old new : List ℕ) : Type 0 where
   pub out : List ℕ
   pub later : List Step
   pub agrees : GroupsShow service core later
@@ -32,7 +32,7 @@ pub record ScriptAnswered (w0 w1 : Option (List ℕ)) (service : GroupSettings) 
 
 -- Every line that had ended in what was read of `input` was answered: `left` was not read, and `kept` is of a line that had
 -- not ended.
-pub record ScriptAnsweredRead (input left : List ℕ) (w0 w1 : Option (List ℕ)) (service : GroupSettings) : Type 0 where
+pub record ScriptAnsweredRead (input left : List ℕ) (w0 w1 : Option (List ℕ)) (service : SettingsView) : Type 0 where
   pub read : List ℕ
   pub kept : List ℕ
   pub core : Groups
@@ -41,13 +41,13 @@ pub record ScriptAnsweredRead (input left : List ℕ) (w0 w1 : Option (List ℕ)
   pub no_line : has_line kept ≡ false
 
 -- the same of a reader that had these bytes left, if they are known, and has those left now
-abbrev pub ScriptHasAnswered : Option (List ℕ) → Option (List ℕ) → Option (List ℕ) → Option (List ℕ) → GroupSettings → Type 0
+abbrev pub ScriptHasAnswered : Option (List ℕ) → Option (List ℕ) → Option (List ℕ) → Option (List ℕ) → SettingsView → Type 0
 ScriptHasAnswered None left w0 w1 service = Unit {0}
 ScriptHasAnswered (Some input) None w0 w1 service = ⊥
 ScriptHasAnswered (Some input) (Some left) w0 w1 service = ScriptAnsweredRead input left w0 w1 service
 
 -- a run over bytes that are cut so, after these steps
-abbrev pub ScriptOutcome : Option (List ℕ) → Option (List ℕ) → GroupSettings → List Step → Cut → Result (Unit {0}) PortError → Type 0
+abbrev pub ScriptOutcome : Option (List ℕ) → Option (List ℕ) → SettingsView → List Step → Cut → Result (Unit {0}) PortError → Type 0
 ScriptOutcome w0 w1 service before c (Ok x) = Appends w0 w1 (text service before c) × (stops c ≡ false)
 ScriptOutcome w0 w1 service before c (Err Line) = Appends w0 w1 (text service before c) × (stops c ≡ true)
 ScriptOutcome w0 w1 service before c (Err Memory) = WritesFront w0 w1 (text service before c)

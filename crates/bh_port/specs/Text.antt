@@ -5,7 +5,7 @@ use Rattle.bh_base.specs.declared.step.Step.{Step}
 use Rattle.bh_base.specs.declared.reply.Reply.{Reply}
 use Rattle.bh_base.specs.declared.reply.Reply.TheVariants as reply
 use Rattle.bh_base.specs.Runs.{State, opened, step, state_after, own}
-use Rattle.bh_props.specs.Settings.{GroupSettings}
+use Rattle.bh_props.specs.SettingsView.{SettingsView}
 use Rattle.bh_lines.specs.declared.fault.Fault.{Fault}
 use Rattle.bh_lines.specs.Lines.{Cut, line, ended, stopped}
 use Rattle.bh_lines.specs.StepLine.{line_step}
@@ -13,7 +13,7 @@ use Rattle.bh_lines.specs.ReplyLine.{reply_line}
 use Rattle.bh_lines.specs.FaultLine.{fault_line}
 
 -- the names of the groups, in listed order
-abbrev pub names_in : GroupSettings → List (List ℕ)
+abbrev pub names_in : SettingsView → List (List ℕ)
 names_in service = map (λ group. group.0) service.groups
 
 -- the most steps that a group may do
@@ -26,24 +26,24 @@ step_limit None = most_steps
 step_limit (Some audited) = min most_steps audited
 
 -- a new group of the properties in the service
-abbrev pub opened_group : GroupSettings → GroupProps → State
+abbrev pub opened_group : SettingsView → GroupProps → State
 opened_group service props = opened props (step_limit service.audit_steps)
 
 -- the group of the number and the properties after its own steps of these
-unfoldable pub group_after : GroupSettings → GroupProps → ℕ → List Step → State
+unfoldable pub group_after : SettingsView → GroupProps → ℕ → List Step → State
 group_after service props group steps = state_after (opened_group service props) (own group steps)
 
 -- the reply to a step after these: its group's, which depends on the group's properties and its own steps alone
-abbrev pub reply_of : GroupSettings → List Step → Step → Option (List ℕ × GroupProps) → Reply
+abbrev pub reply_of : SettingsView → List Step → Step → Option (List ℕ × GroupProps) → Reply
 reply_of service before x None = reply.NoGroup
 reply_of service before x (Some group) = (step (group_after service group.1 x.group.0 before) x.op x.now).reply
 
 -- the reply to a step after these
-unfoldable pub reply_to : GroupSettings → List Step → Step → Reply
+unfoldable pub reply_to : SettingsView → List Step → Step → Reply
 reply_to service before x = reply_of service before x (slice_get service.groups x.group.0)
 
 -- the line that answers what a line says, after these steps: of the reply to its step, or of its fault
-abbrev pub answer_to : GroupSettings → List Step → Result Step Fault → List ℕ
+abbrev pub answer_to : SettingsView → List Step → Result Step Fault → List ℕ
 answer_to service before (Ok x) = reply_line (reply_to service before x)
 answer_to service before (Err fault) = fault_line fault
 
@@ -53,7 +53,7 @@ steps_with before (Ok x) = before ++ x ∷ []
 steps_with before (Err fault) = before
 
 -- what is written for all lines that follow these steps, up to a line that is too long or not UTF-8
-unfoldable pub text : GroupSettings → List Step → Cut → List ℕ
+unfoldable pub text : SettingsView → List Step → Cut → List ℕ
 text service before (line bytes rest) =
     let said = line_step (names_in service) bytes in answer_to service before said ++ text service (steps_with before said) rest
 text service before ended = []

@@ -2,8 +2,8 @@
 
 ghost use Rattle.std.specs.Prelude.{◌≡◌, ◌<◌, ◌⊎◌, ◌++◌, ◌∷◌, ℕ, List, [], length, false, Some, Err, OnOk, OnErr, IfErr};
 ghost use Rattle.bh_base.specs.declared.step.Step.{Step};
-ghost use Rattle.bh_props.specs.SettingsView.{settings_seen};
-ghost use Rattle.bh_props.specs.Settings.{GroupSettings};
+ghost use Rattle.bh_props.specs.Shown.{settings_view};
+ghost use Rattle.bh_props.specs.SettingsView.{SettingsView};
 ghost use Rattle.bh_lines.specs.Lines.{cut, has_line};
 ghost use Rattle.bh_lines.specs.Taken.{IsMemoryOrLine};
 ghost use Rattle.bh_lines.specs.FaultLine.{fault_line};
@@ -39,15 +39,15 @@ impl Run {
         settings: &Settings,
         writer: &mut WatchedWriter<'_, W>,
     ) -> Result<(), PortError>
-        ensures answered { OnOk result ((before : List Step) → GroupsShow (settings_seen settings.now) self.old.core before →
-            ScriptAnswered (bytes_held W.contents writer.old) (bytes_held W.contents writer.new) (settings_seen settings.now) before self.new.core self.old.buffer.items self.new.buffer.items) }
+        ensures answered { OnOk result ((before : List Step) → GroupsShow (settings_view settings.now) self.old.core before →
+            ScriptAnswered (bytes_held W.contents writer.old) (bytes_held W.contents writer.new) (settings_view settings.now) before self.new.core self.old.buffer.items self.new.buffer.items) }
         ensures none_left { OnOk result (has_line self.new.buffer.items ≡ false) }
         ensures no_read { IfErr result IsNotRead }
         ensures same_writer { (writer_of writer.new).ghost_name ≡ (writer_of writer.old).ghost_name }
         ensures refused { result ≡ Err PortError.Write → OneRefused writer.old writer.new }
         ensures not_refused { (result ≡ Err PortError.Write) ⊎ NoneRefused writer.old writer.new }
-        ensures stopped { IfErr result (λ e. (before : List Step) (more : List ℕ) → GroupsShow (settings_seen settings.now) self.old.core before →
-            ScriptOutcome (bytes_held W.contents writer.old) (bytes_held W.contents writer.new) (settings_seen settings.now) before (cut (self.old.buffer.items ++ more)) (Err e)) }
+        ensures stopped { IfErr result (λ e. (before : List Step) (more : List ℕ) → GroupsShow (settings_view settings.now) self.old.core before →
+            ScriptOutcome (bytes_held W.contents writer.old) (bytes_held W.contents writer.new) (settings_view settings.now) before (cut (self.old.buffer.items ++ more)) (Err e)) }
     {
         self.out.clear();
         let answered = self.answer_lines(settings);
@@ -66,8 +66,8 @@ impl Run {
         ensures same_writer { (writer_of writer.new).ghost_name ≡ (writer_of writer.old).ghost_name }
         ensures refused { result ≡ Err PortError.Write → OneRefused writer.old writer.new }
         ensures not_refused { (result ≡ Err PortError.Write) ⊎ NoneRefused writer.old writer.new }
-        ensures outcome { (before : List Step) → GroupsShow (settings_seen settings.now) self.old.core before →
-            ScriptOutcome (bytes_held W.contents writer.old) (bytes_held W.contents writer.new) (settings_seen settings.now) before (cut self.old.buffer.items) result }
+        ensures outcome { (before : List Step) → GroupsShow (settings_view settings.now) self.old.core before →
+            ScriptOutcome (bytes_held W.contents writer.old) (bytes_held W.contents writer.new) (settings_view settings.now) before (cut self.old.buffer.items) result }
     {
         self.out.clear();
         let answered = self.answer_last(settings);
@@ -77,12 +77,12 @@ impl Run {
 
     /// Answers each line that has ended, behind what is to be written, and keeps the bytes that follow the last of them.
     fn answer_lines(&mut self, settings: &Settings) -> Result<(), PortError>
-        ensures answered { OnOk result ((before : List Step) → GroupsShow (settings_seen settings.now) self.old.core before →
-            ScriptAnswered (Some self.old.out.items) (Some self.new.out.items) (settings_seen settings.now) before self.new.core self.old.buffer.items self.new.buffer.items) }
+        ensures answered { OnOk result ((before : List Step) → GroupsShow (settings_view settings.now) self.old.core before →
+            ScriptAnswered (Some self.old.out.items) (Some self.new.out.items) (settings_view settings.now) before self.new.core self.old.buffer.items self.new.buffer.items) }
         ensures none_left { OnOk result (has_line self.new.buffer.items ≡ false) }
         ensures kinds { IfErr result IsMemoryOrLine }
-        ensures stopped { IfErr result (λ e. (before : List Step) (more : List ℕ) → GroupsShow (settings_seen settings.now) self.old.core before →
-            ScriptOutcome (Some self.old.out.items) (Some self.new.out.items) (settings_seen settings.now) before (cut (self.old.buffer.items ++ more)) (Err e)) }
+        ensures stopped { IfErr result (λ e. (before : List Step) (more : List ℕ) → GroupsShow (settings_view settings.now) self.old.core before →
+            ScriptOutcome (Some self.old.out.items) (Some self.new.out.items) (settings_view settings.now) before (cut (self.old.buffer.items ++ more)) (Err e)) }
     {
         let mut scratch = Scratch::new(self.alloc);
         while let Some(line) = next_line(&mut self.buffer)? {
@@ -95,8 +95,8 @@ impl Run {
     fn answer_last(&mut self, settings: &Settings) -> Result<(), PortError>
         requires { has_line self.old.buffer.items ≡ false }
         ensures kinds { IfErr result IsMemoryOrLine }
-        ensures outcome { (before : List Step) → GroupsShow (settings_seen settings.now) self.old.core before →
-            ScriptOutcome (Some self.old.out.items) (Some self.new.out.items) (settings_seen settings.now) before (cut self.old.buffer.items) result }
+        ensures outcome { (before : List Step) → GroupsShow (settings_view settings.now) self.old.core before →
+            ScriptOutcome (Some self.old.out.items) (Some self.new.out.items) (settings_view settings.now) before (cut self.old.buffer.items) result }
     {
         let Some(line) = last_line(&mut self.buffer)? else {
             return Ok(());
@@ -113,8 +113,8 @@ impl Run {
         scratch: &mut Scratch,
         line: &str,
     ) -> Result<(), AllocError>
-        ensures answers { OnOk result ((before : List Step) → GroupsShow (settings_seen settings.now) self.old.core before →
-            AnswersLine (settings_seen settings.now) before line.now self.new.core self.old.out.items self.new.out.items) }
+        ensures answers { OnOk result ((before : List Step) → GroupsShow (settings_view settings.now) self.old.core before →
+            AnswersLine (settings_view settings.now) before line.now self.new.core self.old.out.items self.new.out.items) }
         ensures kept { OnErr result (self.new.out.items ≡ self.old.out.items) }
         ensures left { self.new.buffer ≡ self.old.buffer }
     {
@@ -127,9 +127,9 @@ impl Run {
 
     /// Does a step, and puts the line of its reply behind what is to be written.
     fn answer_step(&mut self, step: Step) -> Result<(), AllocError>
-        ensures wrote { OnOk result ((service : GroupSettings) (before : List Step) → step.group.0 < length service.groups → GroupsShow service self.old.core before →
+        ensures wrote { OnOk result ((service : SettingsView) (before : List Step) → step.group.0 < length service.groups → GroupsShow service self.old.core before →
             self.new.out.items ≡ self.old.out.items ++ reply_line (reply_to service before step)) }
-        ensures agrees { OnOk result ((service : GroupSettings) (before : List Step) → GroupsShow service self.old.core before →
+        ensures agrees { OnOk result ((service : SettingsView) (before : List Step) → GroupsShow service self.old.core before →
             GroupsShow service self.new.core (before ++ step ∷ [])) }
         ensures kept { OnErr result (self.new.out.items ≡ self.old.out.items) }
         ensures left { self.new.buffer ≡ self.old.buffer }

@@ -1,7 +1,7 @@
 //! A script: each line of a reader is answered by a line to a writer, as the lines come.
 
 ghost use Rattle.std.specs.Prelude.{◌≡◌, ◌≤◌, ◌+◌, ◌^◌, ◌⊎◌, [], Err, IfErr, IfOk, IfSome};
-ghost use Rattle.bh_props.specs.SettingsView.{settings_seen};
+ghost use Rattle.bh_props.specs.Shown.{settings_view};
 ghost use Rattle.bh_port.specs.Text.{step_limit};
 ghost use Rattle.bh_lines.specs.Lines.{cut};
 ghost use Rattle.bh_streams.specs.Watched.{reader_of, reads_of, bytes_left, HasRead, OneFailed, NoneFailed, writer_of, bytes_held, OneRefused, NoneRefused};
@@ -49,12 +49,12 @@ pub fn script<R: Read, W: Write>(
     ensures read { result ≡ Err PortError.Read → OneFailed reader.old reader.new ⊎ HasRead (2 ^ 40) reader.old reader.new }
     ensures not_failed { (result ≡ Err PortError.Read) ⊎ NoneFailed reader.old reader.new }
     ensures answered { result ≡ Err PortError.Read → HasRead (2 ^ 40) reader.old reader.new ⊎ ScriptHasAnswered (bytes_left R.remaining reader.old) (bytes_left R.remaining reader.new)
-        (bytes_held W.contents writer.old) (bytes_held W.contents writer.new) (settings_seen settings.now) }
+        (bytes_held W.contents writer.old) (bytes_held W.contents writer.new) (settings_view settings.now) }
     ensures reads { reads_of reader.new ≤ reads_of reader.old + 2 ^ 40 }
     ensures write { result ≡ Err PortError.Write → OneRefused writer.old writer.new }
     ensures not_refused { (result ≡ Err PortError.Write) ⊎ NoneRefused writer.old writer.new }
     ensures text { IfSome (bytes_left R.remaining reader.old) (λ input.
-        ScriptOutcome (bytes_held W.contents writer.old) (bytes_held W.contents writer.new) (settings_seen settings.now) [] (cut input) result) }
+        ScriptOutcome (bytes_held W.contents writer.old) (bytes_held W.contents writer.new) (settings_view settings.now) [] (cut input) result) }
 {
     let core = open(alloc, settings)?;
     let mut run = Run {
@@ -77,7 +77,7 @@ pub fn script<R: Read, W: Write>(
 ///
 /// It fails only for want of memory, as `Memory`.
 pub fn open(alloc: Global, settings: &Settings) -> Result<Core, PortError>
-    ensures agrees { IfOk result (λ core. GroupsShow (settings_seen settings.now) core []) }
+    ensures agrees { IfOk result (λ core. GroupsShow (settings_view settings.now) core []) }
     ensures err { IfErr result (λ e. e ≡ PortError.Memory) }
 {
     let limit = step_limit(settings.audit_steps);

@@ -3,7 +3,7 @@
 ghost use Rattle.std.specs.Prelude.{◌≡◌, ◌<◌, length, map, IfOk, IfSome};
 ghost use Rattle.bh_lines.specs.Flat.{members_data};
 ghost use Rattle.bh_lines.specs.StepLine.{group_number, step_at, line_step};
-ghost use Rattle.bh_props.specs.SettingsView.{settings_seen};
+ghost use Rattle.bh_props.specs.Shown.{settings_view};
 ghost use Rattle.bh_port.specs.Text.{names_in};
 
 use bh_base::{GroupId, GroupProps, Step, Text};
@@ -24,7 +24,7 @@ pub fn line_step(
     scratch: &mut Scratch,
     line: &str,
 ) -> Result<Result<Step, Fault>, AllocError>
-    ensures said { IfOk result (λ said. said ≡ line_step (names_in (settings_seen settings.now)) line.now) }
+    ensures said { IfOk result (λ said. said ≡ line_step (names_in (settings_view settings.now)) line.now) }
     ensures group { IfOk result (λ said. IfOk said (λ step. step.group.0 < length settings.now.groups.entries)) }
 {
     if let Some(object) = FlatObject::parse(line, scratch)? {
@@ -38,7 +38,7 @@ pub fn line_step(
 
 /// The step that the members say: the group is looked up before its texts are measured.
 fn step_at(settings: &Settings, members: Members<'_>) -> Result<Step, Fault>
-    ensures said { result ≡ step_at (names_in (settings_seen settings.now)) (members_data members.entry) }
+    ensures said { result ≡ step_at (names_in (settings_view settings.now)) (members_data members.entry) }
     ensures group { IfOk result (λ step. step.group.0 < length settings.now.groups.entries) }
 {
     let said = said_at(members)?;

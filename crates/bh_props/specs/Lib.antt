@@ -3,6 +3,7 @@ pub mod Table
 pub mod InForce
 pub mod Names
 pub mod Refusals
-pub mod Settings
 pub mod SettingsView
+pub mod Settings
 pub mod Printed
+pub mod Shown

@@ -9,7 +9,7 @@ use Rattle.bh_props.specs.declared.property.Property.TheVariants as properties
 use Rattle.bh_props.specs.declared.value.PropertyValue.{PropertyValue}
 use Rattle.bh_props.specs.declared.value.PropertyValue.TheVariants as values
 use Rattle.bh_props.specs.Table.{row, all}
-use Rattle.bh_props.specs.Settings.{GroupSettings}
+use Rattle.bh_props.specs.SettingsView.{SettingsView}
 
 -- the word of a value
 abbrev pub word_of : PropertyValue → List ℕ
@@ -58,5 +58,5 @@ abbrev pub group_lines : Option ℕ → List ℕ × GroupProps → List ℕ
 group_lines audit_steps group = flat_map (property_line audit_steps group) all
 
 -- the lines of all groups, in their order
-abbrev pub lines_of : GroupSettings → List ℕ
+abbrev pub lines_of : SettingsView → List ℕ
 lines_of s = flat_map (group_lines s.audit_steps) s.groups

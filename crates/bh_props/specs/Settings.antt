@@ -14,14 +14,10 @@ use Rattle.bh_props.specs.declared.value.Fault.{Fault}
 use Rattle.bh_props.specs.declared.value.Fault.TheVariants.{WrongType, OutOfRange}
 use Rattle.bh_props.specs.declared.error.SettingsError.{SettingsError}
 use Rattle.bh_props.specs.declared.error.SettingsError.TheVariants as refusals
+use Rattle.bh_props.specs.SettingsView.{SettingsView}
 use Rattle.bh_props.specs.InForce.{in_force}
 use Rattle.bh_props.specs.Names.{names_of}
 use Rattle.bh_props.specs.Refusals.{number, checked_service, checked_values, checked_windows}
-
--- the groups in listed order, each with its properties, and the limit of audited steps
-pub record GroupSettings : Type 0 where
-  pub groups : List (List ℕ × GroupProps)
-  pub audit_steps : Option ℕ
 
 -- a limit of audited steps
 abbrev pub IsAuditLimit : ℕ → Type 0
@@ -72,14 +68,14 @@ abbrev pub group_in_force : Data → List ℕ → List ℕ × GroupProps
 group_in_force d name = (name, props_of (λ p. in_force p name d))
 
 -- the settings of a file that nothing refuses
-abbrev pub settings_in_force : Data → List (List ℕ) → GroupSettings
+abbrev pub settings_in_force : Data → List (List ℕ) → SettingsView
 settings_in_force d names = record {
   groups = map (group_in_force d) names;
   audit_steps = optional_number (in_force properties.AuditSteps [] d);
 }
 
 -- the settings of groups that are known: each check is made for the whole file before the next
-abbrev pub settings_of_groups : Data → List (List ℕ) → Result GroupSettings SettingsError
+abbrev pub settings_of_groups : Data → List (List ℕ) → Result SettingsView SettingsError
 settings_of_groups d names =
     result_and (checked_service names d)
     (result_and (checked_values WrongType d names)
@@ -88,15 +84,15 @@ settings_of_groups d names =
     (Ok (settings_in_force d names)))))
 
 -- the settings, unless the names are refused
-abbrev pub settings_of_named : Data → Result (List (List ℕ)) SettingsError → Result GroupSettings SettingsError
+abbrev pub settings_of_named : Data → Result (List (List ℕ)) SettingsError → Result SettingsView SettingsError
 settings_of_named d (Ok names) = settings_of_groups d names
 settings_of_named d (Err refusal) = Err refusal
 
 -- the settings of a document's members; none where the text is no document
-abbrev pub settings_of_tree : Option Members → Result GroupSettings SettingsError
+abbrev pub settings_of_tree : Option Members → Result SettingsView SettingsError
 settings_of_tree None = Err refusals.Syntax
 settings_of_tree (Some ms) = settings_of_named (table ms) (names_of (table ms))
 
 -- the settings of a text, or the first refusal
-abbrev pub settings_of : List ℕ → Result GroupSettings SettingsError
+abbrev pub settings_of : List ℕ → Result SettingsView SettingsError
 settings_of text = settings_of_tree (parse_document text)

@@ -1,7 +1,8 @@
--- What contracts see of settings: the entries of the map of groups, in a list, and the limit of audited steps.
-use Rattle.bh_props.specs.declared.settings.Settings.{Settings}
-use Rattle.bh_props.specs.Settings.{GroupSettings}
+-- What contracts see of settings.
+use Rattle.std.specs.Prelude.{ℕ, List, Option}
+use Rattle.bh_base.specs.declared.props.GroupProps.{GroupProps}
 
--- what the settings are
-abbrev pub settings_seen : Settings → GroupSettings
-settings_seen s = record { groups = s.groups.entries; audit_steps = s.audit_steps }
+-- the groups in listed order, each with its properties, and the limit of audited steps
+pub record SettingsView : Type 0 where
+  pub groups : List (List ℕ × GroupProps)
+  pub audit_steps : Option ℕ

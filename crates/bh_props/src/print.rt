@@ -4,7 +4,7 @@ ghost use Rattle.std.specs.Prelude.{◌≡◌, Some};
 ghost use Rattle.std.specs.List.{flat_map};
 ghost use Rattle.std.specs.Fmt.{WritesOnOk};
 ghost use Rattle.bh_props.specs.Printed.{value_of, property_line, lines_of, group_lines, number_or};
-ghost use Rattle.bh_props.specs.SettingsView.{settings_seen};
+ghost use Rattle.bh_props.specs.Shown.{settings_view};
 
 use crate::property::Property;
 use crate::settings::Settings;
@@ -14,7 +14,7 @@ use std::fmt;
 
 /// One line for each group and property, in their orders: the group, the property's name and the value in force.
 impl fmt::Display for Settings {
-    ghost output = { λ s. Some (lines_of (settings_seen s)) };
+    ghost output = { λ s. Some (lines_of (settings_view s)) };
 
     fn fmt<W: fmt::Write>(&self, f: &mut fmt::Formatter<W>) -> fmt::Result {
         for (name, props) in self.groups.iter() {

@@ -4,7 +4,7 @@ ghost use Rattle.std.specs.Prelude.{◌≡◌, ◌≢◌, [], Ok, Err, None, IfO
 ghost use Rattle.toml.specs.View.{view};
 ghost use Rattle.bh_props.specs.Settings.{settings_of, settings_of_named, settings_of_groups};
 ghost use Rattle.bh_props.specs.Names.{names_of, first_twice};
-ghost use Rattle.bh_props.specs.SettingsView.{settings_seen};
+ghost use Rattle.bh_props.specs.Shown.{settings_view};
 
 use crate::check::{check_values, check_windows};
 use crate::error::SettingsError;
@@ -22,7 +22,7 @@ use toml::Value;
 /// one under `default`, else the built-in one; only values in force are checked. Each field of the settings is in its
 /// range. `SettingsError::Memory` comes wherever memory was refused, in place of every other answer.
 pub fn read(alloc: Global, text: &str) -> Result<Settings, SettingsError>
-    ensures ok { IfOk result (λ s. settings_of text.now ≡ Ok (settings_seen s)) }
+    ensures ok { IfOk result (λ s. settings_of text.now ≡ Ok (settings_view s)) }
     ensures refused { IfErr result (λ e. e ≢ SettingsError.Memory → settings_of text.now ≡ Err e) }
 {
     match toml::table_from_str(alloc, text) {
@@ -34,7 +34,7 @@ pub fn read(alloc: Global, text: &str) -> Result<Settings, SettingsError>
 
 /// The settings of a parsed file.
 fn read_tree(alloc: Global, root: &Value) -> Result<Settings, SettingsError>
-    ensures ok { IfOk result (λ s. settings_of_named (view root.now) (names_of (view root.now)) ≡ Ok (settings_seen s)) }
+    ensures ok { IfOk result (λ s. settings_of_named (view root.now) (names_of (view root.now)) ≡ Ok (settings_view s)) }
     ensures refused { IfErr result (λ e. e ≢ SettingsError.Memory
         → settings_of_named (view root.now) (names_of (view root.now)) ≡ Err e) }
 {
@@ -45,7 +45,7 @@ fn read_tree(alloc: Global, root: &Value) -> Result<Settings, SettingsError>
 /// The settings of a parsed file whose groups are known.
 fn read_groups(alloc: Global, root: &Value, names: &[Text<32>]) -> Result<Settings, SettingsError>
     requires { first_twice [] 1 names.now ≡ None }
-    ensures ok { IfOk result (λ s. settings_of_groups (view root.now) names.now ≡ Ok (settings_seen s)) }
+    ensures ok { IfOk result (λ s. settings_of_groups (view root.now) names.now ≡ Ok (settings_view s)) }
     ensures refused { IfErr result (λ e. e ≢ SettingsError.Memory
         → settings_of_groups (view root.now) names.now ≡ Err e) }
 {

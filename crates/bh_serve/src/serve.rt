@@ -2,7 +2,7 @@
 
 ghost use Rattle.std.specs.Prelude.{◌≡◌, ◌≤◌, ◌⊎◌, [], ◌∷◌, ◌++◌, length, IfOk, OnOk, false};
 ghost use Rattle.bh_port.specs.Text.{names_in};
-ghost use Rattle.bh_props.specs.SettingsView.{settings_seen};
+ghost use Rattle.bh_props.specs.Shown.{settings_view};
 
 use crate::clock::MachineClock;
 use crate::echo::Echo;
@@ -123,7 +123,7 @@ fn service(alloc: Global, settings: &Settings) -> Result<Shared, AllocError>
 
 /// The names of the groups, each at the place that is its group's number.
 fn names(alloc: Global, settings: &Settings) -> Result<Vec<Text<32>>, AllocError>
-    ensures { IfOk result (λ names. names.items ≡ names_in (settings_seen settings.now)) }
+    ensures { IfOk result (λ names. names.items ≡ names_in (settings_view settings.now)) }
 {
     let mut names = Vec::new(alloc);
     for name in settings.groups.keys() {

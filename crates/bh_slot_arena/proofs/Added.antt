@@ -9,13 +9,13 @@ use Rattle.bh_index_lists.specs.Lists.{link_at, no_list, Linked, IsListed, IsLis
 use Rattle.bh_index_lists.proofs.Members.{IsIn, IsIn-append_left, IsIn-append_right, IsIn-append_cases, IsIn-from_Contains, Contains-from_IsIn}
 use Rattle.bh_index_lists.proofs.Segments.{listed, listed-same, linked-below, IsList-from}
 use Rattle.bh_slot_arena.specs.Lists.{put_last}
-use Rattle.bh_slot_arena.specs.Sound.{head_at, IsSound}
+use Rattle.bh_slot_arena.specs.Linked.{head_at, IsLinked}
 
 Linked-grown : (L : List Link) (y : Link) (p q : Option ℕ) (xs : List ℕ) → Linked L p xs q → Linked (L ++ y ∷ []) p xs q
 Linked-grown L y p q [] h = tt
 Linked-grown L y p q (x ∷ xs) h = (omega (arith, h.0, length-append L (y ∷ [])), get_or_append_left L (y ∷ []) _ x h.0 ∙ h.1, Linked-grown L y (Some x) q xs h.2)
 
-module _ (L : List Link) (heads : List ListHead) (on_list : List ℕ) (y : Link) (sound : IsSound L heads on_list) where
+module _ (L : List Link) (heads : List ListHead) (on_list : List ℕ) (y : Link) (sound : IsLinked L heads on_list) where
   -- the lists as they were, in the longer slice
   pub grown-listed : (l : ℕ) → l < length heads → IsListed (L ++ y ∷ []) (head_at heads l) (list_of L (head_at heads l))
   grown-listed l lt = let h = sound.listed l lt in record { linked = Linked-grown L y None None (list_of L (head_at heads l)) h.linked; first = h.first; last = h.last; len = h.len }
@@ -60,7 +60,7 @@ module _ (L : List Link) (heads : List ListHead) (on_list : List ℕ) (y : Link)
     new_number : (x : ℕ) → x ≡ length L → get_or (on_list ++ to ∷ []) x 0 ≡ to
     new_number x e = get_or_push on_list to 0 x (sound.sizes ∙ sym e)
 
-    pub added-sound : IsSound N (set heads to f) (on_list ++ to ∷ [])
+    pub added-sound : IsLinked N (set heads to f) (on_list ++ to ∷ [])
     added-sound = record {
       sizes = omega (arith, length-append on_list (to ∷ []), sound.sizes, more);
       few = omega (arith, few, more);
@@ -112,7 +112,7 @@ module _ (L : List Link) (heads : List ListHead) (on_list : List ℕ) (y : Link)
         ])
 
 -- the same, where the longer slice and the new slot go by other names
-module _ (L M : List Link) (heads : List ListHead) (on_list : List ℕ) (y : Link) (s to : ℕ) (sound : IsSound L heads on_list) (longer : M ≡ L ++ y ∷ []) (is : length L ≡ s) (few : s + 1 < 2 ^ 32) (to_within : to < length heads) where
+module _ (L M : List Link) (heads : List ListHead) (on_list : List ℕ) (y : Link) (s to : ℕ) (sound : IsLinked L heads on_list) (longer : M ≡ L ++ y ∷ []) (is : length L ≡ s) (few : s + 1 < 2 ^ 32) (to_within : to < length heads) where
   pub before-listed : IsListed M (head_at heads to) (list_of L (head_at heads to))
   before-listed = subst (λ (ls : List Link). IsListed ls (head_at heads to) (list_of L (head_at heads to))) (sym longer) (grown-listed L heads on_list y sound to to_within)
 
@@ -129,7 +129,7 @@ module _ (L M : List Link) (heads : List ListHead) (on_list : List ℕ) (y : Lin
     few' : length L + 1 < 2 ^ 32
     few' = omega (arith, is, few)
 
-    pub put-sound : IsSound N (set heads to f) (on_list ++ to ∷ [])
+    pub put-sound : IsLinked N (set heads to f) (on_list ++ to ∷ [])
     put-sound = added-sound L heads on_list y sound N to (head_at heads to) f few' to_within refl (same ∙ ap (λ (ls : List Link). length ls) longer) isList same_put (λ x out. outside x out ∙ ap (λ (ls : List Link). link_at ls x) longer)
 
     pub put-view : map (list_of N) (set heads to f) ≡ put_last (s ∷ []) to (map (list_of L) heads)

@@ -6,7 +6,7 @@ use Rattle.std.proofs.lemmas.Bool.{cases_lt}
 use Rattle.bh_index_lists.specs.declared.lists.Link.{Link}
 use Rattle.bh_index_lists.specs.declared.lists.ListHead.{ListHead}
 use Rattle.bh_index_lists.specs.Lists.{no_list, IsList, list_of}
-use Rattle.bh_slot_arena.specs.Sound.{head_at, IsSound}
+use Rattle.bh_slot_arena.specs.Linked.{head_at, IsLinked}
 
 map-empty : (L : List Link) (n : ℕ) → map (list_of L) (replicate n no_list) ≡ replicate {A = List ℕ} n []
 map-empty L zero = refl
@@ -15,7 +15,7 @@ map-empty L (suc n) = ap (λ (xs : List (List ℕ)). [] ∷ xs) (map-empty L n)
 pub grown-view : (L : List Link) (heads : List ListHead) (n : ℕ) → map (list_of L) (heads ++ replicate n no_list) ≡ map (list_of L) heads ++ replicate {A = List ℕ} n []
 grown-view L heads n = map-append (list_of L) heads (replicate n no_list) ∙ ap (λ (xs : List (List ℕ)). map (list_of L) heads ++ xs) (map-empty L n)
 
-pub grown-sound : (L : List Link) (heads : List ListHead) (on_list : List ℕ) (n : ℕ) → IsSound L heads on_list → IsSound L (heads ++ replicate n no_list) on_list
+pub grown-sound : (L : List Link) (heads : List ListHead) (on_list : List ℕ) (n : ℕ) → IsLinked L heads on_list → IsLinked L (heads ++ replicate n no_list) on_list
 grown-sound L heads on_list n sound =
     let more = heads ++ replicate n no_list in
     let size = length-append heads (replicate n no_list) in

@@ -9,7 +9,7 @@ use Rattle.bh_index_lists.specs.Lists.{link_at, no_list, IsListed, IsList, list_
 use Rattle.bh_index_lists.proofs.Members.{IsIn, IsIn-append_left, IsIn-append_right, IsIn-append_cases, IsIn-from_Contains, Contains-from_IsIn, IsIn-without, IsIn-kept, without-out}
 use Rattle.bh_index_lists.proofs.Segments.{listed, listed-same, IsList-from}
 use Rattle.bh_slot_arena.specs.Lists.{put_last}
-use Rattle.bh_slot_arena.specs.Sound.{head_at, IsSound}
+use Rattle.bh_slot_arena.specs.Linked.{head_at, IsLinked}
 
 set_head_same : (heads : List ListHead) (l : ℕ) (d : ListHead) → l < length heads → head_at (set heads l d) l ≡ d
 set_head_same heads l d lt = get_or-set_same heads l d no_list lt
@@ -18,7 +18,7 @@ set_head_other : (heads : List ListHead) (l m : ℕ) (d : ListHead) → (m ≡ l
 set_head_other heads l m d ne = get_or-set_other heads l m d no_list ne
 
 -- ---- once the slot is out of its list
-module _ (L M : List Link) (heads : List ListHead) (on_list : List ℕ) (slot : ℕ) (c d : ListHead) (sound : IsSound L heads on_list) (within : slot < length L)
+module _ (L M : List Link) (heads : List ListHead) (on_list : List ℕ) (slot : ℕ) (c d : ListHead) (sound : IsLinked L heads on_list) (within : slot < length L)
     (was : c ≡ head_at heads (get_or on_list slot 0)) (same : length M ≡ length L)
     (isList : IsList M d) (taken : list_of M d ≡ without slot (list_of L c))
     (outside : (x : ℕ) → ¬ (Contains (list_of L c) x) → link_at M x ≡ link_at L x) where
@@ -72,7 +72,7 @@ module _ (L M : List Link) (heads : List ListHead) (on_list : List ℕ) (slot : 
     slot_on_list : slot < length on_list
     slot_on_list = omega (arith, within, sound.sizes)
 
-    pub end-sound : IsSound N end (set on_list slot to)
+    pub end-sound : IsLinked N end (set on_list slot to)
     end-sound = record {
       sizes = omega (arith, length-set on_list slot to, sound.sizes, same, same');
       few = omega (arith, sound.few, same, same');

@@ -8,7 +8,7 @@ use Rattle.bh_index_lists.specs.Lists.{list_of, no_list}
 use Rattle.bh_index_lists.proofs.Members.{IsIn, IsIn-from_Contains, Contains-from_IsIn, NoRepeat}
 use Rattle.bh_index_lists.proofs.Segments.{NoRepeat-linked, linked-below}
 use Rattle.bh_slot_arena.specs.Lists.{IsPartition}
-use Rattle.bh_slot_arena.specs.Sound.{IsSound, head_at}
+use Rattle.bh_slot_arena.specs.Linked.{IsLinked, head_at}
 
 IsIn-at : (xs : List ℕ) (k x : ℕ) → slice_get xs k ≡ Some x → IsIn x xs
 IsIn-at [] k x e = let none : None ≡ Some x = e in cc
@@ -27,7 +27,7 @@ one_place (y ∷ ys) zero (suc j) x once e f = let same : y ≡ x = cc in absurd
 one_place (y ∷ ys) (suc k) zero x once e f = let same : y ≡ x = cc in absurd (once.0 (subst (λ z. IsIn z ys) (sym same) (IsIn-at ys k x e)))
 one_place (y ∷ ys) (suc k) (suc j) x once e f = ap suc (one_place ys k j x once.1 e f)
 
-module _ (L : List Link) (heads : List ListHead) (on_list : List ℕ) (sound : IsSound L heads on_list) where
+module _ (L : List Link) (heads : List ListHead) (on_list : List ℕ) (sound : IsLinked L heads on_list) where
   -- a slot at a place of a list is on the list of a head
   at_head : (l k x : ℕ) → slice_get (get_or (map (list_of L) heads) l []) k ≡ Some x → (l < length heads) × (slice_get (list_of L (head_at heads l)) k ≡ Some x)
   at_head l k x e = elim (cases_lt l (length heads)) [

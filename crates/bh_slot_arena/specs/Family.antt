@@ -22,7 +22,7 @@ abbrev pub family_at : List FamilyView → ℕ → FamilyView
 family_at families f = slice_index_or families f no_lists
 
 -- the family has the slots below a number, and memory for so many more, which can go on the list
-pub record IsReady (first count to : ℕ) (v : FamilyView) : Type 0 where
+pub record CanAddSlots (first count to : ℕ) (v : FamilyView) : Type 0 where
   pub slots : v.slots ≡ first
   pub room : count ≤ v.room
   pub list : to < length v.lists

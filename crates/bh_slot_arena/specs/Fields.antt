@@ -3,7 +3,7 @@ use Rattle.std.specs.Prelude.{◌-◌, length, map, min, vec_len, vec_capacity}
 use Rattle.bh_index_lists.specs.Lists.{list_of}
 use Rattle.bh_slot_arena.specs.declared.family.Family.TheInside.{Inside}
 use Rattle.bh_slot_arena.specs.Family.{FamilyView}
-use Rattle.bh_slot_arena.specs.Sound.{IsSound}
+use Rattle.bh_slot_arena.specs.Linked.{IsLinked}
 
 abbrev pub family_of : Inside → FamilyView
 family_of f = record {
@@ -13,4 +13,4 @@ family_of f = record {
 }
 
 abbrev pub IsFamily : Inside → Type 0
-IsFamily f = IsSound f.links.items f.heads.items f.on_list.items
+IsFamily f = IsLinked f.links.items f.heads.items f.on_list.items

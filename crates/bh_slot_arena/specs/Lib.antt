@@ -2,5 +2,5 @@ pub mod Lists
 pub mod Slots
 pub mod Family
 pub mod Whole
-pub mod Sound
+pub mod Linked
 pub mod Fields

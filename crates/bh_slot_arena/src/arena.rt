@@ -3,7 +3,7 @@
 ghost use Rattle.std.specs.Prelude.{◌≡◌, ℕ, ◌+◌, ◌<◌, ◌≤◌, ◌↔◌, ◌≢◌, ◌^◌, [], ◌++◌, Contains, length, nat_le, replicate, slice_get, slice_index, vec_len, vec_capacity, IfOk, OnOk, OnErr, Err, Some};
 ghost use Rattle.bh_slot_arena.specs.Lists.{IsPartition};
 ghost use Rattle.bh_slot_arena.specs.Slots.{lists_in, slots_on, with_moved, with_new_lists, with_new_slots, with_payload};
-ghost use Rattle.bh_slot_arena.specs.Family.{AddsSlots, IsReady, but_room, family_at, no_lists};
+ghost use Rattle.bh_slot_arena.specs.Family.{AddsSlots, CanAddSlots, but_room, family_at, no_lists};
 ghost use Rattle.std.specs.Borrow.{Lends, sem};
 ghost use Rattle.bh_slot_arena.specs.contracts.arena.Arena.{the_row};
 
@@ -38,13 +38,13 @@ pub enum SlotsError {
 impl<T: Copy, const K: usize> Model for Arena<T, K> {
     ghost use Rattle.bh_slot_arena.specs.Slots.{ArenaView};
     ghost use Rattle.std.specs.Prelude.{map, length};
-    ghost use Rattle.bh_slot_arena.specs.Whole.{IsWhole};
+    ghost use Rattle.bh_slot_arena.specs.Whole.{HasFamilies};
 
     ghost Value = { ArenaView T };
 
     ghost view = { λ a. record { limit = a.limit; payloads = a.payloads.items; families = map (λ f. f.lists) a.families } };
 
-    ghost invariant = { λ a. IsWhole a.limit (length a.payloads.items) K a.families };
+    ghost invariant = { λ a. HasFamilies a.limit (length a.payloads.items) K a.families };
 }
 
 impl<T: Copy, const K: usize> Arena<T, K> {
@@ -212,7 +212,7 @@ fn push_copies<T: Copy>(payloads: &mut Vec<T>, payload: T, count: u32)
 fn add_to_all(families: &mut [Family], first: u32, count: u32, lists: &[usize])
     requires lists { length lists.now ≡ length families.old }
     requires few { first + count < 2 ^ 32 }
-    requires ready { (f : ℕ) → f < length families.old → IsReady first count (slice_index lists.now f) (family_at families.old f) }
+    requires ready { (f : ℕ) → f < length families.old → CanAddSlots first count (slice_index lists.now f) (family_at families.old f) }
     ensures { (f : ℕ) → f < length families.old → AddsSlots first count (slice_index lists.now f) (family_at families.old f) (family_at families.new f) }
 {
     for f in 0..families.len() {

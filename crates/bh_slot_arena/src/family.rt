@@ -4,8 +4,8 @@ ghost use Rattle.std.specs.Prelude.{◌≡◌, ℕ, ◌+◌, ◌<◌, ◌≤◌,
 ghost use Rattle.std.specs.List.{range_with_len};
 ghost use Rattle.bh_index_lists.specs.Lists.{list_of, no_list, without};
 ghost use Rattle.bh_slot_arena.specs.Lists.{IsPartition, list_at, moved, put_last};
-ghost use Rattle.bh_slot_arena.specs.Family.{AddsSlots, IsReady, but_room, no_lists};
-ghost use Rattle.bh_slot_arena.specs.Sound.{IsSound};
+ghost use Rattle.bh_slot_arena.specs.Family.{AddsSlots, CanAddSlots, but_room, no_lists};
+ghost use Rattle.bh_slot_arena.specs.Linked.{IsLinked};
 
 use bh_index_lists::{Link, ListHead, push_back, unlink};
 use std::alloc::{AllocError, Global};
@@ -69,7 +69,7 @@ impl Family {
 
     /// Puts so many new slots, from the number `first` on, at the end of a list.
     pub fn add_slots(&mut self, first: u32, count: u32, list: usize)
-        requires ready { IsReady first count list self.old }
+        requires ready { CanAddSlots first count list self.old }
         requires few { first + count < 2 ^ 32 }
         ensures { AddsSlots first count list self.old self.new }
     {
@@ -152,13 +152,13 @@ fn put_slots(
     count: u32,
     list: usize,
 )
-    requires sound { IsSound links.old.items heads.old on_list.old.items }
+    requires sound { IsLinked links.old.items heads.old on_list.old.items }
     requires first { length links.old.items ≡ first }
     requires few { first + count < 2 ^ 32 }
     requires list { list < length heads.old }
     requires room { vec_len links.old + count ≤ vec_capacity links.old }
     requires list_room { vec_len on_list.old + count ≤ vec_capacity on_list.old }
-    ensures sound { IsSound links.new.items heads.new on_list.new.items }
+    ensures sound { IsLinked links.new.items heads.new on_list.new.items }
     ensures slots { length links.new.items ≡ first + count }
     ensures lists { map (list_of links.new.items) heads.new ≡ put_last (range_with_len first count) list (map (list_of links.old.items) heads.old) }
 {
@@ -175,13 +175,13 @@ fn put_slot(
     slot: u32,
     list: usize,
 )
-    requires sound { IsSound links.old.items heads.old on_list.old.items }
+    requires sound { IsLinked links.old.items heads.old on_list.old.items }
     requires slot { length links.old.items ≡ slot }
     requires few { slot + 1 < 2 ^ 32 }
     requires list { list < length heads.old }
     requires room { vec_len links.old < vec_capacity links.old }
     requires list_room { vec_len on_list.old < vec_capacity on_list.old }
-    ensures sound { IsSound links.new.items heads.new on_list.new.items }
+    ensures sound { IsLinked links.new.items heads.new on_list.new.items }
     ensures slots { length links.new.items ≡ slot + 1 }
     ensures room { vec_capacity links.new ≡ vec_capacity links.old }
     ensures list_room { vec_capacity on_list.new ≡ vec_capacity on_list.old }
@@ -200,10 +200,10 @@ fn move_slot(
     slot: u32,
     to: usize,
 )
-    requires sound { IsSound links.old heads.old on_list.old }
+    requires sound { IsLinked links.old heads.old on_list.old }
     requires slot { slot < length links.old }
     requires list { to < length heads.old }
-    ensures sound { IsSound links.new heads.new on_list.new }
+    ensures sound { IsLinked links.new heads.new on_list.new }
     ensures lists { map (list_of links.new) heads.new ≡ moved slot to (map (list_of links.old) heads.old) }
 {
     let from = on_list[slot as usize];

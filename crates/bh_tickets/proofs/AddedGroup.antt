@@ -20,7 +20,7 @@ use Rattle.bh_tickets.specs.declared.group_slots.Needless.TheVariants as needles
 use Rattle.bh_tickets.specs.GroupSlots.{IsGroupSlots, count_at, no_slot_taken, is_any, is_busy}
 use Rattle.bh_tickets.specs.Growth.{HasNewLists, IsGrown, lists_from}
 use Rattle.bh_tickets.specs.TicketsView.{GroupTickets, no_tickets_in}
-use Rattle.bh_tickets.specs.Whole.{group_of, groups_of, view_of, slotted, slot_in, IsWhole}
+use Rattle.bh_tickets.specs.Whole.{group_of, groups_of, view_of, slotted, slot_in, AreGroupSlots}
 use Rattle.bh_tickets.proofs.Others.{IsSame, group_same, slots_same}
 
 -- ---- lists
@@ -81,7 +81,7 @@ nothing_slotted at (suc n) none = ap (λ o. slot_in n o (slotted at n)) (none n)
 
 -- ---- lists more
 
-module _ (a b : Slots) (ss : List GroupSlots) (whole : IsWhole a ss) (more : HasNewLists a b) where
+module _ (a b : Slots) (ss : List GroupSlots) (whole : AreGroupSlots a ss) (more : HasNewLists a b) where
   pub lists_more : lists_in b 0 ≡ lists_in a 0 ++ replicate 4 []
   lists_more = ap (λ (z : Slots). lists_in z 0) more.is ∙ get_or-set_same a.families 0 (lists_in a 0 ++ replicate 4 []) [] whole.arena.wide
 
@@ -101,7 +101,7 @@ module _ (a b : Slots) (ss : List GroupSlots) (whole : IsWhole a ss) (more : Has
         payloads = λ l x own on. ap (λ (ps : List Ticket). slice_get ps x) same_payloads;
       }
 
-  pub whole_more : IsWhole b ss
+  pub whole_more : AreGroupSlots b ss
   whole_more = record {
     arena = more.arena;
     each = λ i s e. slots_same a b s (same_more i s e) whole.arena (whole.each i s e);
@@ -123,7 +123,7 @@ empty_list zero i = refl
 empty_list (suc k) zero = refl
 empty_list (suc k) (suc i) = empty_list k i
 
-module _ (a m b : Slots) (ss : List GroupSlots) (g : GroupLists) (count : ℕ) (whole : IsWhole a ss) (more : HasNewLists a m) (from : g ≡ lists_from (length (lists_in a 0))) (grown : IsGrown g count m b) (few : count ≤ 4096) where
+module _ (a m b : Slots) (ss : List GroupSlots) (g : GroupLists) (count : ℕ) (whole : AreGroupSlots a ss) (more : HasNewLists a m) (from : g ≡ lists_from (length (lists_in a 0))) (grown : IsGrown g count m b) (few : count ≤ 4096) where
   is_free : g.free ≡ length (lists_in a 0)
   is_free = ap (λ (z : GroupLists). z.free) from
 
@@ -236,7 +236,7 @@ module _ (a m b : Slots) (ss : List GroupSlots) (g : GroupLists) (count : ℕ) (
     new_apart : (i : ℕ) (s r : GroupSlots) → slice_get ss i ≡ Some s → r ≡ made → IsApart r.lists s.lists
     new_apart i s r e k = record { apart = λ l own other. (apart_new i s r e k).apart l other own }
 
-    pub whole_grown : IsWhole b (ss ++ made ∷ [])
+    pub whole_grown : AreGroupSlots b (ss ++ made ∷ [])
     whole_grown = record {
       arena = grown.arena;
       each = λ i s e. elim (get_append ss made i s e) [

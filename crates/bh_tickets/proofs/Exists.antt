@@ -19,7 +19,7 @@ use Rattle.bh_tickets.specs.declared.states.DueRule.{DueRule}
 use Rattle.bh_tickets.specs.Changes.{is_due_by, queued_in}
 use Rattle.bh_tickets.specs.GroupSlots.{any_at}
 use Rattle.bh_tickets.specs.TicketsView.{GroupTickets, group_at, IsFirstAt}
-use Rattle.bh_tickets.specs.Whole.{view_of, IsWhole}
+use Rattle.bh_tickets.specs.Whole.{view_of, AreGroupSlots}
 use Rattle.bh_tickets.proofs.Finds.{is_in, found_first, other_first, none_first, first_at, none_at, ticket_of}
 use Rattle.bh_tickets.proofs.Puts.{held_at}
 use Rattle.bh_tickets.proofs.Whole.{group_is}
@@ -117,7 +117,7 @@ slot_any f (y ∷ ys) x h e = elim (cases_eq y x) [
     or_true false = refl
 
 -- ---- the ticket of a name
-module _ (a : Slots) (ss : List GroupSlots) (i : ℕ) (s : GroupSlots) (whole : IsWhole a ss) (is : slice_get ss i ≡ Some s) (p : Ticket → Bool) where
+module _ (a : Slots) (ss : List GroupSlots) (i : ℕ) (s : GroupSlots) (whole : AreGroupSlots a ss) (is : slice_get ss i ≡ Some s) (p : Ticket → Bool) where
   first_named : (x : ℕ) → IsEarliest p a s.lists x → IsFirstAt p (group_at (view_of a ss) i) x
   first_named x e = first_at a ss i s whole is p x e.ticket e.here (earliest_first p a s.lists (whole.each i s is).arranged.distinct x e)
 
@@ -134,7 +134,7 @@ pub any_first : (p : Ticket → Bool) (g : GroupTickets) (o : Option ℕ) → If
 any_first p g None found none = sym (any_none p g.items (none refl))
 any_first p g (Some x) found none = sym (any_found p g.items found.ticket found.first)
 
-module _ (a : Slots) (ss : List GroupSlots) (i : ℕ) (s : GroupSlots) (whole : IsWhole a ss) (is : slice_get ss i ≡ Some s) where
+module _ (a : Slots) (ss : List GroupSlots) (i : ℕ) (s : GroupSlots) (whole : AreGroupSlots a ss) (is : slice_get ss i ≡ Some s) where
   pub shown_any : (p : Ticket → Bool) → list_any p (group_at (view_of a ss) i).items ≡ list_any p (tickets_of a s.lists)
   shown_any p = ap (λ (z : GroupTickets). list_any p z.items) (group_is a ss i s is)
 

@@ -11,7 +11,7 @@ use Rattle.bh_cache.specs.Slots.{Slots, is_on, ticket_at, tickets_of, list_for, 
 use Rattle.bh_tickets.specs.GroupSlots.{IsGroupSlots}
 use Rattle.bh_tickets.specs.Changes.{queued_in}
 use Rattle.bh_tickets.specs.TicketsView.{GroupTickets, group_at, IsFirstAt}
-use Rattle.bh_tickets.specs.Whole.{view_of, IsWhole}
+use Rattle.bh_tickets.specs.Whole.{view_of, AreGroupSlots}
 use Rattle.bh_cache.proofs.Listed.{IsIn, from_listed, in_listed, find_least, find_none}
 use Rattle.bh_cache.proofs.Order.{front_is, front_none, front_on, first_least}
 use Rattle.bh_tickets.proofs.Own.{tickets_rising}
@@ -115,7 +115,7 @@ module _ (a : Slots) (s : GroupSlots) (arena : IsArena a 0) (group : IsGroupSlot
           let k : false ≡ true = sym (ap (has z.0) (front_none (slots_on a 0 s.lists.queued) none)) ∙ on_queue z.0 u e z.2 in absurd cc
 
 -- ---- as the store shows it
-module _ (a : Slots) (ss : List GroupSlots) (i : ℕ) (s : GroupSlots) (whole : IsWhole a ss) (is : slice_get ss i ≡ Some s) where
+module _ (a : Slots) (ss : List GroupSlots) (i : ℕ) (s : GroupSlots) (whole : AreGroupSlots a ss) (is : slice_get ss i ≡ Some s) where
   pub first_at : (p : Ticket → Bool) (x : ℕ) (t : Ticket) → ticket_at a s.lists x ≡ Some t → find p (tickets_of a s.lists) ≡ Some t → IsFirstAt p (group_at (view_of a ss) i) x
   first_at p x t here first = subst (λ (z : GroupTickets). IsFirstAt p z x) (sym (group_is a ss i s is)) (record { ticket = t; here = shows a s x whole.arena ∙ here; first = first })
 

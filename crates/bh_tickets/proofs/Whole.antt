@@ -15,7 +15,7 @@ use Rattle.bh_tickets.specs.GroupSlots.{IsGroupSlots, IsGroupChange, IsPut, CanB
 use Rattle.bh_tickets.specs.declared.changes.TicketChange.{TicketChange}
 use Rattle.bh_tickets.specs.Changes.{changed_by}
 use Rattle.bh_tickets.specs.TicketsView.{TicketsView, GroupTickets, ChangesOnly, CanPush, at_in, in_slot, group_at}
-use Rattle.bh_tickets.specs.Whole.{group_of, groups_of, view_of, slotted, slot_in, IsWhole, IsChanged, CanChange}
+use Rattle.bh_tickets.specs.Whole.{group_of, groups_of, view_of, slotted, slot_in, AreGroupSlots, IsChanged, CanChange}
 use Rattle.bh_cache.proofs.Listed.{changed_is_map}
 use Rattle.bh_cache.proofs.Order.{count_le, length_listed}
 use Rattle.bh_cache.proofs.Counts.{count_listed}
@@ -65,7 +65,7 @@ rooms_set (y ∷ ys) zero s r is same =
 rooms_set (y ∷ ys) (suc i) s r is same =
     omega (arith, rooms_set ys i s r is same, sum_by-cons (λ (s : GroupSlots). s.slots.max) y (set ys i r), sum_by-cons (λ (s : GroupSlots). s.slots.max) y ys)
 
-module _ (a b : Slots) (ss : List GroupSlots) (i : ℕ) (s r : GroupSlots) (whole : IsWhole a ss) (is : slice_get ss i ≡ Some s)
+module _ (a b : Slots) (ss : List GroupSlots) (i : ℕ) (s r : GroupSlots) (whole : AreGroupSlots a ss) (is : slice_get ss i ≡ Some s)
     (change : IsGroupChange a s b r) where
   here : slice_get (set ss i r) i ≡ Some r
   here = set_same ss i r (get_lt ss i s is)
@@ -76,7 +76,7 @@ module _ (a b : Slots) (ss : List GroupSlots) (i : ℕ) (s r : GroupSlots) (whol
   apart_own : (j : ℕ) (k : GroupSlots) → (j ≡ i → ⊥) → slice_get ss j ≡ Some k → IsApart s.lists k.lists
   apart_own j k ne e = whole.apart i j s k is e (λ q. ne (sym q))
 
-  pub whole_kept : IsWhole b (set ss i r)
+  pub whole_kept : AreGroupSlots b (set ss i r)
   whole_kept = record {
     arena = change.arena;
     each = λ j k e. elim (cases_eq j i) [
@@ -165,7 +165,7 @@ pub put_items : (a b : Slots) (s r : GroupSlots) (x : ℕ) (t v : Ticket) → Is
 put_items a b s r x t v group done serial p f found is =
     done.items ∙ sym (changed_is_map p f (tickets_of a s.lists) t v (tickets_rising a s.lists s.next group.arranged) found is serial)
 
-module _ (a b : Slots) (ss : List GroupSlots) (i : ℕ) (s r : GroupSlots) (whole : IsWhole a ss) (is : slice_get ss i ≡ Some s) (change : IsGroupChange a s b r) where
+module _ (a b : Slots) (ss : List GroupSlots) (i : ℕ) (s r : GroupSlots) (whole : AreGroupSlots a ss) (is : slice_get ss i ≡ Some s) (change : IsGroupChange a s b r) where
   pub old_group : group_at (view_of a ss) i ≡ group_of a s
   old_group = group_is a ss i s is
 
@@ -184,7 +184,7 @@ module _ (a b : Slots) (ss : List GroupSlots) (i : ℕ) (s r : GroupSlots) (whol
   pub items_now : (f : List Ticket → List Ticket) → tickets_of b s.lists ≡ f (tickets_of a s.lists) → (group_at (view_of b (set ss i r)) i).items ≡ f (group_at (view_of a ss) i).items
   items_now f e = ap (λ (z : GroupTickets). z.items) new_group ∙ ap (tickets_of b) change.lists ∙ e ∙ sym (ap (λ (z : GroupTickets). f z.items) old_group)
 
-module _ (a b : Slots) (ss : List GroupSlots) (i : ℕ) (s r : GroupSlots) (whole : IsWhole a ss) (is : slice_get ss i ≡ Some s) (change : IsGroupChange a s b r) where
+module _ (a b : Slots) (ss : List GroupSlots) (i : ℕ) (s r : GroupSlots) (whole : AreGroupSlots a ss) (is : slice_get ss i ≡ Some s) (change : IsGroupChange a s b r) where
   pub next_now : (f : ℕ → ℕ) → r.next ≡ f s.next → (group_at (view_of b (set ss i r)) i).next ≡ f (group_at (view_of a ss) i).next
   next_now f e = ap (λ (z : GroupTickets). z.next) (now_group a b ss i s r whole is change) ∙ e ∙ sym (ap (λ (z : GroupTickets). f z.next) (group_is a ss i s is))
 
@@ -196,14 +196,14 @@ pub part_is : (a : Slots) (ss : List GroupSlots) (view : TicketsView) (i : ℕ) 
 part_is a ss view i s e lt is = get_is ss i s (let n : length (groups_of a ss) ≡ length view.groups = ap (λ (v : TicketsView). length v.groups) e in omega (arith, n, lt, length-map ss (group_of a))) is
 
 -- a ticket that is shown lies in the slot
-pub there_is : (a : Slots) (ss : List GroupSlots) (i x : ℕ) (s : GroupSlots) (t : Ticket) → IsWhole a ss → slice_get ss i ≡ Some s → in_slot (group_at (view_of a ss) i) x ≡ Some t → ticket_at a s.lists x ≡ Some t
+pub there_is : (a : Slots) (ss : List GroupSlots) (i x : ℕ) (s : GroupSlots) (t : Ticket) → AreGroupSlots a ss → slice_get ss i ≡ Some s → in_slot (group_at (view_of a ss) i) x ≡ Some t → ticket_at a s.lists x ≡ Some t
 there_is a ss i x s t whole is e = sym (shows a s x whole.arena) ∙ ap (λ (z : GroupTickets). in_slot z x) (sym (group_is a ss i s is)) ∙ e
 
-pub can_be_at : (a : Slots) (ss : List GroupSlots) (i x : ℕ) (s : GroupSlots) (change : TicketChange) → IsWhole a ss → slice_get ss i ≡ Some s → CanChange (group_at (view_of a ss) i) x change → CanBe a s x change
+pub can_be_at : (a : Slots) (ss : List GroupSlots) (i x : ℕ) (s : GroupSlots) (change : TicketChange) → AreGroupSlots a ss → slice_get ss i ≡ Some s → CanChange (group_at (view_of a ss) i) x change → CanBe a s x change
 can_be_at a ss i x s change whole is can = can_be a s (whole.each i s is) x change whole.arena (subst (λ (z : GroupTickets). CanChange z x change) (group_is a ss i s is) can)
 
 -- a ticket of one group has changed
-pub changed_is : (a b : Slots) (ss : List GroupSlots) (i x : ℕ) (s r : GroupSlots) (change : TicketChange) → IsWhole a ss → slice_get ss i ≡ Some s → CanChange (group_at (view_of a ss) i) x change
+pub changed_is : (a b : Slots) (ss : List GroupSlots) (i x : ℕ) (s r : GroupSlots) (change : TicketChange) → AreGroupSlots a ss → slice_get ss i ≡ Some s → CanChange (group_at (view_of a ss) i) x change
     → ((t : Ticket) → ticket_at a s.lists x ≡ Some t → IsPut a s x (changed_by change t) b r) → IsChanged i x change (view_of a ss) (view_of b (set ss i r))
 changed_is a b ss i x s r change whole is can done = record {
   items = λ p first.
@@ -214,7 +214,7 @@ changed_is a b ss i x s r change whole is can done = record {
   left = let put = done can.ticket (there_is a ss i x s can.ticket whole is can.here) in else_is a b ss i s r whole is put.change put.next;
 }
 
-pub can_add_at : (a : Slots) (ss : List GroupSlots) (i : ℕ) (s : GroupSlots) (v : Ticket) → IsWhole a ss → slice_get ss i ≡ Some s → CanPush (group_at (view_of a ss) i) v → CanAdd s v
+pub can_add_at : (a : Slots) (ss : List GroupSlots) (i : ℕ) (s : GroupSlots) (v : Ticket) → AreGroupSlots a ss → slice_get ss i ≡ Some s → CanPush (group_at (view_of a ss) i) v → CanAdd s v
 can_add_at a ss i s v whole is can =
     let store = group_is a ss i s is in
     let room : length (tickets_of a s.lists) < s.slots.max = subst (λ (z : GroupTickets). length z.items < z.room) store can.room in
@@ -225,7 +225,7 @@ can_add_at a ss i s v whole is can =
       needed = can.needed;
     }
 
-pub len_is : (a : Slots) (ss : List GroupSlots) (i : ℕ) (s : GroupSlots) → IsWhole a ss → slice_get ss i ≡ Some s → s.slots.taken ≡ length (group_at (view_of a ss) i).items
+pub len_is : (a : Slots) (ss : List GroupSlots) (i : ℕ) (s : GroupSlots) → AreGroupSlots a ss → slice_get ss i ≡ Some s → s.slots.taken ≡ length (group_at (view_of a ss) i).items
 len_is a ss i s whole is = taken_is a s (whole.each i s is) ∙ ap (λ (z : GroupTickets). length z.items) (sym (group_is a ss i s is))
 
 pub shown_length : (a : Slots) (ss : List GroupSlots) (i : ℕ) (s : GroupSlots) → slice_get ss i ≡ Some s → (f : List Ticket → List Ticket) → length (f (group_at (view_of a ss) i).items) ≡ length (f (tickets_of a s.lists))
@@ -234,7 +234,7 @@ shown_length a ss i s is f = ap (λ (z : GroupTickets). length (f z.items)) (gro
 pub shown_count : (a : Slots) (ss : List GroupSlots) (i : ℕ) (s : GroupSlots) → slice_get ss i ≡ Some s → (q : Ticket → Bool) → count_by q (group_at (view_of a ss) i).items ≡ count_by q (tickets_of a s.lists)
 shown_count a ss i s is q = ap (λ (z : GroupTickets). count_by q z.items) (group_is a ss i s is)
 
-pub counted_is : (a : Slots) (ss : List GroupSlots) (i : ℕ) (s : GroupSlots) (q : Ticket → Bool) → IsWhole a ss → slice_get ss i ≡ Some s → count_at a s.lists q ≡ count_by q (group_at (view_of a ss) i).items
+pub counted_is : (a : Slots) (ss : List GroupSlots) (i : ℕ) (s : GroupSlots) (q : Ticket → Bool) → AreGroupSlots a ss → slice_get ss i ≡ Some s → count_at a s.lists q ≡ count_by q (group_at (view_of a ss) i).items
 counted_is a ss i s q whole is = count_is a s (whole.each i s is) q ∙ ap (λ (z : GroupTickets). count_by q z.items) (sym (group_is a ss i s is))
 
 some_group : (ss : List GroupSlots) (i : ℕ) → i < length ss → (s : GroupSlots) × (slice_get ss i ≡ Some s)
@@ -245,19 +245,19 @@ some_group (y ∷ ys) (suc i) lt = some_group ys i (omega (arith, lt))
 within_groups : (a : Slots) (ss : List GroupSlots) (i : ℕ) → i < length (groups_of a ss) → i < length ss
 within_groups a ss i lt = omega (arith, lt, length-map ss (group_of a))
 
-pub slot_there : (a : Slots) (ss : List GroupSlots) (i x : ℕ) (t : Ticket) → IsWhole a ss → i < length (groups_of a ss) → in_slot (group_at (view_of a ss) i) x ≡ Some t → x < length a.payloads
+pub slot_there : (a : Slots) (ss : List GroupSlots) (i x : ℕ) (t : Ticket) → AreGroupSlots a ss → i < length (groups_of a ss) → in_slot (group_at (view_of a ss) i) x ≡ Some t → x < length a.payloads
 slot_there a ss i x t whole lt e =
     let r = some_group ss i (within_groups a ss i lt) in
     within_slots a r.0.lists x t (there_is a ss i x r.0 t whole r.1 e)
 
 -- what is read in the slot is the ticket
-pub some_part : (a : Slots) (ss : List GroupSlots) (i x : ℕ) (t u : Ticket) → IsWhole a ss → i < length (groups_of a ss) → in_slot (group_at (view_of a ss) i) x ≡ Some t → Some u ≡ slice_get a.payloads x → in_slot (group_at (view_of a ss) i) x ≡ Some u
+pub some_part : (a : Slots) (ss : List GroupSlots) (i x : ℕ) (t u : Ticket) → AreGroupSlots a ss → i < length (groups_of a ss) → in_slot (group_at (view_of a ss) i) x ≡ Some t → Some u ≡ slice_get a.payloads x → in_slot (group_at (view_of a ss) i) x ≡ Some u
 some_part a ss i x t u whole lt e is =
     let r = some_group ss i (within_groups a ss i lt) in
     e ∙ sym (held_at a r.0.lists x t (there_is a ss i x r.0 t whole r.1 e)).1 ∙ sym is
 
 -- no more tickets than slots
-pub items_few : (a : Slots) (ss : List GroupSlots) (i : ℕ) (s : GroupSlots) → IsWhole a ss → slice_get ss i ≡ Some s → length (group_at (view_of a ss) i).items ≤ (group_at (view_of a ss) i).room
+pub items_few : (a : Slots) (ss : List GroupSlots) (i : ℕ) (s : GroupSlots) → AreGroupSlots a ss → slice_get ss i ≡ Some s → length (group_at (view_of a ss) i).items ≤ (group_at (view_of a ss) i).room
 items_few a ss i s whole is =
     let group = whole.each i s is in
     let taken : s.slots.taken ≤ s.slots.max = omega (arith, group.taken, group.slots, count_le (λ x. has_one is_any (ticket_at a s.lists x)) (is_owned a s.lists) (length a.payloads) (owned_if a s.lists is_any)) in

@@ -30,7 +30,7 @@ abbrev pub view_of : Slots → List GroupSlots → TicketsView
 view_of a ss = record { limit = a.limit; groups = groups_of a ss }
 
 -- each group's part is as it should be, and no two groups have a list in common
-pub record IsWhole (a : Slots) (ss : List GroupSlots) : Type 0 where
+pub record AreGroupSlots (a : Slots) (ss : List GroupSlots) : Type 0 where
   pub arena : IsArena a 0
   pub each : (i : ℕ) (s : GroupSlots) → slice_get ss i ≡ Some s → IsGroupSlots a s
   pub apart : (i j : ℕ) (s r : GroupSlots) → slice_get ss i ≡ Some s → slice_get ss j ≡ Some r → i ≢ j → IsApart s.lists r.lists

@@ -32,13 +32,13 @@ pub struct Tickets {
 
 impl Model for Tickets {
     ghost use Rattle.bh_tickets.specs.TicketsView.{TicketsView};
-    ghost use Rattle.bh_tickets.specs.Whole.{view_of, IsWhole};
+    ghost use Rattle.bh_tickets.specs.Whole.{view_of, AreGroupSlots};
 
     ghost Value = { TicketsView };
 
     ghost view = { λ ts. view_of ts.arena ts.groups.items };
 
-    ghost invariant = { λ ts. IsWhole ts.arena ts.groups.items };
+    ghost invariant = { λ ts. AreGroupSlots ts.arena ts.groups.items };
 }
 
 impl Tickets {

@@ -1,7 +1,7 @@
 //! What is in force under a settings file, shown line by line.
 
 ghost use Rattle.std.specs.Prelude.{◌≡◌, ◌⊎◌, IfOk, IsErr};
-ghost use Rattle.bh_props.specs.SettingsView.{settings_seen};
+ghost use Rattle.bh_props.specs.Shown.{settings_view};
 ghost use Rattle.bulkhead.specs.SettingsFile.{settings_in};
 ghost use Rattle.bulkhead.specs.Status.{CheckStatus};
 
@@ -48,7 +48,7 @@ fn show<W: Write, E: Write>(
 ) -> u8
     ensures status { (result ≡ 0) ⊎ (result ≡ 3) }
     ensures quiet { result ≡ 0 → errors.new ≡ errors.old }
-    ensures shown { CheckStatus (settings_seen settings.now) (W.contents writer.old) (W.contents writer.new) result }
+    ensures shown { CheckStatus (settings_view settings.now) (W.contents writer.old) (W.contents writer.new) result }
 {
     let Ok(lines) = settings.to_string(alloc) else {
         return report::port(errors, PortError::Memory);

@@ -1,7 +1,7 @@
 //! A run of the service over a script.
 
 ghost use Rattle.std.specs.Prelude.{◌≡◌, ◌⊎◌, IfSome, IfOk, IsErr};
-ghost use Rattle.bh_props.specs.SettingsView.{settings_seen};
+ghost use Rattle.bh_props.specs.Shown.{settings_view};
 ghost use Rattle.bulkhead.specs.SettingsFile.{settings_in};
 ghost use Rattle.bh_lines.specs.Lines.{cut};
 ghost use Rattle.bulkhead.specs.Status.{RunStatus};
@@ -52,7 +52,7 @@ fn run_script<R: Read, W: Write, E: Write>(
     ensures status { (result ≡ 0) ⊎ (result ≡ 3) }
     ensures quiet { result ≡ 0 → errors.new ≡ errors.old }
     ensures run { IfSome (R.remaining reader.old) (λ input.
-        RunStatus (settings_seen settings.now) (cut input) (W.contents writer.old) (W.contents writer.new) result) }
+        RunStatus (settings_view settings.now) (cut input) (W.contents writer.old) (W.contents writer.new) result) }
 {
     let mut reader = WatchedReader::new(reader);
     let mut writer = WatchedWriter::new(writer);

@@ -2,7 +2,7 @@ use Rattle.std.proofs.Common.{◌≡◌, ℕ, List, [], ◌∷◌, ◌++◌, ◌
 use Rattle.std.proofs.lemmas.Grind.{common_steps}
 use Rattle.bh_base.specs.declared.props.GroupProps.{GroupProps}
 use Rattle.bh_core.specs.Groups.{Groups}
-use Rattle.bh_props.specs.SettingsView.{settings_seen}
+use Rattle.bh_props.specs.Shown.{settings_view}
 use Rattle.bh_port.proofs.OwnSteps.{opened_view, open-more, agrees-opened}
 use Rattle.bh_port.proofs.script.open.Goals as goal
 
@@ -13,7 +13,7 @@ loop-name-preserved c =
     let iter : c.loop-name._name-iterator ≡ e ∷ c.next.new.self = grind (arith, common_steps) in (
       done ++ e ∷ [],
       whole ∙ ap (λ t. done ++ t) iter ∙ sym (append_assoc done (e ∷ []) c.next.new.self),
-      open-more (settings_seen c.args.settings.now) done e c.loop-name.core c.register.new.self _ c.step_limit-limit.ensures views (ap (λ (core : Groups). core.views) c.in-Ok.ensures.added),
+      open-more (settings_view c.args.settings.now) done e c.loop-name.core c.register.new.self _ c.step_limit-limit.ensures views (ap (λ (core : Groups). core.views) c.in-Ok.ensures.added),
     )
 
 pub returns-clause-agrees : goal.returns-clause-agrees
@@ -21,4 +21,4 @@ returns-clause-agrees c =
     let (done, whole, views) = c.loop-name.invariant in
     let iter : c.loop-name._name-iterator ≡ [] = grind (arith, common_steps) in
     let all : done ≡ c.args.settings.now.groups.entries = sym (whole ∙ ap (λ t. done ++ t) iter ∙ append-nil done) in
-    agrees-opened (settings_seen c.args.settings.now) c.loop-name.core (views ∙ ap (map (opened_view (settings_seen c.args.settings.now))) all)
+    agrees-opened (settings_view c.args.settings.now) c.loop-name.core (views ∙ ap (map (opened_view (settings_view c.args.settings.now))) all)

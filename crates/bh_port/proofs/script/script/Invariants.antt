@@ -1,5 +1,5 @@
 use Rattle.std.proofs.Common.{◌+◌, ◌≤◌, length, ◌≡◌}
-use Rattle.bh_props.specs.SettingsView.{settings_seen}
+use Rattle.bh_props.specs.Shown.{settings_view}
 use Rattle.bh_streams.specs.Watched.{saturating_count, reader_of, reads_of, bytes_left, NoneFailed, writer_of, bytes_held, NoneRefused}
 use Rattle.bh_port.proofs.Running.{Progress}
 use Rattle.bh_port.proofs.script.script.Given as goal
@@ -14,5 +14,5 @@ invariant-loop g l = record {
   none_refused : NoneRefused l.fn.writer l.writer;
   piece : length l.piece ≡ 16384;
   progress : Progress (bytes_left g.R.Read.remaining l.fn.reader) (bytes_left g.R.Read.remaining l.reader)
-      (bytes_held g.W.Write.contents l.fn.writer) (bytes_held g.W.Write.contents l.writer) (settings_seen l.settings) l.run.core l.run.buffer.items;
+      (bytes_held g.W.Write.contents l.fn.writer) (bytes_held g.W.Write.contents l.writer) (settings_view l.settings) l.run.core l.run.buffer.items;
 }

@@ -1,7 +1,7 @@
 use Rattle.std.proofs.Common.{refl, subst, get_or, set}
 use Rattle.bh_index_lists.proofs.Members.{IsIn, IsIn-from_Contains, IsIn-without}
 use Rattle.bh_index_lists.proofs.Segments.{listed, IsList-from}
-use Rattle.bh_slot_arena.specs.Sound.{head_at}
+use Rattle.bh_slot_arena.specs.Linked.{head_at}
 use Rattle.bh_slot_arena.proofs.Moved.{end-sound, end-view, taken-listed}
 use Rattle.bh_slot_arena.proofs.family.move_slot.Goals as goal
 

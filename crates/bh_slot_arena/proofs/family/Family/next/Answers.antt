@@ -6,11 +6,11 @@ use Rattle.bh_index_lists.specs.declared.lists.ListHead.{ListHead}
 use Rattle.bh_index_lists.specs.Lists.{list_of, link_at, no_link, no_list}
 use Rattle.bh_index_lists.proofs.Segments.{linked-next_at}
 use Rattle.bh_slot_arena.specs.Family.{FamilyView}
-use Rattle.bh_slot_arena.specs.Sound.{IsSound, head_at}
+use Rattle.bh_slot_arena.specs.Linked.{IsLinked, head_at}
 use Rattle.bh_slot_arena.proofs.family.Family.next.Goals as goal
 
 -- by the list that has the slot
-at : (L : List Link) (heads : List ListHead) (on_list : List ℕ) (l k s : ℕ) → IsSound L heads on_list → slice_get (get_or (map (list_of L) heads) l []) k ≡ Some s → (link_at L s).next ≡ slice_get (get_or (map (list_of L) heads) l []) (k + 1)
+at : (L : List Link) (heads : List ListHead) (on_list : List ℕ) (l k s : ℕ) → IsLinked L heads on_list → slice_get (get_or (map (list_of L) heads) l []) k ≡ Some s → (link_at L s).next ≡ slice_get (get_or (map (list_of L) heads) l []) (k + 1)
 at L heads on_list l k s sound e = elim (cases_lt l (length heads)) [
   | inl lt ↦
       let is = get_or-map (list_of L) heads l no_list [] lt in

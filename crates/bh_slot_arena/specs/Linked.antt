@@ -9,7 +9,7 @@ abbrev pub head_at : List ListHead → ℕ → ListHead
 head_at heads l = slice_index_or heads l no_list
 
 -- each head is a list, and each slot is on the list whose number it has, and on no other
-pub record IsSound (links : List Link) (heads : List ListHead) (on_list : List ℕ) : Type 0 where
+pub record IsLinked (links : List Link) (heads : List ListHead) (on_list : List ℕ) : Type 0 where
   pub sizes : length on_list ≡ length links
   pub few : length links < 2 ^ 32
   pub listed : (l : ℕ) → l < length heads → IsList links (head_at heads l)
