@@ -1,7 +1,6 @@
 //! A walk for tickets that are due to time out.
 
 ghost use Rattle.std.specs.Prelude.{◌≡◌, ◌<◌, length};
-ghost use Rattle.std.specs.List.{list_any};
 ghost use Rattle.bh_slot_arena.specs.Slots.{lists_in, slots_on};
 ghost use Rattle.bh_tickets.specs.Changes.{is_due_by};
 ghost use Rattle.bh_tickets.specs.GroupSlots.{any_at};

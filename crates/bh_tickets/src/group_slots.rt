@@ -1,9 +1,9 @@
 //! What a group keeps of its tickets beside their slots, and the changes of one slot.
 
-ghost use Rattle.std.specs.Prelude.{◌≡◌, ◌≢◌, ℕ, ◌+◌, ◌-◌, ◌<◌, ◌≤◌, ◌^◌, Some, None, Bool, true, false, length, is_some, if◌then◌else◌, eqb};
+ghost use Rattle.std.specs.Prelude.{◌≡◌, ◌≢◌, ◌+◌, ◌-◌, ◌<◌, ◌≤◌, ◌^◌, Some, true, length, is_some};
 ghost use Rattle.bh_base.specs.declared.ticket.Ticket.{Ticket};
-ghost use Rattle.bh_base.specs.Tickets.{in_state, is_queued, is_in_fallback, is_kept};
-ghost use Rattle.bh_slot_arena.specs.Slots.{lists_in, with_payload, with_moved};
+ghost use Rattle.bh_base.specs.Tickets.{is_queued, is_in_fallback, is_kept};
+ghost use Rattle.bh_slot_arena.specs.Slots.{lists_in, with_moved};
 ghost use Rattle.bh_cache.specs.Slots.{IsArena, list_for, ticket_at, one};
 ghost use Rattle.bh_tickets.specs.GroupSlots.{IsGroupSlots, CanBe, IsPut, CanAdd, IsAdded, IsReleasedAt, IsTimed, IsUncached, counted_in, counted_out, no_slot_taken, noted};
 ghost use Rattle.bh_tickets.specs.Changes.{changed_by};

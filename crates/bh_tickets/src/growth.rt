@@ -1,6 +1,6 @@
 //! How the arena grows by a group.
 
-ghost use Rattle.std.specs.Prelude.{◌≡◌, ℕ, ◌+◌, ◌≤◌, ◌^◌, [], ◌∷◌, length, IfOk, OnErr, OnOk};
+ghost use Rattle.std.specs.Prelude.{◌≡◌, ◌+◌, [], ◌∷◌, length, IfOk, OnErr, OnOk};
 ghost use Rattle.bh_base.specs.declared.ticket.Ticket.{Ticket};
 ghost use Rattle.bh_slot_arena.specs.Slots.{lists_in};
 ghost use Rattle.bh_tickets.specs.Growth.{HasNewLists, IsGrown, IsReadyFor, lists_from};

@@ -1,6 +1,6 @@
 //! What is asked of one ticket.
 
-ghost use Rattle.std.specs.Prelude.{◌≡◌, ℕ, ◌-◌, ◌<◌, nat_lt};
+ghost use Rattle.std.specs.Prelude.{◌≡◌, ◌-◌, ◌<◌, nat_lt};
 ghost use Rattle.bh_base.specs.Tickets.{is_in_fallback, is_kept, is_queued, is_running};
 ghost use Rattle.bh_tickets.specs.Changes.{is_due_by, is_unanswered};
 
