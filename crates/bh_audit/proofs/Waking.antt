@@ -22,8 +22,7 @@ use Rattle.bh_base.specs.Machine.{Present, Outcome, admitted, cached_as, circuit
 use Rattle.bh_base.specs.Order.{Rise}
 use Rattle.bh_base.specs.Runs.{View, begun, is_worn}
 use Rattle.bh_base.specs.Seen.{view_after, view_outcome, view_recorded, view_reply, view_rolling}
-use Rattle.bh_base.specs.Tickets.{changed_first, in_state, is_busy_at, is_cached_in, is_held_at, is_in_fallback_at, is_kept, is_queued, is_running}
-use Rattle.bh_core.specs.Changes.{is_unanswered}
+use Rattle.bh_base.specs.Tickets.{changed_first, in_state, is_busy_at, is_cached_in, is_held_at, is_in_fallback_at, is_kept, is_queued, is_running, is_unanswered}
 use Rattle.bh_core.specs.Looks.{is_assigned, is_pending, is_worn_out}
 use Rattle.bh_core.proofs.Looks.{collect_seen, unheld_not_pending}
 use Rattle.bh_audit.specs.declared.freed.Freed.{Freed}

@@ -17,6 +17,10 @@ is_running t = elim t.state [ ticket.Running ↦ true | _ ↦ false ]
 abbrev pub is_in_fallback : Ticket → Bool
 is_in_fallback t = elim t.state [ ticket.InFallback _ ↦ true | _ ↦ false ]
 
+-- whether a holder that collects gets no answer yet: the ticket waits, or its run or its fallback is under way
+abbrev pub is_unanswered : Ticket → Bool
+is_unanswered t = elim t.state [ ticket.Queued ↦ true | ticket.Running ↦ true | ticket.InFallback _ ↦ true | _ ↦ false ]
+
 -- whether the ticket is still needed: its run has not ended, a holder is to collect, or requests may join
 abbrev pub is_kept : Ticket → Bool
 is_kept t = t.busy || nat_lt 0 t.holders || t.cached

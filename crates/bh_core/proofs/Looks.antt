@@ -15,8 +15,8 @@ use Rattle.bh_base.specs.Replies.{is_answer_to}
 use Rattle.bh_base.specs.Runs.{View, begun, is_worn}
 use Rattle.bh_base.specs.Seen.{view_outcome, view_reply}
 use Rattle.bh_base.proofs.Answering.{outcome_answers}
-use Rattle.bh_base.specs.Tickets.{in_state, is_held_at, is_queued}
-use Rattle.bh_tickets.specs.Changes.{is_due_by, is_unanswered}
+use Rattle.bh_base.specs.Tickets.{in_state, is_held_at, is_queued, is_unanswered}
+use Rattle.bh_tickets.specs.Changes.{is_due_by}
 use Rattle.bh_core.specs.Stepping.{due_rule_of}
 use Rattle.bh_tickets.specs.declared.states.DueRule.{DueRule}
 use Rattle.bh_core.specs.Looks.{expires_some, is_assigned, is_pending, is_worn_out}

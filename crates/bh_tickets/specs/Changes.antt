@@ -44,10 +44,6 @@ is_due_by due t = due.timeout_on && (is_queued t || is_running t) && nat_le due.
 abbrev pub timed_out_by : DueRule → Ticket → Ticket
 timed_out_by due t = if is_due_by due t then in_state (ticket.NeedsFallback cause.Timeout) t else t
 
--- a holder that collects gets no answer yet: the ticket waits, or its run or its fallback is under way
-abbrev pub is_unanswered : Ticket → Bool
-is_unanswered t = elim t.state [ ticket.Queued ↦ true | ticket.Running ↦ true | ticket.InFallback _ ↦ true | _ ↦ false ]
-
 -- whether a ticket in the state waits
 abbrev pub queued_in : TicketState → Bool
 queued_in s = elim s [ ticket.Queued ↦ true | _ ↦ false ]

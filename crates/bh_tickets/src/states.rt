@@ -1,8 +1,8 @@
 //! What is asked of one ticket.
 
 ghost use Rattle.std.specs.Prelude.{◌≡◌, ◌-◌, ◌<◌, nat_lt};
-ghost use Rattle.bh_base.specs.Tickets.{is_in_fallback, is_kept, is_queued, is_running};
-ghost use Rattle.bh_tickets.specs.Changes.{is_due_by, is_unanswered};
+ghost use Rattle.bh_base.specs.Tickets.{is_in_fallback, is_kept, is_queued, is_running, is_unanswered};
+ghost use Rattle.bh_tickets.specs.Changes.{is_due_by};
 
 use bh_base::{Moment, Ticket, TicketState};
 
