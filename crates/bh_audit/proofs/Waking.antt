@@ -26,7 +26,7 @@ use Rattle.bh_base.specs.Tickets.{changed_first, in_state, is_busy_at, is_cached
 use Rattle.bh_core.specs.Looks.{is_assigned, is_pending, is_worn_out}
 use Rattle.bh_core.proofs.Looks.{collect_seen, unheld_not_pending}
 use Rattle.bh_audit.specs.declared.freed.Freed.{Freed}
-use Rattle.bh_core.specs.Groups.{Groups}
+use Rattle.bh_core.specs.CoreView.{CoreView}
 use Rattle.bh_core.specs.Step.{IsStep}
 use Rattle.bh_base.specs.declared.step.Step.{Step}
 use Rattle.bh_base.specs.declared.reply.Reply.{Reply}
@@ -330,7 +330,7 @@ loses_none v o now f was look worker next_worker worn fresh = record {
     at serial next m m' rise before after false is = ap (λ c. frees_caller c serial) (fresh is) ∙ frees_enough v o now serial next m m' is rise before after
 
 -- so no wake-up is lost in the group of the step
-pub keeps_wake_ups : (old new : Groups) (x : Step) (r : Reply) (f : Freed) (was : Bool) → IsStep old x r new → ((v : View) (m : ℕ) → slice_get old.views x.group.0 ≡ Some v → was ≡ is_assigned (view_reply v op.Start m))
+pub keeps_wake_ups : (old new : CoreView) (x : Step) (r : Reply) (f : Freed) (was : Bool) → IsStep old x r new → ((v : View) (m : ℕ) → slice_get old.views x.group.0 ≡ Some v → was ≡ is_assigned (view_reply v op.Start m))
     → ((w : View) (m : ℕ) → slice_get new.views x.group.0 ≡ Some w → was ≡ false → is_assigned (view_reply w op.Start m) ≡ true → frees_one f.workers ≡ true)
     → ((w : View) (m : ℕ) → slice_get new.views x.group.0 ≡ Some w → is_told_again x.op ≡ true → is_assigned (view_reply w op.Start m) ≡ true → frees_one f.workers ≡ true)
     → ((w : View) → slice_get new.views x.group.0 ≡ Some w → is_worn w.present ≡ true → IsEverybody f) → ((w : View) → slice_get new.views x.group.0 ≡ Some w → is_worn w.present ≡ false → f.callers ≡ frees_by x.op)

@@ -6,7 +6,7 @@ use Rattle.bh_base.specs.declared.step.Op.TheVariants as op
 use Rattle.bh_base.specs.Order.{Rise}
 use Rattle.bh_base.specs.Runs.{View, is_worn}
 use Rattle.bh_base.specs.Seen.{view_reply}
-use Rattle.bh_core.specs.Groups.{Groups}
+use Rattle.bh_core.specs.CoreView.{CoreView}
 use Rattle.bh_core.specs.Looks.{is_assigned, is_pending}
 use Rattle.bh_audit.specs.declared.freed.Freed.{Freed}
 use Rattle.bh_audit.specs.declared.freed.FreedCallers.{FreedCallers}
@@ -58,6 +58,6 @@ pub record LosesNoWakeUp (before : View) (o : Op) (after : View) (freed : Freed)
   pub worn : is_worn after.present ≡ true → IsEverybody freed
 
 -- no wake-up is lost in the group by a step of the operation that took all groups from old to new
-abbrev pub KeepsWakeUps : Groups → GroupId → Op → Groups → Freed → Type 0
+abbrev pub KeepsWakeUps : CoreView → GroupId → Op → CoreView → Freed → Type 0
 KeepsWakeUps old group o new freed =
     (before after : View) → slice_get old.views group.0 ≡ Some before → slice_get new.views group.0 ≡ Some after → LosesNoWakeUp before o after freed

@@ -10,18 +10,18 @@ use Rattle.bh_base.specs.Runs.{State, View, IsSound, step, view}
 use Rattle.bh_base.specs.Seen.{view_after, view_reply}
 use Rattle.bh_base.proofs.Answering.{view_reply_fits}
 use Rattle.bh_base.proofs.Views.{step_sound}
-use Rattle.bh_core.specs.Groups.{Groups, Shows}
+use Rattle.bh_core.specs.CoreView.{CoreView, Shows}
 use Rattle.bh_core.specs.Step.{IsStep}
 use Rattle.bh_core.specs.Stepping.{IsSteady}
 use Rattle.bh_core.proofs.OneOfMany.{known, past_last, seen_reply, seen_view, step_others, step_reply, step_view}
 use Rattle.bh_core.proofs.Refused.{full_moves_on, not_unknown, worn_leaves}
 
 -- the groups of the views
-abbrev limited : ℕ → List View → Groups
+abbrev limited : ℕ → List View → CoreView
 limited limit ds = record { slot_limit = limit; views = ds }
 
 -- the group has no number yet: it is told so, and nothing changes
-pub step_unknown : (groups : Groups) (x : Step) → length groups.views ≤ x.group.0 → IsStep groups x NoGroup groups
+pub step_unknown : (groups : CoreView) (x : Step) → length groups.views ≤ x.group.0 → IsStep groups x NoGroup groups
 step_unknown groups x past = record {
   reply = λ s shows. absurd (past_last groups.views x.group.0 (view s) past shows.view_is);
   own = λ s shows. absurd (past_last groups.views x.group.0 (view s) past shows.view_is);

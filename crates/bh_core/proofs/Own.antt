@@ -8,7 +8,7 @@ use Rattle.bh_base.specs.Bounds.{HeldBy}
 use Rattle.bh_base.specs.Machine.{changed}
 use Rattle.bh_base.specs.Tickets.{changed_first, is_held_at, is_kept}
 use Rattle.bh_core.proofs.Ops.{with_present}
-use Rattle.bh_core.specs.Group.{BareGroup, HasTickets, Leaves, view_in}
+use Rattle.bh_core.specs.GroupView.{GroupView, HasTickets, Leaves, view_in}
 use Rattle.bh_core.specs.Stepping.{released_view}
 use Rattle.bh_tickets.specs.TicketsView.{GroupTickets, IsFirstAt, TicketsView, group_at, in_slot, no_tickets_in}
 
@@ -69,12 +69,12 @@ pub group_read : (ts : TicketsView) (i : ℕ) (x : GroupTickets) → slice_get t
 group_read ts i x e = group_at_is ts i ∙ ap read_or e
 
 -- a group whose tickets are as they were is as it was
-pub view_same : (ts us : TicketsView) (g : BareGroup) → slice_get us.groups g.number ≡ slice_get ts.groups g.number → view_in us g ≡ view_in ts g
+pub view_same : (ts us : TicketsView) (g : GroupView) → slice_get us.groups g.number ≡ slice_get ts.groups g.number → view_in us g ≡ view_in ts g
 view_same ts us g e =
     let same = group_alike ts us g.number e in
     λ i. record (view_in ts g) { present = record (view_in ts g).present { tickets = (same i).items; serial = (same i).next } }
 
-pub tickets_same : (ts us : TicketsView) (g : BareGroup) → length ts.groups ≤ length us.groups → slice_get us.groups g.number ≡ slice_get ts.groups g.number → HasTickets ts g → HasTickets us g
+pub tickets_same : (ts us : TicketsView) (g : GroupView) → length ts.groups ≤ length us.groups → slice_get us.groups g.number ≡ slice_get ts.groups g.number → HasTickets ts g → HasTickets us g
 tickets_same ts us g count e has =
     let same = group_alike ts us g.number e in
     record {
@@ -85,7 +85,7 @@ tickets_same ts us g count e has =
     }
 
 -- one change after another
-pub leaves_twice : (ts us vs : TicketsView) (g h k : BareGroup) → Leaves ts g us h → Leaves us h vs k → Leaves ts g vs k
+pub leaves_twice : (ts us vs : TicketsView) (g h k : GroupView) → Leaves ts g us h → Leaves us h vs k → Leaves ts g vs k
 leaves_twice ts us vs g h k l m = record {
   number = m.number ∙ l.number;
   props = m.props ∙ l.props;
@@ -97,9 +97,9 @@ leaves_twice ts us vs g h k l m = record {
 }
 
 -- one ticket of the group was changed, and nothing else of it
-pub view_changed : (ts us : TicketsView) (g : BareGroup) (p : Ticket → Bool) (f : Ticket → Ticket) → (group_at us g.number).items ≡ changed_first p f (group_at ts g.number).items → (group_at us g.number).next ≡ (group_at ts g.number).next → view_in us g ≡ with_present (changed p f (view_in ts g).present) (view_in ts g)
+pub view_changed : (ts us : TicketsView) (g : GroupView) (p : Ticket → Bool) (f : Ticket → Ticket) → (group_at us g.number).items ≡ changed_first p f (group_at ts g.number).items → (group_at us g.number).next ≡ (group_at ts g.number).next → view_in us g ≡ with_present (changed p f (view_in ts g).present) (view_in ts g)
 view_changed ts us g p f items next = λ i. record (view_in ts g) { present = record (view_in ts g).present { tickets = items i; serial = next i } }
 
 -- tickets of the group that nobody needs are gone, and nothing else of it was changed
-pub view_released : (ts us : TicketsView) (g : BareGroup) → (group_at us g.number).items ≡ filter is_kept (group_at ts g.number).items → (group_at us g.number).next ≡ (group_at ts g.number).next → view_in us g ≡ released_view (view_in ts g)
+pub view_released : (ts us : TicketsView) (g : GroupView) → (group_at us g.number).items ≡ filter is_kept (group_at ts g.number).items → (group_at us g.number).next ≡ (group_at ts g.number).next → view_in us g ≡ released_view (view_in ts g)
 view_released ts us g items next = λ i. record (view_in ts g) { present = record (view_in ts g).present { tickets = items i; serial = next i } }

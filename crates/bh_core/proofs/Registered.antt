@@ -8,8 +8,8 @@ use Rattle.bh_base.specs.History.{window_of}
 use Rattle.bh_base.specs.Bounds.{HeldBy}
 use Rattle.bh_base.specs.Runs.{opened, view}
 use Rattle.bh_base.specs.Tickets.{is_kept}
-use Rattle.bh_core.specs.Group.{BareGroup, HasTickets, new_group, view_in}
-use Rattle.bh_core.specs.Groups.{slots_in}
+use Rattle.bh_core.specs.GroupView.{GroupView, HasTickets, new_group, view_in}
+use Rattle.bh_core.specs.CoreView.{slots_in}
 use Rattle.bh_core.specs.Stepping.{IsSteady}
 use Rattle.bh_core.specs.Whole.{AreGroups, views_in}
 use Rattle.bh_core.proofs.AllGroups.{map_alike, slots_alike}
@@ -34,7 +34,7 @@ push_cases C (y ∷ ys) x zero k e old new = old e
 push_cases C (y ∷ ys) x (suc i) k e old new = push_cases C ys x i k e old (λ p q. new (ap suc p) q)
 
 -- whether the slots of one more group are within the limit
-pub within : (ts : TicketsView) (gs : List BareGroup) (slots : ℕ) (b : Bool) → AreGroups ts gs → b ≡ nat_le (slots_of ts + slots) ts.limit → b ≡ true → slots_in (views_in ts gs) + slots ≤ ts.limit
+pub within : (ts : TicketsView) (gs : List GroupView) (slots : ℕ) (b : Bool) → AreGroups ts gs → b ≡ nat_le (slots_of ts + slots) ts.limit → b ≡ true → slots_in (views_in ts gs) + slots ≤ ts.limit
 within ts gs slots b all asked is =
     let fits : slots_of ts + slots ≤ ts.limit = at_most _ _ (sym asked ∙ is) in
     omega (arith, fits, slots_alike ts gs all)
@@ -42,7 +42,7 @@ within ts gs slots b all asked is =
     at_most : (m n : ℕ) → nat_le m n ≡ true → m ≤ n
     at_most m n h = grind (arith, nat_tests)
 
-pub beyond : (ts : TicketsView) (gs : List BareGroup) (slots : ℕ) (b : Bool) → AreGroups ts gs → b ≡ nat_le (slots_of ts + slots) ts.limit → b ≡ false → ts.limit < slots_in (views_in ts gs) + slots
+pub beyond : (ts : TicketsView) (gs : List GroupView) (slots : ℕ) (b : Bool) → AreGroups ts gs → b ≡ nat_le (slots_of ts + slots) ts.limit → b ≡ false → ts.limit < slots_in (views_in ts gs) + slots
 beyond ts gs slots b all asked is =
     let passes : ts.limit < slots_of ts + slots = more _ _ (sym asked ∙ is) in
     omega (arith, passes, slots_alike ts gs all)
@@ -54,11 +54,11 @@ beyond ts gs slots b all asked is =
 abbrev pub with_group : TicketsView → ℕ → TicketsView
 with_group ts slots = record ts { groups = ts.groups ++ no_tickets_in slots ∷ [] }
 
-module _ (ts : TicketsView) (gs : List BareGroup) (props : GroupProps) (limit : ℕ) (all : AreGroups ts gs) where
+module _ (ts : TicketsView) (gs : List GroupView) (props : GroupProps) (limit : ℕ) (all : AreGroups ts gs) where
   abbrev pub us : TicketsView
   us = with_group ts props.slots
 
-  abbrev pub g : BareGroup
+  abbrev pub g : GroupView
   g = new_group (length gs) props limit
 
   many : length us.groups ≡ length gs + 1
@@ -69,7 +69,7 @@ module _ (ts : TicketsView) (gs : List BareGroup) (props : GroupProps) (limit : 
   own = group_read us g.number (no_tickets_in props.slots) (ap (slice_get us.groups) (sym all.count) ∙ slice_get-pushed ts.groups (no_tickets_in props.slots))
 
   -- and the others are as they were
-  apart : (i : ℕ) (k : BareGroup) → slice_get gs i ≡ Some k → slice_get us.groups k.number ≡ slice_get ts.groups k.number
+  apart : (i : ℕ) (k : GroupView) → slice_get gs i ≡ Some k → slice_get us.groups k.number ≡ slice_get ts.groups k.number
   apart i k e = slice_get-push ts.groups (no_tickets_in props.slots) k.number (all.tickets i k e).there
 
   -- it shows a new group's view
@@ -94,13 +94,13 @@ module _ (ts : TicketsView) (gs : List BareGroup) (props : GroupProps) (limit : 
   pub groups_pushed : AreGroups us (gs ++ g ∷ [])
   groups_pushed = record {
     count = many ∙ sym (length-append gs (g ∷ []));
-    number = λ i k e. push_cases (k.number ≡ i) gs g i k e (λ q. all.number i k q) (λ p q. ap (λ (x : BareGroup). x.number) q ∙ sym p);
+    number = λ i k e. push_cases (k.number ≡ i) gs g i k e (λ q. all.number i k q) (λ p q. ap (λ (x : GroupView). x.number) q ∙ sym p);
     tickets = λ i k e. push_cases (HasTickets us k) gs g i k e
         (λ q. tickets_same ts us k (omega (arith, many, all.count)) (apart i k q) (all.tickets i k q))
         (λ p q. subst (HasTickets us) (sym q) has);
     steady = λ i k e. push_cases (IsSteady (view_in us k)) gs g i k e
         (λ q. subst IsSteady (sym (view_same ts us k (apart i k q))) (all.steady i k q))
-        (λ p q. subst (λ (x : BareGroup). IsSteady (view_in us x)) (sym q) steady);
+        (λ p q. subst (λ (x : GroupView). IsSteady (view_in us x)) (sym q) steady);
   }
 
   pub views_pushed : views_in us (gs ++ g ∷ []) ≡ views_in ts gs ++ view (opened props limit) ∷ []

@@ -3,10 +3,10 @@ use Rattle.std.proofs.Common.{ℕ, List, Some, ◌∙◌, sym, ap}
 use Rattle.bh_base.specs.declared.reply.Reply.{Reply}
 use Rattle.bh_base.specs.declared.step.Step.{Step}
 use Rattle.bh_base.specs.Runs.{State, replies, state_after, view}
-use Rattle.bh_core.specs.Groups.{Groups, Shows}
+use Rattle.bh_core.specs.CoreView.{CoreView, Shows}
 use Rattle.bh_core.specs.Runs.{AreTwoWorlds, EndAlike}
 
-pub end_alike : (group : ℕ) (s : State) (a b c d : Groups) (xs ys : List Step) (told heard : List Reply) → AreTwoWorlds group s a b c d xs ys told heard → EndAlike group b d xs ys told heard
+pub end_alike : (group : ℕ) (s : State) (a b c d : CoreView) (xs ys : List Step) (told heard : List Reply) → AreTwoWorlds group s a b c d xs ys told heard → EndAlike group b d xs ys told heard
 end_alike group s a b c d xs ys told heard are =
     let shown : Shows c group s = record { sound = are.shows.sound; view_is = are.alike ∙ are.shows.view_is } in
     record {

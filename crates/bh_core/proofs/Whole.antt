@@ -8,7 +8,7 @@ use Rattle.bh_base.specs.declared.reply.Reply.{Reply}
 use Rattle.bh_base.specs.declared.reply.Reply.TheVariants.{NoGroup}
 use Rattle.bh_base.specs.Runs.{State, step, replies, state_after, own}
 use Rattle.bh_base.proofs.OneMore.{replies-push, state_after-push, own-push, own-push_same, own-push_other}
-use Rattle.bh_core.specs.Groups.{Groups, Shows, own_replies}
+use Rattle.bh_core.specs.CoreView.{CoreView, Shows, own_replies}
 use Rattle.bh_core.specs.Step.{IsStep}
 
 -- what a step adds to the own replies of a group
@@ -31,11 +31,11 @@ own_replies-push group (y ∷ ys) x (q ∷ qs) r same =
     front false z e = e
 
 -- so far the group was told what its machine tells, and shows its state
-pub record GoesAs (group : ℕ) (s : State) (xs : List Step) (rs : List Reply) (now : Groups) : Type 0 where
+pub record GoesAs (group : ℕ) (s : State) (xs : List Step) (rs : List Reply) (now : CoreView) : Type 0 where
   pub told : own_replies group xs rs ≡ replies s (own group xs)
   pub shown : Shows now group (state_after s (own group xs))
 
-its_own : (group : ℕ) (s : State) (xs : List Step) (x : Step) (rs : List Reply) (r : Reply) (old new : Groups) → length xs ≡ length rs → x.group.0 ≡ group → (x.group.0 == group) ≡ true → GoesAs group s xs rs old → IsStep old x r new → GoesAs group s (xs ++ x ∷ []) (rs ++ r ∷ []) new
+its_own : (group : ℕ) (s : State) (xs : List Step) (x : Step) (rs : List Reply) (r : Reply) (old new : CoreView) → length xs ≡ length rs → x.group.0 ≡ group → (x.group.0 == group) ≡ true → GoesAs group s xs rs old → IsStep old x r new → GoesAs group s (xs ++ x ∷ []) (rs ++ r ∷ []) new
 its_own group s xs x rs r old new same is test so applied =
     let mine : own group (xs ++ x ∷ []) ≡ own group xs ++ x ∷ [] = own-push_same group xs x test in
     let shown : Shows old x.group.0 (state_after s (own group xs)) = subst (λ (g : ℕ). Shows old g (state_after s (own group xs))) (sym is) so.shown in
@@ -50,7 +50,7 @@ its_own group s xs x rs r old new same is test so applied =
           (subst (λ (g : ℕ). Shows new g (step (state_after s (own group xs)) x.op x.now).state) is (applied.own (state_after s (own group xs)) shown));
     }
 
-not_its_own : (group : ℕ) (s : State) (xs : List Step) (x : Step) (rs : List Reply) (r : Reply) (old new : Groups) → length xs ≡ length rs → group ≢ x.group.0 → (x.group.0 == group) ≡ false → GoesAs group s xs rs old → IsStep old x r new → GoesAs group s (xs ++ x ∷ []) (rs ++ r ∷ []) new
+not_its_own : (group : ℕ) (s : State) (xs : List Step) (x : Step) (rs : List Reply) (r : Reply) (old new : CoreView) → length xs ≡ length rs → group ≢ x.group.0 → (x.group.0 == group) ≡ false → GoesAs group s xs rs old → IsStep old x r new → GoesAs group s (xs ++ x ∷ []) (rs ++ r ∷ []) new
 not_its_own group s xs x rs r old new same differ test so applied =
     let mine : own group (xs ++ x ∷ []) ≡ own group xs = own-push_other group xs x test in
     record {
@@ -65,7 +65,7 @@ not_its_own group s xs x rs r old new same differ test so applied =
       });
     }
 
-pub goes_on : (group : ℕ) (s : State) (xs : List Step) (x : Step) (rs : List Reply) (r : Reply) (old new : Groups) → length xs ≡ length rs → GoesAs group s xs rs old → IsStep old x r new → GoesAs group s (xs ++ x ∷ []) (rs ++ r ∷ []) new
+pub goes_on : (group : ℕ) (s : State) (xs : List Step) (x : Step) (rs : List Reply) (r : Reply) (old new : CoreView) → length xs ≡ length rs → GoesAs group s xs rs old → IsStep old x r new → GoesAs group s (xs ++ x ∷ []) (rs ++ r ∷ []) new
 goes_on group s xs x rs r old new same so applied = at (x.group.0 == group) refl
   where
     at : (b : Bool) → (x.group.0 == group) ≡ b → GoesAs group s (xs ++ x ∷ []) (rs ++ r ∷ []) new
@@ -80,11 +80,11 @@ no_groups-push [] x = refl
 no_groups-push (y ∷ ys) x = ap (λ rs. NoGroup ∷ rs) (no_groups-push ys x)
 
 -- so far a group that is not registered was told so, and is not registered still
-pub record IsUnknown (group : ℕ) (xs : List Step) (rs : List Reply) (now : Groups) : Type 0 where
+pub record IsUnknown (group : ℕ) (xs : List Step) (rs : List Reply) (now : CoreView) : Type 0 where
   pub told : own_replies group xs rs ≡ no_groups (own group xs)
   pub none : slice_get now.views group ≡ None
 
-pub stays_unknown : (group : ℕ) (xs : List Step) (x : Step) (rs : List Reply) (r : Reply) (old new : Groups) → length xs ≡ length rs → IsUnknown group xs rs old → IsStep old x r new → IsUnknown group (xs ++ x ∷ []) (rs ++ r ∷ []) new
+pub stays_unknown : (group : ℕ) (xs : List Step) (x : Step) (rs : List Reply) (r : Reply) (old new : CoreView) → length xs ≡ length rs → IsUnknown group xs rs old → IsStep old x r new → IsUnknown group (xs ++ x ∷ []) (rs ++ r ∷ []) new
 stays_unknown group xs x rs r old new same so applied = at (x.group.0 == group) refl
   where
     mine : x.group.0 ≡ group → (x.group.0 == group) ≡ true → IsUnknown group (xs ++ x ∷ []) (rs ++ r ∷ []) new
@@ -97,7 +97,7 @@ stays_unknown group xs x rs r old new same so applied = at (x.group.0 == group) 
               ∙ ap (λ q. no_groups (own group xs) ++ q ∷ []) (applied.unknown none)
               ∙ sym (no_groups-push (own group xs) x)
               ∙ ap no_groups (sym (own-push_same group xs x test));
-          none = ap (λ (gs : Groups). slice_get gs.views group) (applied.unknown_same none) ∙ so.none;
+          none = ap (λ (gs : CoreView). slice_get gs.views group) (applied.unknown_same none) ∙ so.none;
         }
 
     other : group ≢ x.group.0 → (x.group.0 == group) ≡ false → IsUnknown group (xs ++ x ∷ []) (rs ++ r ∷ []) new
@@ -119,10 +119,10 @@ abbrev seen : List Step → ℕ → List Step
 seen steps i = take i steps
 
 -- the step at the place i, as a loop over the steps sees it
-pub goes_on_in : (group : ℕ) (s : State) (steps : List Step) (i : ℕ) (x : Step) (rs us : List Reply) (r : Reply) (old new : Groups) → length (seen steps i) ≡ length rs → seen steps (i + 1) ≡ seen steps i ++ x ∷ [] → us ≡ rs ++ r ∷ [] → GoesAs group s (seen steps i) rs old → IsStep old x r new → GoesAs group s (seen steps (i + 1)) us new
+pub goes_on_in : (group : ℕ) (s : State) (steps : List Step) (i : ℕ) (x : Step) (rs us : List Reply) (r : Reply) (old new : CoreView) → length (seen steps i) ≡ length rs → seen steps (i + 1) ≡ seen steps i ++ x ∷ [] → us ≡ rs ++ r ∷ [] → GoesAs group s (seen steps i) rs old → IsStep old x r new → GoesAs group s (seen steps (i + 1)) us new
 goes_on_in group s steps i x rs us r old new same next pushed so applied =
     subst (λ ys. GoesAs group s ys us new) (sym next) (subst (λ vs. GoesAs group s (seen steps i ++ x ∷ []) vs new) (sym pushed) (goes_on group s (seen steps i) x rs r old new same so applied))
 
-pub stays_unknown_in : (group : ℕ) (steps : List Step) (i : ℕ) (x : Step) (rs us : List Reply) (r : Reply) (old new : Groups) → length (seen steps i) ≡ length rs → seen steps (i + 1) ≡ seen steps i ++ x ∷ [] → us ≡ rs ++ r ∷ [] → IsUnknown group (seen steps i) rs old → IsStep old x r new → IsUnknown group (seen steps (i + 1)) us new
+pub stays_unknown_in : (group : ℕ) (steps : List Step) (i : ℕ) (x : Step) (rs us : List Reply) (r : Reply) (old new : CoreView) → length (seen steps i) ≡ length rs → seen steps (i + 1) ≡ seen steps i ++ x ∷ [] → us ≡ rs ++ r ∷ [] → IsUnknown group (seen steps i) rs old → IsStep old x r new → IsUnknown group (seen steps (i + 1)) us new
 stays_unknown_in group steps i x rs us r old new same next pushed so applied =
     subst (λ ys. IsUnknown group ys us new) (sym next) (subst (λ vs. IsUnknown group (seen steps i ++ x ∷ []) vs new) (sym pushed) (stays_unknown group (seen steps i) x rs r old new same so applied))

@@ -1,10 +1,10 @@
-pub mod Groups
+pub mod CoreView
 pub mod Step
 pub mod Looks
 pub mod HistoryView
 pub mod History
 pub mod Counted
 pub mod Stepping
-pub mod Group
+pub mod GroupView
 pub mod Runs
 pub mod Whole

@@ -7,10 +7,10 @@ use Rattle.bh_base.specs.Replies.{can_reply}
 use Rattle.bh_base.specs.Runs.{State, View, moved_on}
 use Rattle.bh_base.specs.Runs.{step as machine_step}
 use Rattle.bh_base.specs.Seen.{view_after, view_reply}
-use Rattle.bh_core.specs.Groups.{Groups, Shows}
+use Rattle.bh_core.specs.CoreView.{CoreView, Shows}
 
 -- the step took the groups from old to new, and was told the reply
-pub record IsStep (old : Groups) (step : Step) (told : Reply) (new : Groups) : Type 0 where
+pub record IsStep (old : CoreView) (step : Step) (told : Reply) (new : CoreView) : Type 0 where
   -- the group goes as its machine does, from every state that it may be in by its view
   pub reply : (s : State) → Shows old step.group.0 s → told ≡ (machine_step s step.op step.now).reply
   pub own : (s : State) → Shows old step.group.0 s → Shows new step.group.0 (machine_step s step.op step.now).state

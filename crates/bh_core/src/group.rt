@@ -3,7 +3,7 @@
 ghost use Rattle.std.specs.Prelude.{◌≡◌, ◌+◌, ◌<◌, ◌≤◌, ◌^◌, IfOk, length};
 ghost use Rattle.bh_base.specs.declared.step.Op.TheVariants as op;
 ghost use Rattle.bh_base.specs.Seen.{view_after, view_reply};
-ghost use Rattle.bh_core.specs.Group.{HasTickets, Leaves, counted_of, new_group, view_in};
+ghost use Rattle.bh_core.specs.GroupView.{HasTickets, Leaves, counted_of, new_group, view_in};
 ghost use Rattle.bh_core.specs.Stepping.{Begins, IsBounded, IsDone, IsServed, IsSteady, view_ended, with_event, released_view};
 ghost use Rattle.bh_tickets.specs.TicketsView.{TicketsView, group_at};
 
@@ -33,11 +33,11 @@ pub struct Group {
 }
 
 impl Model for Group {
-    ghost use Rattle.bh_core.specs.Group.{BareGroup, bare_group, IsReady};
+    ghost use Rattle.bh_core.specs.GroupView.{GroupView, group_view, IsReady};
 
-    ghost Value = { BareGroup };
+    ghost Value = { GroupView };
 
-    ghost view = { bare_group };
+    ghost view = { group_view };
 
     ghost invariant = { IsReady };
 }

@@ -4,7 +4,7 @@ ghost use Rattle.std.specs.Prelude.{◌≡◌, ◌↔◌, ℕ, ◌+◌, ◌<◌,
 ghost use Rattle.bh_base.specs.declared.reply.Reply.{Reply};
 ghost use Rattle.bh_base.specs.Ranges.{IsInRange};
 ghost use Rattle.bh_base.specs.Runs.{State, own, replies, state_after, opened, view};
-ghost use Rattle.bh_core.specs.Groups.{Groups, Shows, own_replies, slots_in};
+ghost use Rattle.bh_core.specs.CoreView.{CoreView, Shows, own_replies, slots_in};
 ghost use Rattle.bh_core.specs.Step.{IsStep};
 
 mod looks;
@@ -36,10 +36,10 @@ pub enum RegisterError {
 }
 
 impl Model for Core {
-    ghost use Rattle.bh_core.specs.Groups.{Groups};
+    ghost use Rattle.bh_core.specs.CoreView.{CoreView};
     ghost use Rattle.bh_core.specs.Whole.{IsWhole, groups_view};
 
-    ghost Value = { Groups };
+    ghost Value = { CoreView };
 
     ghost view = { groups_view };
 

@@ -4,7 +4,7 @@ use Rattle.std.proofs.KnownBytes.{Appends-trans, Appends-nil}
 use Rattle.std.specs.Io.KnownBytes.{Appends}
 use Rattle.std.specs.declared.alloc.Global.{Global}
 use Rattle.bh_base.specs.declared.step.Step.{Step}
-use Rattle.bh_core.specs.Groups.{Groups}
+use Rattle.bh_core.specs.CoreView.{CoreView}
 use Rattle.bh_lines.specs.declared.port_error.PortError.{PortError}
 use Rattle.bh_lines.specs.declared.port_error.PortError.TheVariants.{Read, Write, Line, Memory}
 use Rattle.bh_lines.specs.Lines.{Cut, line, ended, cut, stops}
@@ -21,7 +21,7 @@ kept-appends : (old new : List ℕ) → new ≡ old → Appends (Some old) (Some
 kept-appends old new kept = kept ∙ sym (append-nil old)
 
 -- nothing was answered yet
-pub answered-none : (a : Option (List ℕ)) (service : SettingsView) (before : List Step) (core : Groups) (old : List ℕ) → GroupsShow service core before → ScriptAnswered a a service before core old old
+pub answered-none : (a : Option (List ℕ)) (service : SettingsView) (before : List Step) (core : CoreView) (old : List ℕ) → GroupsShow service core before → ScriptAnswered a a service before core old old
 answered-none a service before core old agrees = record {
   out = [];
   later = before;
@@ -31,7 +31,7 @@ answered-none a service before core old agrees = record {
   stops_is = λ more. refl;
 }
 
-answered-one : (o m n : List ℕ) (service : SettingsView) (before : List Step) (was now : Groups) (old mid new : List ℕ) (s : String Global)
+answered-one : (o m n : List ℕ) (service : SettingsView) (before : List Step) (was now : CoreView) (old mid new : List ℕ) (s : String Global)
     → (done : ScriptAnswered (Some o) (Some m) service before was old mid) → TakesLine mid (Ok (Some s)) new → AnswersLine service done.later (string_bytes s) now m n
     → ScriptAnswered (Some o) (Some n) service before now old new
 answered-one o m n service before was now old mid new s done taken answer =
@@ -50,11 +50,11 @@ answered-one o m n service before was now old mid new s done taken answer =
     }
 
 -- what a line does, whatever came before
-abbrev pub DoesLine : SettingsView → Groups → List ℕ → Groups → List ℕ → List ℕ → Type 0
+abbrev pub DoesLine : SettingsView → CoreView → List ℕ → CoreView → List ℕ → List ℕ → Type 0
 DoesLine service was bytes now m n = (before : List Step) → GroupsShow service was before → AnswersLine service before bytes now m n
 
 -- one line more was taken and answered
-pub answered-found : (o m n : List ℕ) (service : SettingsView) (before : List Step) (was now : Groups) (old mid new bytes : List ℕ) (found : Option (String Global)) (s : String Global)
+pub answered-found : (o m n : List ℕ) (service : SettingsView) (before : List Step) (was now : CoreView) (old mid new bytes : List ℕ) (found : Option (String Global)) (s : String Global)
     → ScriptAnswered (Some o) (Some m) service before was old mid → found ≡ Some s → TakesLine mid (Ok found) new → bytes ≡ string_bytes s → DoesLine service was bytes now m n
     → ScriptAnswered (Some o) (Some n) service before now old new
 answered-found o m n service before was now old mid new bytes found s done is taken same does =
@@ -63,7 +63,7 @@ answered-found o m n service before was now old mid new bytes found s done is ta
     (subst (λ (ys : List ℕ). AnswersLine service done.later ys now m n) same (does done.later done.agrees))
 
 -- no line could be taken
-pub refused-next : (a b : Option (List ℕ)) (service : SettingsView) (before : List Step) (core : Groups) (old mid new more : List ℕ) (e : PortError)
+pub refused-next : (a b : Option (List ℕ)) (service : SettingsView) (before : List Step) (core : CoreView) (old mid new more : List ℕ) (e : PortError)
     → ScriptAnswered a b service before core old mid → TakesLine mid (Err e) new → ScriptOutcome a b service before (cut (old ++ more)) (Err e)
 refused-next a b service before core old mid new more Line done taken =
     let all : text service before (cut (old ++ more)) ≡ done.out =
@@ -75,14 +75,14 @@ refused-next a b service before core old mid new more Read done taken = absurd t
 refused-next a b service before core old mid new more Write done taken = absurd taken
 
 -- a line was taken, and there was no memory to answer it
-pub unanswered : (o m n : List ℕ) (service : SettingsView) (before : List Step) (core : Groups) (old mid more : List ℕ)
+pub unanswered : (o m n : List ℕ) (service : SettingsView) (before : List Step) (core : CoreView) (old mid more : List ℕ)
     → ScriptAnswered (Some o) (Some m) service before core old mid → n ≡ m → ScriptOutcome (Some o) (Some n) service before (cut (old ++ more)) (Err Memory)
 unanswered o m n service before core old mid more done kept =
     let wrote : Appends (Some o) (Some n) done.out = subst (λ (ys : List ℕ). Appends (Some o) (Some ys) done.out) (sym kept) done.wrote in
     subst (λ (ys : List ℕ). WritesFront (Some o) (Some n) ys) (sym (done.text_is more)) (whole-front (Some o) (Some n) done.out _ wrote)
 
 -- the last line of an input
-pub last-found : (o n : List ℕ) (service : SettingsView) (before : List Step) (was now : Groups) (rest bytes : List ℕ) (found : Option (String Global)) (s : String Global) (x : Unit {0})
+pub last-found : (o n : List ℕ) (service : SettingsView) (before : List Step) (was now : CoreView) (rest bytes : List ℕ) (found : Option (String Global)) (s : String Global) (x : Unit {0})
     → found ≡ Some s → IsLast rest (Ok found) → bytes ≡ string_bytes s → DoesLine service was bytes now o n → GroupsShow service was before
     → ScriptOutcome (Some o) (Some n) service before (cut rest) (Ok x)
 last-found o n service before was now rest bytes found s x is last same does agrees =
@@ -114,7 +114,7 @@ last-refused o service before rest Write last = absurd last
 -- What was answered from nothing on is then written, or a front of it.
 
 -- all of the answers to the lines that had ended
-pub written-answered : (items : List ℕ) (w0 w1 : Option (List ℕ)) (service : SettingsView) (before : List Step) (core : Groups) (old new : List ℕ)
+pub written-answered : (items : List ℕ) (w0 w1 : Option (List ℕ)) (service : SettingsView) (before : List Step) (core : CoreView) (old new : List ℕ)
     → ScriptAnswered (Some []) (Some items) service before core old new → Appends w0 w1 items → ScriptAnswered w0 w1 service before core old new
 written-answered items w0 w1 service before core old new done wrote = record {
   out = done.out;
@@ -146,7 +146,7 @@ unwritten items w0 w1 service before c (Err Read) o kind front = absurd kind
 unwritten items w0 w1 service before c (Err Write) o kind front = absurd kind
 
 -- a front of the answers to the lines that had ended
-pub unwritten-answered : (items : List ℕ) (w0 w1 : Option (List ℕ)) (service : SettingsView) (before : List Step) (core : Groups) (old new more : List ℕ)
+pub unwritten-answered : (items : List ℕ) (w0 w1 : Option (List ℕ)) (service : SettingsView) (before : List Step) (core : CoreView) (old new more : List ℕ)
     → ScriptAnswered (Some []) (Some items) service before core old new → WritesFront w0 w1 items → WritesFront w0 w1 (text service before (cut (old ++ more)))
 unwritten-answered items w0 w1 service before core old new more done front =
     subst (λ (ys : List ℕ). WritesFront w0 w1 ys) (sym (done.text_is more)) (front-of-more w0 w1 done.out _ (subst (λ (ys : List ℕ). WritesFront w0 w1 ys) done.wrote front))

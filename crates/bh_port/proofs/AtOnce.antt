@@ -2,7 +2,7 @@
 use Rattle.std.proofs.Common.{◌≡◌, ℕ, List, [], ◌++◌, Option, Some, Result, Ok, Err, IfErr, OnOk, sym, subst}
 use Rattle.std.specs.Io.KnownBytes.{Appends}
 use Rattle.bh_base.specs.declared.step.Step.{Step}
-use Rattle.bh_core.specs.Groups.{Groups}
+use Rattle.bh_core.specs.CoreView.{CoreView}
 use Rattle.bh_lines.specs.declared.port_error.PortError.{PortError}
 use Rattle.bh_lines.specs.declared.port_error.PortError.TheVariants.{Write}
 use Rattle.bh_lines.specs.Lines.{Cut, cut}
@@ -13,16 +13,16 @@ use Rattle.bh_port.proofs.Answering.{written-answered, unwritten-answered, writt
 use Rattle.bh_props.specs.SettingsView.{SettingsView}
 
 -- all lines that had ended were answered, beginning with `start`
-abbrev pub AnswersFrom : List ℕ → List ℕ → SettingsView → Groups → Groups → List ℕ → List ℕ → Type 0
+abbrev pub AnswersFrom : List ℕ → List ℕ → SettingsView → CoreView → CoreView → List ℕ → List ℕ → Type 0
 AnswersFrom start items service was now old new = (before : List Step) → GroupsShow service was before → ScriptAnswered (Some start) (Some items) service before now old new
 
 -- the run stopped, whatever bytes follow, with answers beginning with `start`
-abbrev pub StopsFrom : List ℕ → List ℕ → SettingsView → Groups → List ℕ → PortError → Type 0
+abbrev pub StopsFrom : List ℕ → List ℕ → SettingsView → CoreView → List ℕ → PortError → Type 0
 StopsFrom start items service was old e =
     (before : List Step) (more : List ℕ) → GroupsShow service was before → ScriptOutcome (Some start) (Some items) service before (cut (old ++ more)) (Err e)
 
 -- the answers to lines that have ended were written
-pub at_once-answered : (r : Result (Unit {0}) PortError) (start items bytes : List ℕ) (w0 w1 : Option (List ℕ)) (service : SettingsView) (was now : Groups) (old new : List ℕ)
+pub at_once-answered : (r : Result (Unit {0}) PortError) (start items bytes : List ℕ) (w0 w1 : Option (List ℕ)) (service : SettingsView) (was now : CoreView) (old new : List ℕ)
     → start ≡ [] → bytes ≡ items → OnOk r (AnswersFrom start items service was now old new) → Appends w0 w1 bytes
     → OnOk r ((before : List Step) → GroupsShow service was before → ScriptAnswered w0 w1 service before now old new)
 at_once-answered (Ok x) start items bytes w0 w1 service was now old new none same answers wrote = λ before agrees.
@@ -49,7 +49,7 @@ at_once-ended_unwritten r k start items bytes w0 w1 service before c none same o
     (subst (λ (ys : List ℕ). WritesFront w0 w1 ys) same front))
 
 -- the answers before a line that is refused were written
-pub at_once-stopped : (r : Result (Unit {0}) PortError) (start items bytes : List ℕ) (w0 w1 : Option (List ℕ)) (service : SettingsView) (was : Groups) (old : List ℕ)
+pub at_once-stopped : (r : Result (Unit {0}) PortError) (start items bytes : List ℕ) (w0 w1 : Option (List ℕ)) (service : SettingsView) (was : CoreView) (old : List ℕ)
     → start ≡ [] → bytes ≡ items → IfErr r (StopsFrom start items service was old) → IfErr r IsMemoryOrLine → Appends w0 w1 bytes
     → IfErr r (λ e. (before : List Step) (more : List ℕ) → GroupsShow service was before → ScriptOutcome w0 w1 service before (cut (old ++ more)) (Err e))
 at_once-stopped (Ok x) start items bytes w0 w1 service was old none same stops kind wrote = tt
@@ -57,7 +57,7 @@ at_once-stopped (Err e) start items bytes w0 w1 service was old none same stops 
     at_once-ended (Err e) start items bytes w0 w1 service before (cut (old ++ more)) none same (stops before more agrees) kind wrote
 
 -- a front of the answers was written, whether the run could go on or not
-pub at_once-unwritten : (r : Result (Unit {0}) PortError) (k : PortError) (start items bytes : List ℕ) (w0 w1 : Option (List ℕ)) (service : SettingsView) (was now : Groups) (old new : List ℕ)
+pub at_once-unwritten : (r : Result (Unit {0}) PortError) (k : PortError) (start items bytes : List ℕ) (w0 w1 : Option (List ℕ)) (service : SettingsView) (was now : CoreView) (old new : List ℕ)
     → start ≡ [] → bytes ≡ items → OnOk r (AnswersFrom start items service was now old new) → IfErr r (StopsFrom start items service was old) → IfErr r IsMemoryOrLine
     → k ≡ Write → WritesFront w0 w1 bytes
     → (before : List Step) (more : List ℕ) → GroupsShow service was before → ScriptOutcome w0 w1 service before (cut (old ++ more)) (Err k)

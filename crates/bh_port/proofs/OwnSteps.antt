@@ -7,7 +7,7 @@ use Rattle.bh_base.specs.declared.step.Step.{Step}
 use Rattle.bh_base.specs.declared.reply.Reply.{Reply}
 use Rattle.bh_base.specs.Runs.{State, View, IsSound, view, opened, step, state_after, own}
 use Rattle.bh_base.proofs.OneMore.{state_after-push, own-push_same, own-push_other}
-use Rattle.bh_core.specs.Groups.{Groups, Shows}
+use Rattle.bh_core.specs.CoreView.{CoreView, Shows}
 use Rattle.bh_core.specs.Step.{IsStep}
 use Rattle.bh_props.specs.SettingsView.{SettingsView}
 use Rattle.bh_port.specs.Text.{step_limit}
@@ -31,7 +31,7 @@ group_after-other service props group xs x test =
     ap (state_after s) mine
 
 -- after one step more the groups show one step more
-pub agrees-after : (service : SettingsView) (old new : Groups) (xs : List Step) (x : Step) (r : Reply) → GroupsShow service old xs → IsStep old x r new → GroupsShow service new (xs ++ x ∷ [])
+pub agrees-after : (service : SettingsView) (old new : CoreView) (xs : List Step) (x : Step) (r : Reply) → GroupsShow service old xs → IsStep old x r new → GroupsShow service new (xs ++ x ∷ [])
 agrees-after service old new xs x r agrees applied = record { shows = λ group g there. at group g there (x.group.0 == group) refl }
   where
     at : (group : ℕ) (g : List ℕ × GroupProps) → slice_get service.groups group ≡ Some g → (b : Bool) → (x.group.0 == group) ≡ b
@@ -55,7 +55,7 @@ slice_get-within (x ∷ xs) zero inside = (x, refl)
 slice_get-within (x ∷ xs) (suc i) inside = slice_get-within xs i (omega arith)
 
 -- the reply of the groups is the one that the definition has
-pub reply_to-shown : (service : SettingsView) (core : Groups) (xs : List Step) (x : Step) (r : Reply) → x.group.0 < length service.groups → GroupsShow service core xs
+pub reply_to-shown : (service : SettingsView) (core : CoreView) (xs : List Step) (x : Step) (r : Reply) → x.group.0 < length service.groups → GroupsShow service core xs
     → ((s : State) → Shows core x.group.0 s → r ≡ (step s x.op x.now).reply) → r ≡ reply_to service xs x
 unfolding reply_to
 reply_to-shown service core xs x r inside agrees replies =
@@ -78,7 +78,7 @@ slice_get-map f (y ∷ ys) zero x is = let e : Some y ≡ Some x = is in let sam
 slice_get-map f (y ∷ ys) (suc i) x is = slice_get-map f ys i x is
 
 -- one more group stands
-pub open-more : (service : SettingsView) (done : List (List ℕ × GroupProps)) (g : List ℕ × GroupProps) (old new : Groups) (limit : ℕ)
+pub open-more : (service : SettingsView) (done : List (List ℕ × GroupProps)) (g : List ℕ × GroupProps) (old new : CoreView) (limit : ℕ)
     → limit ≡ step_limit service.audit_steps → old.views ≡ map (opened_view service) done → new.views ≡ old.views ++ view (opened g.1 limit) ∷ []
     → new.views ≡ map (opened_view service) (done ++ g ∷ [])
 open-more service done g old new limit is was added =
@@ -89,7 +89,7 @@ unfolding group_after
 group_after-none service props group = refl
 
 -- all groups stand, and are new
-pub agrees-opened : (service : SettingsView) (core : Groups) → core.views ≡ map (opened_view service) service.groups → GroupsShow service core []
+pub agrees-opened : (service : SettingsView) (core : CoreView) → core.views ≡ map (opened_view service) service.groups → GroupsShow service core []
 agrees-opened service core is = record {
   shows = λ group g there.
       subst (Shows core group) (sym (group_after-none service g.1 group)) (record {

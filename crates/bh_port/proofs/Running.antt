@@ -3,7 +3,7 @@ use Rattle.std.proofs.Common.{◌≡◌, ℕ, false, List, [], ◌++◌, Option,
 use Rattle.std.proofs.KnownBytes.{Appends-trans}
 use Rattle.std.specs.Io.KnownBytes.{Keeps, Appends, Consumes, IsAtEnd}
 use Rattle.bh_base.specs.declared.step.Step.{Step}
-use Rattle.bh_core.specs.Groups.{Groups}
+use Rattle.bh_core.specs.CoreView.{CoreView}
 use Rattle.bh_lines.specs.declared.port_error.PortError.{PortError}
 use Rattle.bh_lines.specs.declared.port_error.PortError.TheVariants.{Read, Write, Line, Memory}
 use Rattle.bh_lines.specs.Lines.{Cut, cut, stops, has_line}
@@ -15,24 +15,24 @@ use Rattle.bh_port.proofs.Answering.{answered-none}
 use Rattle.bh_props.specs.SettingsView.{SettingsView}
 
 -- what was written for `all` while `left` and the buffer are left of it
-pub record Underway (all left : List ℕ) (w0 w1 : Option (List ℕ)) (service : SettingsView) (core : Groups) (buffer : List ℕ) : Type 0 where
+pub record Underway (all left : List ℕ) (w0 w1 : Option (List ℕ)) (service : SettingsView) (core : CoreView) (buffer : List ℕ) : Type 0 where
   pub read : List ℕ
   pub all_is : all ≡ read ++ left
   pub answered : ScriptAnswered w0 w1 service [] core read buffer
 
 -- the same of a reader whose bytes may not be known
-abbrev pub Progress : Option (List ℕ) → Option (List ℕ) → Option (List ℕ) → Option (List ℕ) → SettingsView → Groups → List ℕ → Type 0
+abbrev pub Progress : Option (List ℕ) → Option (List ℕ) → Option (List ℕ) → Option (List ℕ) → SettingsView → CoreView → List ℕ → Type 0
 Progress None now w0 w1 service core buffer = (before : List Step) × GroupsShow service core before
 Progress (Some all) None w0 w1 service core buffer = ⊥
 Progress (Some all) (Some left) w0 w1 service core buffer = Underway all left w0 w1 service core buffer
 
 -- nothing was read or written yet
-pub progress-start : (all w : Option (List ℕ)) (service : SettingsView) (core : Groups) → GroupsShow service core [] → Progress all all w w service core []
+pub progress-start : (all w : Option (List ℕ)) (service : SettingsView) (core : CoreView) → GroupsShow service core [] → Progress all all w w service core []
 progress-start None w service core agrees = ([], agrees)
 progress-start (Some all) w service core agrees = record { read = []; all_is = refl; answered = answered-none w service [] core [] agrees }
 
 -- the lines that had ended were answered, and the answers written
-pub progress-lines : (all now w0 w1 w2 : Option (List ℕ)) (service : SettingsView) (was core : Groups) (old new : List ℕ) → Progress all now w0 w1 service was old
+pub progress-lines : (all now w0 w1 w2 : Option (List ℕ)) (service : SettingsView) (was core : CoreView) (old new : List ℕ) → Progress all now w0 w1 service was old
     → ((before : List Step) → GroupsShow service was before → ScriptAnswered w1 w2 service before core old new) → Progress all now w0 w2 service core new
 progress-lines None now w0 w1 w2 service was core old new p answers = let a = answers p.0 p.1 in (a.later, a.agrees)
 progress-lines (Some all) None w0 w1 w2 service was core old new p answers = absurd p
@@ -52,7 +52,7 @@ progress-lines (Some all) (Some left) w0 w1 w2 service was core old new p answer
     }
 
 -- a piece more was read
-pub progress-read : (all now next w0 w1 : Option (List ℕ)) (service : SettingsView) (core : Groups) (old new piece : List ℕ) → Progress all now w0 w1 service core old → Consumes now next piece → new ≡ old ++ piece
+pub progress-read : (all now next w0 w1 : Option (List ℕ)) (service : SettingsView) (core : CoreView) (old new piece : List ℕ) → Progress all now w0 w1 service core old → Consumes now next piece → new ≡ old ++ piece
     → Progress all next w0 w1 service core new
 progress-read None now next w0 w1 service core old new piece p r e = p
 progress-read (Some all) None next w0 w1 service core old new piece p r e = absurd p
@@ -75,11 +75,11 @@ progress-read (Some all) (Some left) (Some rest) w0 w1 service core old new piec
     }
 
 -- what is written for all, and what is left to write
-all-text : (all left : List ℕ) (w0 w1 : Option (List ℕ)) (service : SettingsView) (core : Groups) (buffer : List ℕ) → (p : Underway all left w0 w1 service core buffer)
+all-text : (all left : List ℕ) (w0 w1 : Option (List ℕ)) (service : SettingsView) (core : CoreView) (buffer : List ℕ) → (p : Underway all left w0 w1 service core buffer)
     → text service [] (cut all) ≡ p.answered.out ++ text service p.answered.later (cut (buffer ++ left))
 all-text all left w0 w1 service core buffer p = ap (λ ys. text service [] (cut ys)) p.all_is ∙ p.answered.text_is left
 
-all-stops : (all left : List ℕ) (w0 w1 : Option (List ℕ)) (service : SettingsView) (core : Groups) (buffer : List ℕ) → Underway all left w0 w1 service core buffer
+all-stops : (all left : List ℕ) (w0 w1 : Option (List ℕ)) (service : SettingsView) (core : CoreView) (buffer : List ℕ) → Underway all left w0 w1 service core buffer
     → stops (cut all) ≡ stops (cut (buffer ++ left))
 all-stops all left w0 w1 service core buffer p = ap (λ ys. stops (cut ys)) p.all_is ∙ p.answered.stops_is left
 
@@ -92,7 +92,7 @@ outcome-after a b c service out first later all rest (Err Read) h e s o = subst 
 outcome-after a b c service out first later all rest (Err Write) h e s o = subst (λ (ys : List ℕ). WritesFront a c ys) (sym e) (front-after a b c _ _ h o)
 
 -- the run stops whatever bytes follow
-pub progress-stops : (all now w0 w1 w2 : Option (List ℕ)) (service : SettingsView) (core : Groups) (buffer : List ℕ) (r : Result (Unit {0}) PortError)
+pub progress-stops : (all now w0 w1 w2 : Option (List ℕ)) (service : SettingsView) (core : CoreView) (buffer : List ℕ) (r : Result (Unit {0}) PortError)
     → Progress all now w0 w1 service core buffer → ((before : List Step) (more : List ℕ) → GroupsShow service core before → ScriptOutcome w1 w2 service before (cut (buffer ++ more)) r)
     → IfSome all (λ input. ScriptOutcome w0 w2 service [] (cut input) r)
 progress-stops None now w0 w1 w2 service core buffer r p o = tt
@@ -102,7 +102,7 @@ progress-stops (Some all) (Some left) w0 w1 w2 service core buffer r p o =
     outcome-after w0 w1 w2 service done.out [] done.later _ _ r done.wrote (all-text all left w0 w1 service core buffer p) (all-stops all left w0 w1 service core buffer p) (o done.later left done.agrees)
 
 -- the run stops where the input ends
-pub progress-ends : (all now w0 w1 w2 : Option (List ℕ)) (service : SettingsView) (core : Groups) (buffer : List ℕ) (r : Result (Unit {0}) PortError)
+pub progress-ends : (all now w0 w1 w2 : Option (List ℕ)) (service : SettingsView) (core : CoreView) (buffer : List ℕ) (r : Result (Unit {0}) PortError)
     → Progress all now w0 w1 service core buffer → IsAtEnd now → ((before : List Step) → GroupsShow service core before → ScriptOutcome w1 w2 service before (cut buffer) r)
     → IfSome all (λ input. ScriptOutcome w0 w2 service [] (cut input) r)
 progress-ends None now w0 w1 w2 service core buffer r p e o = tt
@@ -114,7 +114,7 @@ progress-ends (Some all) (Some left) w0 w1 w2 service core buffer r p e o =
     (subst (λ (ys : List ℕ). ScriptOutcome w1 w2 service done.later (cut ys) r) same (o done.later done.agrees))
 
 -- the run is given up
-pub progress-front : (all now w0 w1 : Option (List ℕ)) (service : SettingsView) (core : Groups) (buffer : List ℕ) (e : PortError)
+pub progress-front : (all now w0 w1 : Option (List ℕ)) (service : SettingsView) (core : CoreView) (buffer : List ℕ) (e : PortError)
     → Progress all now w0 w1 service core buffer → IsMemoryOrRead e → IfSome all (λ input. ScriptOutcome w0 w1 service [] (cut input) (Err e))
 progress-front None now w0 w1 service core buffer e p kind = tt
 progress-front (Some all) None w0 w1 service core buffer e p kind = absurd p
@@ -128,7 +128,7 @@ progress-front (Some all) (Some left) w0 w1 service core buffer e p kind =
     ] kind
 
 -- the reader fails, and all lines that had ended are answered
-pub progress-failed : (all now next w0 w1 : Option (List ℕ)) (service : SettingsView) (core : Groups) (buffer : List ℕ)
+pub progress-failed : (all now next w0 w1 : Option (List ℕ)) (service : SettingsView) (core : CoreView) (buffer : List ℕ)
     → Progress all now w0 w1 service core buffer → Keeps now next → has_line buffer ≡ false → ScriptHasAnswered all next w0 w1 service
 progress-failed None now next w0 w1 service core buffer p same none = tt
 progress-failed (Some all) None next w0 w1 service core buffer p same none = absurd p

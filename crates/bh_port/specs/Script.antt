@@ -3,7 +3,7 @@ use Rattle.std.specs.Prelude.{◌≡◌, ℕ, true, false, List, [], ◌++◌, s
 use Rattle.std.specs.Io.KnownBytes.{Appends}
 use Rattle.bh_base.specs.declared.props.GroupProps.{GroupProps}
 use Rattle.bh_base.specs.declared.step.Step.{Step}
-use Rattle.bh_core.specs.Groups.{Groups, Shows}
+use Rattle.bh_core.specs.CoreView.{CoreView, Shows}
 use Rattle.bh_props.specs.SettingsView.{SettingsView}
 use Rattle.bh_lines.specs.declared.port_error.PortError.{PortError}
 use Rattle.bh_lines.specs.declared.port_error.PortError.TheVariants.{Read, Write, Line, Memory}
@@ -13,16 +13,16 @@ use Rattle.bh_streams.specs.Watched.{WritesFront}
 use Rattle.bh_port.specs.Text.{names_in, group_after, answer_to, steps_with, text}
 
 -- each group of the service looks as after its own steps of these
-pub record GroupsShow (service : SettingsView) (core : Groups) (steps : List Step) : Type 0 where
+pub record GroupsShow (service : SettingsView) (core : CoreView) (steps : List Step) : Type 0 where
   pub shows : (group : ℕ) (g : List ℕ × GroupProps) → slice_get service.groups group ≡ Some g → Shows core group (group_after service g.1 group steps)
 
 -- the line that answers the line stands behind what was there, and the groups did the step that it says, if any
-pub record AnswersLine (service : SettingsView) (before : List Step) (bytes : List ℕ) (core : Groups) (old new : List ℕ) : Type 0 where
+pub record AnswersLine (service : SettingsView) (before : List Step) (bytes : List ℕ) (core : CoreView) (old new : List ℕ) : Type 0 where
   pub wrote : new ≡ old ++ answer_to service before (line_step (names_in service) bytes)
   pub agrees : GroupsShow service core (steps_with before (line_step (names_in service) bytes))
 
 -- The lines that `old` begins with were answered, up to `new`, whatever bytes follow.
-pub record ScriptAnswered (w0 w1 : Option (List ℕ)) (service : SettingsView) (before : List Step) (core : Groups) (old new : List ℕ) : Type 0 where
+pub record ScriptAnswered (w0 w1 : Option (List ℕ)) (service : SettingsView) (before : List Step) (core : CoreView) (old new : List ℕ) : Type 0 where
   pub out : List ℕ
   pub later : List Step
   pub agrees : GroupsShow service core later
@@ -35,7 +35,7 @@ pub record ScriptAnswered (w0 w1 : Option (List ℕ)) (service : SettingsView) (
 pub record ScriptAnsweredRead (input left : List ℕ) (w0 w1 : Option (List ℕ)) (service : SettingsView) : Type 0 where
   pub read : List ℕ
   pub kept : List ℕ
-  pub core : Groups
+  pub core : CoreView
   pub input_is : input ≡ read ++ left
   pub answered : ScriptAnswered w0 w1 service [] core read kept
   pub no_line : has_line kept ≡ false

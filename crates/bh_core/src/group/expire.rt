@@ -3,7 +3,7 @@
 ghost use Rattle.std.specs.Prelude.{◌≡◌, ◌+◌, ◌*◌, ◌<◌, ◌^◌, length, replicate};
 ghost use Rattle.bh_base.specs.declared.event.EventKind.TheVariants as kind;
 ghost use Rattle.bh_base.specs.declared.step.Op.TheVariants as op;
-ghost use Rattle.bh_core.specs.Group.{HasTickets, Leaves, counted_of, view_in};
+ghost use Rattle.bh_core.specs.GroupView.{HasTickets, Leaves, counted_of, view_in};
 ghost use Rattle.bh_core.specs.Stepping.{IsBounded, IsDone, view_test_timed_out, due_rule_of, with_events};
 ghost use Rattle.bh_tickets.specs.TicketsView.{TicketsView};
 

@@ -6,7 +6,7 @@ ghost use Rattle.bh_base.specs.declared.ticket.TicketState.TheVariants as ticket
 ghost use Rattle.bh_base.specs.Machine.{collected_in, fallback_answer, fallback_done_in};
 ghost use Rattle.bh_base.specs.Tickets.{is_held_at, is_in_fallback_at};
 ghost use Rattle.bh_core.specs.Stepping.{IsBounded, IsDone, IsDoneBy};
-ghost use Rattle.bh_core.specs.Group.{HasTickets, Leaves, view_in};
+ghost use Rattle.bh_core.specs.GroupView.{HasTickets, Leaves, view_in};
 ghost use Rattle.bh_tickets.specs.TicketsView.{IsFirstAt, group_at};
 
 use super::Group;

@@ -3,7 +3,7 @@
 ghost use Rattle.std.specs.Prelude.{◌≡◌, ◌==◌, ℕ, max};
 ghost use Rattle.bh_base.specs.declared.step.Op.TheVariants as op;
 ghost use Rattle.bh_base.specs.Seen.{view_reply};
-ghost use Rattle.bh_core.specs.Group.{HasTickets, view_in};
+ghost use Rattle.bh_core.specs.GroupView.{HasTickets, view_in};
 ghost use Rattle.bh_core.specs.Looks.{expires_some, is_assigned, is_pending};
 
 use super::Group;

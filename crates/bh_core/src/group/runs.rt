@@ -5,7 +5,7 @@ ghost use Rattle.bh_base.specs.declared.step.Op.TheVariants as op;
 ghost use Rattle.bh_base.specs.Machine.{run_ended};
 ghost use Rattle.bh_base.specs.Tickets.{is_busy_at};
 ghost use Rattle.bh_core.specs.Stepping.{IsBounded, IsDone, IsDoneBy};
-ghost use Rattle.bh_core.specs.Group.{HasTickets, Leaves, view_in};
+ghost use Rattle.bh_core.specs.GroupView.{HasTickets, Leaves, view_in};
 ghost use Rattle.bh_tickets.specs.Changes.{queued_in};
 
 use super::Group;

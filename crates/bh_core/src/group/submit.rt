@@ -5,7 +5,7 @@ ghost use Rattle.bh_base.specs.declared.step.Op.TheVariants as op;
 ghost use Rattle.bh_base.specs.Machine.{due_fallback, is_admitted, placed, rejected, submitted};
 ghost use Rattle.bh_base.specs.Seen.{view_rolling};
 ghost use Rattle.bh_core.specs.Stepping.{IsBounded, IsDone, IsDoneBy, IsJoinable, asked_with, view_with_ticket};
-ghost use Rattle.bh_core.specs.Group.{HasTickets, Leaves, view_in};
+ghost use Rattle.bh_core.specs.GroupView.{HasTickets, Leaves, view_in};
 ghost use Rattle.bh_tickets.specs.TicketsView.{group_at};
 
 use super::Group;

@@ -1,7 +1,7 @@
 use Rattle.std.proofs.Common.{◌≡◌, ℕ, List, [], ◌∷◌, ◌++◌, ◌∙◌, sym, ap, arith, append_assoc, append-nil, map}
 use Rattle.std.proofs.lemmas.Grind.{common_steps}
 use Rattle.bh_base.specs.declared.props.GroupProps.{GroupProps}
-use Rattle.bh_core.specs.Groups.{Groups}
+use Rattle.bh_core.specs.CoreView.{CoreView}
 use Rattle.bh_props.specs.Shown.{settings_view}
 use Rattle.bh_port.proofs.OwnSteps.{opened_view, open-more, agrees-opened}
 use Rattle.bh_port.proofs.script.open.Goals as goal
@@ -13,7 +13,7 @@ loop-name-preserved c =
     let iter : c.loop-name._name-iterator ≡ e ∷ c.next.new.self = grind (arith, common_steps) in (
       done ++ e ∷ [],
       whole ∙ ap (λ t. done ++ t) iter ∙ sym (append_assoc done (e ∷ []) c.next.new.self),
-      open-more (settings_view c.args.settings.now) done e c.loop-name.core c.register.new.self _ c.step_limit-limit.ensures views (ap (λ (core : Groups). core.views) c.in-Ok.ensures.added),
+      open-more (settings_view c.args.settings.now) done e c.loop-name.core c.register.new.self _ c.step_limit-limit.ensures views (ap (λ (core : CoreView). core.views) c.in-Ok.ensures.added),
     )
 
 pub returns-clause-agrees : goal.returns-clause-agrees

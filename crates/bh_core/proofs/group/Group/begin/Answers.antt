@@ -3,7 +3,7 @@ use Rattle.bh_base.specs.Bounds.{HeldBy}
 use Rattle.bh_base.specs.History.{window_of}
 use Rattle.bh_base.specs.Tables.{later_table}
 use Rattle.bh_core.specs.Counted.{counted_at}
-use Rattle.bh_core.specs.Group.{HasTickets, bare_group, view_in}
+use Rattle.bh_core.specs.GroupView.{HasTickets, group_view, view_in}
 use Rattle.bh_core.specs.Stepping.{IsSteady}
 use Rattle.bh_core.proofs.Counting.{counted-moved}
 use Rattle.bh_core.proofs.group.Group.begin.Goals as goal
@@ -15,8 +15,8 @@ returns-clause-bounded c = λ ts has kept.
     let h = g.history in
     let n = c.advance.new.self in
     let w = window_of g.props in
-    let steady : IsSteady (view_in ts (bare_group g)) = rw (← c.self.view_is) at kept in
-    let own : HasTickets ts (bare_group g) = rw (← c.self.view_is) at has in
+    let steady : IsSteady (view_in ts (group_view g)) = rw (← c.self.view_is) at kept in
+    let own : HasTickets ts (group_view g) = rw (← c.self.view_is) at has in
     let fresh : g.steps < g.limit = rw (← c.self.view_is) at c.requires in
     let m = max h.latest c.args.now in
     let moved : counted_at w n.latest n.table n.health ≡ counted_at w m (later_table w h.latest h.table m []) (later_table w h.latest h.health m []) =

@@ -4,7 +4,7 @@ use Rattle.bh_base.specs.declared.ticket.TicketState.TheVariants as ticket
 use Rattle.bh_base.specs.Machine.{changed, collected_in, in_fallback_count}
 use Rattle.bh_base.specs.Runs.{View}
 use Rattle.bh_base.specs.Tickets.{is_held_at}
-use Rattle.bh_core.specs.Group.{bare_group, view_in}
+use Rattle.bh_core.specs.GroupView.{group_view, view_in}
 use Rattle.bh_core.proofs.Ops.{done_quiet, fall_runs}
 use Rattle.bh_core.proofs.Own.{held_first, view_changed}
 use Rattle.bh_core.proofs.group.Group.fall_back.Goals as goal
@@ -21,7 +21,7 @@ pub returns-clause-done : goal.returns-clause-done
 returns-clause-done c =
     let ts = c.args.tickets.now in
     let us = c.start_fallback.new.self in
-    let g = bare_group c.self.inside in
+    let g = group_view c.self.inside in
     let n = c.args.serial in
     let v : View = view_in ts g in
     let free : in_fallback_count v.present < v.present.props.fallback_permits = rw c.in_fallback_count.ensures at c.if-in_fallback_count-self.false in

@@ -3,14 +3,14 @@ use Rattle.bh_base.specs.declared.circuit.Admit.TheVariants as admit
 use Rattle.bh_base.specs.Circuit.{Asked, asked}
 use Rattle.bh_base.specs.Runs.{View}
 use Rattle.bh_base.specs.Seen.{view_rolling}
-use Rattle.bh_core.specs.Group.{bare_group, view_in}
+use Rattle.bh_core.specs.GroupView.{group_view, view_in}
 use Rattle.bh_core.specs.Stepping.{asked_with}
 use Rattle.bh_core.proofs.Joining.{asked_done}
 use Rattle.bh_core.proofs.group.Group.make_ticket.Goals as goal
 
 pub returns-in-Test-clause-done : goal.returns-in-Test-clause-done
 returns-in-Test-clause-done c =
-    let d : View = view_in c.args.tickets.now (bare_group c.self.inside) in
+    let d : View = view_in c.args.tickets.now (group_view c.self.inside) in
     let asks : asked_with d c.health_asked-health.result ≡ asked_with d (view_rolling d d.present.latest).health = rw (← c.self.view_is) at c.health_asked-health.ensures.same in
     let said = (λ i. asked d.present.props (c.latest.ensures i) c.health_asked-health.result (c.next_serial.ensures i) d.present.circuit) ∙ asks in
     let free : length d.present.tickets < d.present.props.slots = omega (arith, c.if-len-self.false, c.len.ensures) in
@@ -19,7 +19,7 @@ returns-in-Test-clause-done c =
 
 pub returns-in-Pass-clause-done : goal.returns-in-Pass-clause-done
 returns-in-Pass-clause-done c =
-    let d : View = view_in c.args.tickets.now (bare_group c.self.inside) in
+    let d : View = view_in c.args.tickets.now (group_view c.self.inside) in
     let asks : asked_with d c.health_asked-health.result ≡ asked_with d (view_rolling d d.present.latest).health = rw (← c.self.view_is) at c.health_asked-health.ensures.same in
     let said = (λ i. asked d.present.props (c.latest.ensures i) c.health_asked-health.result (c.next_serial.ensures i) d.present.circuit) ∙ asks in
     let free : length d.present.tickets < d.present.props.slots = omega (arith, c.if-len-self.false, c.len.ensures) in

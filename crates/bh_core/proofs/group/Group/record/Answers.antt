@@ -3,14 +3,14 @@ use Rattle.bh_base.specs.History.{is_of_health, window_of}
 use Rattle.bh_base.specs.Tables.{later_table}
 use Rattle.bh_base.specs.Runs.{View}
 use Rattle.bh_core.specs.Counted.{counted, counted_at}
-use Rattle.bh_core.specs.Group.{bare_group, view_in}
+use Rattle.bh_core.specs.GroupView.{group_view, view_in}
 use Rattle.bh_core.specs.Stepping.{with_event}
 use Rattle.bh_core.proofs.Counting.{counted-event}
 use Rattle.bh_core.proofs.group.Group.record.Goals as goal
 
 pub returns-clause-counted : goal.returns-clause-counted
 returns-clause-counted c =
-    let v : View = view_in (record { limit = 0; groups = [] }) (bare_group c.self.inside) in
+    let v : View = view_in (record { limit = 0; groups = [] }) (group_view c.self.inside) in
     let k = c.args.kind in
     let h = c.self.inside.history in
     let n = c.record.new.self in

@@ -2,7 +2,7 @@ use Rattle.std.proofs.Common.{◌+◌, ◌-◌, ◌∙◌, ap, arith}
 use Rattle.std.specs.Prelude.{replicate}
 use Rattle.bh_base.specs.declared.event.EventKind.TheVariants as kind
 use Rattle.bh_base.specs.Runs.{View}
-use Rattle.bh_core.specs.Group.{view_in}
+use Rattle.bh_core.specs.GroupView.{view_in}
 use Rattle.bh_core.specs.Stepping.{with_events}
 use Rattle.bh_core.proofs.Own.{leaves_twice}
 use Rattle.bh_core.proofs.Timeouts.{one-of-many}

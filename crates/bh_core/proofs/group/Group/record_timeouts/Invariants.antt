@@ -1,7 +1,7 @@
 use Rattle.std.proofs.Common.{◌≡◌, ◌+◌, ◌-◌, ◌*◌, ◌≤◌}
 use Rattle.std.specs.Prelude.{replicate}
 use Rattle.bh_base.specs.declared.event.EventKind.TheVariants as kind
-use Rattle.bh_core.specs.Group.{Leaves, counted_of, view_in}
+use Rattle.bh_core.specs.GroupView.{Leaves, counted_of, view_in}
 use Rattle.bh_core.specs.Stepping.{with_events}
 use Rattle.bh_core.proofs.group.Group.record_timeouts.Given as goal
 use Rattle.bh_tickets.specs.TicketsView.{TicketsView}

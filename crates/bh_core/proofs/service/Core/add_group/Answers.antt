@@ -1,5 +1,5 @@
 use Rattle.std.proofs.Common.{◌≡◌, [], ◌∷◌, ◌++◌, length, ◌∙◌, sym, ap, subst, arith}
-use Rattle.bh_core.specs.Group.{new_group}
+use Rattle.bh_core.specs.GroupView.{new_group}
 use Rattle.bh_core.specs.Whole.{AreGroups}
 use Rattle.bh_core.proofs.AllGroups.{groups_in, slots_alike}
 use Rattle.bh_core.proofs.Registered.{groups_pushed, views_pushed, with_group}

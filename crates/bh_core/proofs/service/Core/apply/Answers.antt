@@ -1,6 +1,6 @@
 use Rattle.std.proofs.Common.{arith}
 use Rattle.std.proofs.lemmas.List.{length-map}
-use Rattle.bh_core.specs.Group.{view_in}
+use Rattle.bh_core.specs.GroupView.{view_in}
 use Rattle.bh_core.proofs.AllGroups.{groups_kept, groups_step, has_at, steady_at}
 use Rattle.bh_core.proofs.OneStep.{step_unknown}
 use Rattle.bh_core.proofs.service.Core.apply.Goals as goal

@@ -1,7 +1,7 @@
 use Rattle.std.proofs.Common.{◌≡◌, ◌≤◌, ℕ, take, length, vec_capacity, None}
 use Rattle.std.specs.Prelude.{slice_get}
 use Rattle.bh_base.specs.Runs.{State}
-use Rattle.bh_core.specs.Groups.{Shows}
+use Rattle.bh_core.specs.CoreView.{Shows}
 use Rattle.bh_core.proofs.Whole.{GoesAs, IsUnknown}
 use Rattle.bh_core.proofs.service.Core.run.Given as goal
 

@@ -5,12 +5,12 @@ use Rattle.bh_base.specs.declared.reply.Reply.{Reply}
 use Rattle.bh_base.specs.Runs.{State, View, IsSound, view}
 
 -- the groups by their numbers, and how many slots there may be in all
-pub record Groups : Type 0 where
+pub record CoreView : Type 0 where
   pub slot_limit : ℕ
   pub views : List View
 
 -- the group shows the view of the sound state
-pub record Shows (groups : Groups) (group : ℕ) (s : State) : Type 0 where
+pub record Shows (groups : CoreView) (group : ℕ) (s : State) : Type 0 where
   pub sound : IsSound s
   pub view_is : slice_get groups.views group ≡ Some (view s)
 

@@ -11,7 +11,7 @@ use Rattle.bh_core.specs.Stepping.{IsServed}
 use Rattle.bh_tickets.specs.TicketsView.{TicketsView, group_at}
 
 -- what a group has beside its tickets
-pub record BareGroup : Type 0 where
+pub record GroupView : Type 0 where
   -- by which its tickets are known
   pub number : ℕ
   pub props : GroupProps
@@ -21,15 +21,15 @@ pub record BareGroup : Type 0 where
   pub history : HistoryView
 
 -- a new group
-abbrev pub new_group : ℕ → GroupProps → ℕ → BareGroup
+abbrev pub new_group : ℕ → GroupProps → ℕ → GroupView
 new_group number props limit = record { number = number; props = props; limit = limit; steps = 0; circuit = new_circuit; history = history_opened (window_of props) }
 
 -- what a group's fields show
-abbrev pub bare_group : Inside → BareGroup
-bare_group g = record { number = g.number; props = g.props; limit = g.limit; steps = g.steps; circuit = g.circuit; history = g.history }
+abbrev pub group_view : Inside → GroupView
+group_view g = record { number = g.number; props = g.props; limit = g.limit; steps = g.steps; circuit = g.circuit; history = g.history }
 
 -- what a group shows together with its tickets
-abbrev pub view_in : TicketsView → BareGroup → View
+abbrev pub view_in : TicketsView → GroupView → View
 view_in ts g = record {
   present = record { props = g.props; limit = g.limit; steps = g.steps; latest = g.history.latest; serial = (group_at ts g.number).next; tickets = (group_at ts g.number).items; circuit = g.circuit };
   table = g.history.table;
@@ -37,7 +37,7 @@ view_in ts g = record {
 }
 
 -- the events that its tables have
-abbrev pub counted_of : BareGroup → ℕ
+abbrev pub counted_of : GroupView → ℕ
 counted_of g = counted_at (window_of g.props) g.history.latest g.history.table g.history.health
 
 -- what holds of the fields between calls: the properties are in range, and no step is done beyond the limit
@@ -49,14 +49,14 @@ pub record IsReady (g : Inside) : Type 0 where
   pub steps : g.steps ≤ g.limit
 
 -- the group's tickets are there, in as many slots as it has, and there were no more tickets than steps
-pub record HasTickets (ts : TicketsView) (g : BareGroup) : Type 0 where
+pub record HasTickets (ts : TicketsView) (g : GroupView) : Type 0 where
   pub there : g.number < length ts.groups
   pub room : (group_at ts g.number).room ≡ g.props.slots
   pub few : length (group_at ts g.number).items ≤ g.props.slots
   pub serial : (group_at ts g.number).next ≤ g.steps + 1
 
 -- the tickets of other groups are as they were, and so is what the group's own rest on
-pub record Leaves (ts : TicketsView) (g : BareGroup) (us : TicketsView) (h : BareGroup) : Type 0 where
+pub record Leaves (ts : TicketsView) (g : GroupView) (us : TicketsView) (h : GroupView) : Type 0 where
   pub number : h.number ≡ g.number
   pub props : h.props ≡ g.props
   pub limit : us.limit ≡ ts.limit
