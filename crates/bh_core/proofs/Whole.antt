@@ -2,12 +2,11 @@
 use Rattle.std.proofs.Common.{◌≡◌, ◌≢◌, ℕ, ◌+◌, Bool, true, false, List, [], ◌∷◌, ◌++◌, length, map, take, None, refl, ◌∙◌, sym, ap, subst, arith, append-nil}
 use Rattle.std.specs.Prelude.{◌==◌, slice_get, if◌then◌else◌}
 use Rattle.std.proofs.lemmas.Bool.Decides.{nat_tests}
-use Rattle.std.proofs.lemmas.List.Elements.{filter-append}
 use Rattle.bh_base.specs.declared.step.Step.{Step}
 use Rattle.bh_base.specs.declared.reply.Reply.{Reply}
 use Rattle.bh_base.specs.declared.reply.Reply.TheVariants.{NoGroup}
 use Rattle.bh_base.specs.Runs.{State, step, replies, state_after, own}
-use Rattle.bh_base.proofs.OneMore.{replies-push, state_after-push, own-push, own-push_same, own-push_other}
+use Rattle.bh_base.proofs.OneMore.{replies-push, state_after-push, own-push_same, own-push_other}
 use Rattle.bh_core.specs.CoreView.{CoreView, Shows, own_replies}
 use Rattle.bh_core.specs.Step.{IsStep}
 
