@@ -3,6 +3,7 @@
 ghost use Rattle.std.specs.Prelude.{◌≡◌, ℕ, ◌%◌, true};
 ghost use Rattle.bh_audit.specs.Waking.{IsEverybody, frees_by, frees_caller, is_told_again};
 
+use crate::waiting::Waiting;
 use bh_base::{Op, Serial};
 
 /// How many are notified of those that wait at one condition variable.
@@ -23,13 +24,21 @@ pub enum FreedCallers {
 }
 
 /// Whom a step lets go on. All idle workers of a group wait for the same, so one is as good as another.
-#[derive(Clone, Copy, Debug, PartialEq, Eq)]
+///
+/// It cannot be dropped, and only `tell` takes it: whoever makes a step has to notify those whom it lets go on.
 pub struct Freed {
-    pub workers: Notice,
-    pub callers: FreedCallers,
+    workers: Notice,
+    callers: FreedCallers,
 }
 
 impl Freed {
+    /// So many workers, and those callers.
+    pub(crate) fn new(workers: Notice, callers: FreedCallers) -> Freed
+        ensures { result ≡ record { workers = workers; callers = callers } }
+    {
+        Freed { workers, callers }
+    }
+
     /// Everybody that waits in the group.
     pub(crate) fn everybody() -> Freed
         ensures { IsEverybody result }
@@ -45,6 +54,14 @@ impl Freed {
         Freed {
             workers: Notice::Nobody,
             callers: FreedCallers::Nobody,
+        }
+    }
+
+    /// Notifies them where the calls of their group wait. In a group that is not registered nobody does.
+    pub(crate) fn tell(self, waiting: Option<&Waiting>) {
+        let Freed { workers, callers } = self;
+        if let Some(waiting) = waiting {
+            waiting.notify(workers, callers);
         }
     }
 }

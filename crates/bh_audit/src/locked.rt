@@ -76,31 +76,12 @@ impl<const A: u32> Locked<A> {
         }
         let callers = FreedCallers::after(&step.op);
         if !self.book.core().startable(step.group) {
-            return Freed {
-                workers: Notice::Nobody,
-                callers,
-            };
+            return Freed::new(Notice::Nobody, callers);
         }
         if was_startable && !is_told_again(&step.op) {
-            return Freed {
-                workers: Notice::Nobody,
-                callers,
-            };
+            return Freed::new(Notice::Nobody, callers);
         }
-        Freed {
-            workers: Notice::One,
-            callers,
-        }
-    }
-
-    /// Sets the stop mark, by which everybody goes on.
-    pub(crate) fn stop(&mut self) -> Freed
-        ensures stopped { self.new.stopped ≡ true }
-        ensures book { self.new.book ≡ self.old.book }
-        ensures told { IsEverybody result }
-    {
-        self.stopped = true;
-        Freed::everybody()
+        Freed::new(Notice::One, callers)
     }
 }
 
@@ -231,10 +212,10 @@ pub(crate) fn next_in<const A: u32, R: Wait, C: Clock>(
 {
     let mut guard = lock.lock(rt);
     for _ in rt.forever() {
-        if let Some(next) = guard.try_next(pass, clock) {
-            return next;
+        match guard.try_next(pass, clock) {
+            Some(next) => return next,
+            None => guard = wait_for(rt, changed, guard),
         }
-        guard = wait_for(rt, changed, guard);
     }
     unreachable!()
 }
@@ -254,10 +235,10 @@ pub(crate) fn await_in<const A: u32, R: Wait, C: Clock>(
 {
     let mut guard = lock.lock(rt);
     for _ in rt.forever() {
-        if let Some(reply) = guard.try_collect(pass, serial, clock) {
-            return reply;
+        match guard.try_collect(pass, serial, clock) {
+            Some(reply) => return reply,
+            None => guard = wait_for(rt, changed, guard),
         }
-        guard = wait_for(rt, changed, guard);
     }
     unreachable!()
 }
@@ -301,11 +282,9 @@ pub(crate) fn expire_in<const A: u32, R: Wait, C: Clock>(
     lock.lock(rt).expire(pass, clock)
 }
 
-/// Sets the stop mark under the lock.
-pub(crate) fn stop_in<const A: u32, R: Wait>(rt: &R, lock: &Mutex<Locked<A>>) -> Freed
-    ensures { IsEverybody result }
-{
-    lock.lock(rt).stop()
+/// Sets the stop mark.
+pub(crate) fn stop_in<const A: u32, R: Wait>(rt: &R, lock: &Mutex<Locked<A>>) {
+    lock.lock(rt).stopped = true;
 }
 
 /// Reads the stop mark.

@@ -123,7 +123,7 @@ impl Shared {
         }
         let group = pass.group();
         let (reply, freed) = self.make(rt, pass, step);
-        self.wake(group, &freed);
+        freed.tell(self.waiting_at(group));
         Ok(reply)
     }
 
@@ -155,7 +155,7 @@ impl Shared {
             Lock::Audited(lock) => next_in(rt, lock, idle, pass, clock),
             Lock::Plain(lock) => next_in(rt, lock, idle, pass, clock),
         };
-        self.wake(group, &told.1);
+        told.1.tell(self.waiting_at(group));
         Ok(told.0)
     }
 
@@ -190,7 +190,7 @@ impl Shared {
             Lock::Audited(lock) => await_in(rt, lock, callers, pass, serial, clock),
             Lock::Plain(lock) => await_in(rt, lock, callers, pass, serial, clock),
         };
-        self.wake(group, &told.1);
+        told.1.tell(self.waiting_at(group));
         Ok(told.0)
     }
 
@@ -219,18 +219,18 @@ impl Shared {
             Lock::Audited(lock) => expire_in(rt, lock, pass, clock),
             Lock::Plain(lock) => expire_in(rt, lock, pass, clock),
         };
-        self.wake(group, &expiry.1);
+        expiry.1.tell(self.waiting_at(group));
         Ok(expiry.0)
     }
 
     /// Stops the service: workers and callers that wait go on at once, and later ones do not wait.
     pub fn stop<R: Wait>(&self, rt: &R) {
-        let freed = match &self.lock {
+        match &self.lock {
             Lock::Audited(lock) => stop_in(rt, lock),
             Lock::Plain(lock) => stop_in(rt, lock),
-        };
+        }
         for waiting in &self.waiting {
-            waiting.tell(&freed);
+            Freed::everybody().tell(Some(waiting));
         }
     }
 
@@ -299,13 +299,6 @@ impl Shared {
     /// Where calls of the group wait, where it is registered.
     fn waiting_at(&self, group: GroupId) -> Option<&Waiting> {
         self.waiting.get(group.0 as usize)
-    }
-
-    /// Notifies those of the group whom a step lets go on. The lock is given up by then.
-    fn wake(&self, group: GroupId, freed: &Freed) {
-        if let Some(waiting) = self.waiting_at(group) {
-            waiting.tell(freed);
-        }
     }
 }
 

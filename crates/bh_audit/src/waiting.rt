@@ -1,6 +1,6 @@
 //! Where the calls of one group wait.
 
-use crate::freed::{Freed, Notice, place_of};
+use crate::freed::{FreedCallers, Notice, place_of};
 use bh_base::Serial;
 use std::sync::Condvar;
 
@@ -39,17 +39,17 @@ impl Waiting {
         &self.callers[place_of(serial) as usize]
     }
 
-    /// Notifies those whom a step lets go on.
-    pub(crate) fn tell(&self, freed: &Freed) {
-        notify(&self.workers, freed.workers);
-        for (place, callers) in self.callers.iter().enumerate() {
-            notify(callers, freed.callers.at(place as u64));
+    /// Notifies so many idle workers, and those callers.
+    pub(crate) fn notify(&self, workers: Notice, callers: FreedCallers) {
+        notify_at(&self.workers, workers);
+        for (place, waiting) in self.callers.iter().enumerate() {
+            notify_at(waiting, callers.at(place as u64));
         }
     }
 }
 
 /// Notifies so many of those that wait at the condition variable.
-fn notify(condvar: &Condvar, notice: Notice) {
+fn notify_at(condvar: &Condvar, notice: Notice) {
     match notice {
         Notice::Nobody => {}
         Notice::One => condvar.notify_one(),
