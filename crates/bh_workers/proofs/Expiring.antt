@@ -10,7 +10,8 @@ use Rattle.bh_journal.specs.declared.pass.Receipt.{Receipt}
 use Rattle.bh_journal.specs.Passes.{PassView}
 use Rattle.bh_audit.specs.declared.next.StepError.{StepError}
 use Rattle.bh_audit.specs.Calls.{AddsExpire}
-use Rattle.bh_audit.proofs.Lists.{get_set_other, get_set_same, one_item, same_or_other}
+use Rattle.bh_journal.proofs.Lists.{get_set_other, get_set_same}
+use Rattle.bh_audit.proofs.Lists.{one_item, same_or_other}
 use Rattle.bh_workers.specs.Timing.{AreExpiries, AreTimed, IsTimed}
 use Rattle.bh_workers.proofs.Adding.{Gains-append, added_receipt, none_by_same}
 
