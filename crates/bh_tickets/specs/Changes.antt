@@ -17,8 +17,8 @@ abbrev pub run_started : Ticket → Ticket
 run_started t = record t { state = ticket.Running; busy = true }
 
 -- its run ended, and it goes on to the state
-abbrev pub run_ended : TicketState → Ticket → Ticket
-run_ended state t = record t { state = state; busy = false }
+abbrev pub run_settled : TicketState → Ticket → Ticket
+run_settled state t = record t { state = state; busy = false }
 
 -- its run ended too late
 abbrev pub run_stopped : Ticket → Ticket
@@ -51,7 +51,7 @@ queued_in s = elim s [ ticket.Queued ↦ true | _ ↦ false ]
 -- what a change makes of a ticket
 abbrev pub changed_by : TicketChange → Ticket → Ticket
 changed_by change.StartRun t = run_started t
-changed_by (change.EndRun state) t = run_ended state.now t
+changed_by (change.EndRun state) t = run_settled state.now t
 changed_by change.StopRun t = run_stopped t
 changed_by change.ReleaseHolder t = released_by_one t
 changed_by (change.AnswerHolder a) t = answered a.now t

@@ -7,7 +7,7 @@ ghost use Rattle.bh_base.specs.declared.ticket.TicketState.TheVariants as ticket
 ghost use Rattle.bh_base.specs.Machine.{released_by_one};
 ghost use Rattle.bh_base.specs.Tickets.{changed_first, in_state, is_busy_at, is_cached_as, is_cached_in, is_held_at, is_in_fallback, is_in_fallback_at, is_kept, is_queued};
 ghost use Rattle.bh_cache.specs.Cache.{uncached_in};
-ghost use Rattle.bh_tickets.specs.Changes.{answered, fallback_started, is_due_by, joined, queued_in, run_ended, run_started, run_stopped, timed_out_by};
+ghost use Rattle.bh_tickets.specs.Changes.{answered, fallback_started, is_due_by, joined, queued_in, run_settled, run_started, run_stopped, timed_out_by};
 ghost use Rattle.bh_tickets.specs.TicketsView.{CanPush, ChangesOnly, IsFirstAt, IsThere, group_at, in_slot, no_tickets_in, slots_of};
 ghost use Rattle.bh_tickets.specs.Whole.{CanChange, IsChanged};
 
@@ -242,7 +242,7 @@ impl Tickets {
         requires group { group < length self.old.groups }
         requires there { IsThere (group_at self.old group) slot }
         requires ended { queued_in state.now ≡ false }
-        ensures items { (p : Ticket → Bool) → IsFirstAt p (group_at self.old group) slot → (group_at self.new group).items ≡ changed_first p (run_ended state.now) (group_at self.old group).items }
+        ensures items { (p : Ticket → Bool) → IsFirstAt p (group_at self.old group) slot → (group_at self.new group).items ≡ changed_first p (run_settled state.now) (group_at self.old group).items }
         ensures left { ChangesOnly group self.old self.new }
     {
         self.change(group, slot, &TicketChange::EndRun(state));
