@@ -7,7 +7,7 @@
 set -euo pipefail
 
 here=$(cd "$(dirname "$0")" && pwd)
-lines=400000 runs=3
+lines=2000000 runs=3
 while getopts n:r: option; do
     case $option in
     n) lines=$OPTARG ;;
