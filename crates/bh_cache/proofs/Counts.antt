@@ -15,6 +15,7 @@ count_insert q t (u ∷ us) = by (nat_lt t.serial u.serial) (count_insert q t us
     by true e = count_cons q t (u ∷ us)
     by false e = omega (arith, e, count_cons q u (insert t us), count_cons q u us)
 
+-- as many of the listed tickets pass as there are places below n with a ticket that passes
 pub count_listed : (q : Ticket → Bool) (at : ℕ → Option Ticket) (n : ℕ) → count_by q (listed at n) ≡ count_below n (λ x. has_one q (at x))
 count_listed q at zero = refl
 count_listed q at (suc n) = by (at n) (count_listed q at n)

@@ -17,6 +17,7 @@ use Rattle.bh_cache.proofs.Order.{count_same}
 
 -- ---- one ticket
 
+-- a ticket made uncached in the context is not cached in it
 pub uncached_not : (context : ℕ) (t : Ticket) → is_cached_in context (uncached_in context t) ≡ false
 uncached_not context t = by (is_cached_in context t) refl
   where
@@ -24,6 +25,7 @@ uncached_not context t = by (is_cached_in context t) refl
     by true e = refl
     by false e = e
 
+-- a ticket that is not cached in the context stays as it is
 pub uncached_same : (context : ℕ) (t : Ticket) → is_cached_in context t ≡ false → uncached_in context t ≡ t
 uncached_same context t e = ap (λ b. if b then record t { cached = false } else t) e
 
@@ -67,6 +69,7 @@ module _ (context : ℕ) (a b : Slots) (slot : ℕ) (t : Ticket) (n : ℕ) (with
         ∙ sym (ap (λ c. if c then option_map (uncached_in context) (slice_get a.payloads y) else slice_get a.payloads y) (or_no (eqb slot y) ∙ ne_eqb slot y ne))
   ]
 
+  -- the one slot's ticket is cached in the context no more, and the number says whether it was
   pub dropped_at : IsDroppedFrom context (slot ∷ []) a b n
   dropped_at = record {
     limit = limit;
@@ -101,6 +104,7 @@ module _ (context : ℕ) (xs ys : List ℕ) (a b c : Slots) (n m : ℕ) (first :
       by false true o q is = ap (option_map (uncached_in context)) is
       by false false o q is = is
 
+  -- slots that are dropped after others are dropped together with them, and the numbers add up
   pub dropped_both : IsDroppedFrom context (xs ++ ys) a c (n + m)
   dropped_both = record {
     limit = second.limit ∙ first.limit;
@@ -120,6 +124,7 @@ module _ (context : ℕ) (xs ys : List ℕ) (a b c : Slots) (n m : ℕ) (first :
       right true e h = refl
       right false e h = h
 
+-- where the first i slots of a list are dropped, and then the next, one slot more of the list is
 pub dropped_more : (context : ℕ) (xs : List ℕ) (i x : ℕ) (a b c : Slots) (n m : ℕ) → slice_get xs i ≡ Some x → IsDroppedFrom context (take i xs) a b n → IsDroppedFrom context (x ∷ []) b c m → IsDroppedFrom context (take (i + 1) xs) a c (n + m)
 dropped_more context xs i x a b c n m at first second = subst (λ ys. IsDroppedFrom context ys a c (n + m)) (sym (take_one_more xs i x at)) (dropped_both context (take i xs) (x ∷ []) a b c n m first second)
 
@@ -139,6 +144,7 @@ module _ (context : ℕ) (a b c d : Slots) (q r s n m k : ℕ) (first : IsDroppe
   dropped_two : IsDroppedFrom context (slots_on a 0 q ++ slots_on a 0 r) a c (n + m)
   dropped_two = dropped_both context (slots_on a 0 q) (slots_on a 0 r) a b c n m first (subst (λ xs. IsDroppedFrom context xs b c m) (list_same context (slots_on a 0 q) a b n r first) second)
 
+  -- the slots of three lists, dropped one list after another, are dropped together
   pub dropped_three : IsDroppedFrom context (slots_on a 0 q ++ slots_on a 0 r ++ slots_on a 0 s) a d (n + m + k)
   dropped_three = dropped_both context (slots_on a 0 q ++ slots_on a 0 r) (slots_on a 0 s) a c d (n + m) k dropped_two (subst (λ xs. IsDroppedFrom context xs c d k) (list_same context (slots_on a 0 q ++ slots_on a 0 r) a c (n + m) s dropped_two) third)
 
@@ -191,6 +197,7 @@ module _ (context : ℕ) (a b : Slots) (g : GroupLists) (n : ℕ) (dropped : IsD
       still : (x : ℕ) → (is_live a g x && has_one (is_cached_in context) (slice_get b.payloads x)) ≡ false
       still x = gone (is_live a g x) (slice_get a.payloads x) (slice_get b.payloads x) (payload_is x)
 
+  -- where the slots of all its lists with tickets are dropped, the tickets of the group are
   pub dropped_group : IsDropped context g a b n
   dropped_group = record {
     limit = dropped.limit;

@@ -157,10 +157,12 @@ module _ (p : Ticket → Bool) (a : Slots) (g : GroupLists) where
             omega (arith, le, k, l);
       }
 
+  -- the best of the slots with tickets, where there is one, has the earliest ticket that passes
   pub if_found : (r : Option ℕ) → IsBest p a.payloads (is_live a g) r → IfSome r (λ x. IsEarliest p a g x)
   if_found None best = tt
   if_found (Some x) best = best_found x best
 
+  -- where there is no best one, no ticket of the group passes
   pub if_none : (r : Option ℕ) → IsBest p a.payloads (is_live a g) r → r ≡ None → (x : ℕ) → has_one p (ticket_at a g x) ≡ false
   if_none None best e x = by (is_live a g x) refl
     where
@@ -171,6 +173,7 @@ module _ (p : Ticket → Bool) (a : Slots) (g : GroupLists) where
 
 -- where the serials differ, the one of least serial is the first of the group's tickets
 module _ (p : Ticket → Bool) (a : Slots) (g : GroupLists) (distinct : Distinct (ticket_at a g)) where
+  -- the earliest ticket that passes is what a search of the group's tickets finds
   pub earliest_first : (x : ℕ) (found : IsEarliest p a g x) → find p (tickets_of a g) ≡ Some found.ticket
   earliest_first x found =
       find_least p (tickets_of a g) found.ticket (rising (ticket_at a g) (length a.payloads) distinct)
@@ -178,6 +181,7 @@ module _ (p : Ticket → Bool) (a : Slots) (g : GroupLists) (distinct : Distinct
       found.passes
       (λ u i q. let r = from_listed (ticket_at a g) (length a.payloads) u i in found.least r.0 u r.2 q)
 
+-- where no slot has a ticket that passes, a search of the group's tickets finds none
 pub none_first : (p : Ticket → Bool) (a : Slots) (g : GroupLists) → ((x : ℕ) → has_one p (ticket_at a g x) ≡ false) → find p (tickets_of a g) ≡ None
 none_first p a g none = find_none p (tickets_of a g) (λ u i. let r = from_listed (ticket_at a g) (length a.payloads) u i in sym (ap (has_one p) r.2) ∙ none r.0)
 
@@ -190,8 +194,10 @@ module _ (p : Ticket → Bool) (ps : List Ticket) (found : Option ℕ) (xs : Lis
       ∙ ap (λ o. earliest p ps (if has_one p o then Some (earlier ps found x) else found) (drop (suc i) xs)) is
       ∙ ap (λ n. earliest p ps (if p t then Some (earlier ps found x) else found) (drop n xs)) (sym (add-one i))
 
+  -- a slot whose ticket passes is compared with what was found, and the walk goes on from the next
   pub step_found : p t ≡ true → earliest p ps found (drop i xs) ≡ earliest p ps (Some (earlier ps found x)) (drop (i + 1) xs)
   step_found e = step ∙ ap (λ b. earliest p ps (if b then Some (earlier ps found x) else found) (drop (i + 1) xs)) e
 
+  -- a slot whose ticket does not pass is left out
   pub step_passed : p t ≡ false → earliest p ps found (drop i xs) ≡ earliest p ps found (drop (i + 1) xs)
   step_passed e = step ∙ ap (λ b. earliest p ps (if b then Some (earlier ps found x) else found) (drop (i + 1) xs)) e

@@ -24,11 +24,13 @@ abbrev pub Rising : List Ticket → Type 0
 Rising [] = Unit {0}
 Rising (t ∷ ts) = Above t.serial ts × Rising ts
 
+-- where the serials of a list are greater than s, that of each member is
 pub above_each : (s : ℕ) (ts : List Ticket) (t : Ticket) → Above s ts → IsIn t ts → s < t.serial
 above_each s [] t h i = absurd i
 above_each s (u ∷ us) t h (inl e) = subst (λ (v : Ticket). s < v.serial) e h.0
 above_each s (u ∷ us) t h (inr i) = above_each s us t h.1 i
 
+-- where the serial of each member is greater than s, the serials of the list are
 pub above_by : (s : ℕ) (ts : List Ticket) → ((t : Ticket) → IsIn t ts → s < t.serial) → Above s ts
 above_by s [] h = tt
 above_by s (u ∷ us) h = (h u (inl refl), above_by s us (λ t i. h t (inr i)))
@@ -42,6 +44,7 @@ in_if true t u v us ws i rest = i
 in_if false t u v us ws (inl e) rest = inr (inl e)
 in_if false t u v us ws (inr i) rest = elim (rest i) [ inl e ↦ inl e | inr k ↦ inr (inr k) ]
 
+-- a member of a list with a ticket put in is that ticket, or was a member before
 pub in_insert : (t v : Ticket) (us : List Ticket) → IsIn v (insert t us) → (t ≡ v) ⊎ IsIn v us
 in_insert t v [] i = i
 in_insert t v (u ∷ us) i = in_if (nat_lt t.serial u.serial) t u v us (insert t us) i (in_insert t v us)
@@ -63,6 +66,7 @@ insert_kept : (t v : Ticket) (us : List Ticket) → IsIn v us → IsIn v (insert
 insert_kept t v [] i = absurd i
 insert_kept t v (u ∷ us) i = kept_if (nat_lt t.serial u.serial) t u v us (insert t us) i (insert_kept t v us)
 
+-- so it is where there may be no ticket to put in
 pub in_put : (o : Option Ticket) (v : Ticket) (us : List Ticket) → IsIn v (put_in o us) → (o ≡ Some v) ⊎ IsIn v us
 in_put None v us i = inr i
 in_put (Some t) v us i = elim (in_insert t v us i) [ inl e ↦ inl (ap Some e) | inr k ↦ inr k ]
@@ -83,6 +87,7 @@ from_listed at (suc n) t i = elim (in_put (at n) t (listed at n) i) [
   | inr k ↦ let r = from_listed at n t k in (r.0, omega (arith, r.1), r.2)
 ]
 
+-- a ticket at a place below n is listed
 pub in_listed : (at : ℕ → Option Ticket) (n x : ℕ) (t : Ticket) → x < n → at x ≡ Some t → IsIn t (listed at n)
 in_listed at zero x t lt e = absurd (omega (arith, lt))
 in_listed at (suc n) x t lt e = elim (cases_eq x n) [
@@ -104,6 +109,7 @@ rising_if false t u us is ne above rising rest =
     let lt : u.serial < t.serial = grind (arith, nat_tests) in
     (above_by u.serial (insert t us) (λ v i. elim (in_insert t v us i) [ inl e ↦ subst (λ (w : Ticket). u.serial < w.serial) e lt | inr k ↦ above_each u.serial us v above k ]), rest)
 
+-- rising serials still rise once a ticket of a serial that none has is put in
 pub insert_rising : (t : Ticket) (us : List Ticket) → ((u : Ticket) → IsIn u us → t.serial ≡ u.serial → ⊥) → Rising us → Rising (insert t us)
 insert_rising t [] ne rising = (tt, tt)
 insert_rising t (u ∷ us) ne rising = rising_if (nat_lt t.serial u.serial) t u us refl (ne u (inl refl)) rising.0 rising.1 (insert_rising t us (λ v i. ne v (inr i)) rising.1)
@@ -116,6 +122,7 @@ put_rising : (o : Option Ticket) (us : List Ticket) → ((t u : Ticket) → o �
 put_rising None us ne rising = rising
 put_rising (Some t) us ne rising = insert_rising t us (λ u i. ne t u refl i) rising
 
+-- the serials of the listed tickets rise, where no two places have tickets of one serial
 pub rising : (at : ℕ → Option Ticket) (n : ℕ) → Distinct at → Rising (listed at n)
 rising at zero distinct = tt
 rising at (suc n) distinct = put_rising (at n) (listed at n) (λ t u e i s. let r = from_listed at n u i in let k : n ≡ r.0 = distinct n r.0 t u e r.2 s in omega (arith, r.1, k)) (rising at n distinct)
@@ -136,10 +143,12 @@ put_map : (h : Ticket → Ticket) → ((t : Ticket) → (h t).serial ≡ t.seria
 put_map h keeps None us = refl
 put_map h keeps (Some t) us = insert_map h keeps t us
 
+-- where each place's ticket is changed and keeps its serial, each listed ticket is changed so
 pub listed_map : (h : Ticket → Ticket) (at now : ℕ → Option Ticket) (n : ℕ) → ((t : Ticket) → (h t).serial ≡ t.serial) → ((x : ℕ) → now x ≡ option_map h (at x)) → listed now n ≡ map h (listed at n)
 listed_map h at now zero keeps same = refl
 listed_map h at now (suc n) keeps same = ap (λ o. put_in o (listed now n)) (same n) ∙ ap (put_in (option_map h (at n))) (listed_map h at now n keeps same) ∙ put_map h keeps (at n) (listed at n)
 
+-- places below n that have the same tickets list the same
 pub listed_same : (at now : ℕ → Option Ticket) (n : ℕ) → ((x : ℕ) → x < n → now x ≡ at x) → listed now n ≡ listed at n
 listed_same at now zero same = refl
 listed_same at now (suc n) same = ap (λ o. put_in o (listed now n)) (same n (omega arith)) ∙ ap (put_in (at n)) (listed_same at now n (λ x lt. same x (omega (arith, lt))))
@@ -166,6 +175,7 @@ put_before : (t : Ticket) (o : Option Ticket) (us : List Ticket) → ((u : Ticke
 put_before t None us less = refl
 put_before t (Some u) us less = insert_before t u us (less u refl)
 
+-- a ticket that comes to an empty place, of a serial greater than all others, is listed last
 pub listed_added : (at now : ℕ → Option Ticket) (n x : ℕ) (t : Ticket) → x < n → at x ≡ None → now x ≡ Some t → ((y : ℕ) → (y ≡ x → ⊥) → now y ≡ at y) → ((y : ℕ) (u : Ticket) → at y ≡ Some u → u.serial < t.serial) → listed now n ≡ listed at n ++ t ∷ []
 listed_added at now zero x t lt was is same less = absurd (omega (arith, lt))
 listed_added at now (suc n) x t lt was is same less = elim (cases_eq x n) [
@@ -230,6 +240,7 @@ put_filter p (Some t) us rising = by (p t) refl
     by true is = sym (filter_insert p t us is rising)
     by false is = sym (filter_dropped p t us is)
 
+-- where only tickets that pass stay at their places, just those that pass stay listed
 pub listed_filter : (p : Ticket → Bool) (at now : ℕ → Option Ticket) (n : ℕ) → Distinct at → ((x : ℕ) → x < n → now x ≡ option_filter p (at x)) → listed now n ≡ filter p (listed at n)
 listed_filter p at now zero distinct same = refl
 listed_filter p at now (suc n) distinct same =
@@ -239,6 +250,7 @@ listed_filter p at now (suc n) distinct same =
 
 -- ---- the first that passes a test
 
+-- a search along rising serials finds the ticket that passes and has the least serial of those
 pub find_least : (p : Ticket → Bool) (ts : List Ticket) (t : Ticket) → Rising ts → IsIn t ts → p t ≡ true → ((u : Ticket) → IsIn u ts → p u ≡ true → t.serial ≤ u.serial) → find p ts ≡ Some t
 find_least p [] t order i passes least = absurd i
 find_least p (u ∷ us) t order i passes least = by (p u) refl i (λ k. find_least p us t order.1 k passes (λ v j. least v (inr j)))
@@ -251,10 +263,12 @@ find_least p (u ∷ us) t order i passes least = by (p u) refl i (λ k. find_lea
         absurd (omega (arith, lt, le))
     by false is (inr k) rest = rest k
 
+-- where no member passes, a search finds none
 pub find_none : (p : Ticket → Bool) (ts : List Ticket) → ((u : Ticket) → IsIn u ts → p u ≡ false) → find p ts ≡ None
 find_none p [] none = refl
 find_none p (u ∷ us) none = ap (λ b. cond b (Some u) (find p us)) (none u (inl refl)) ∙ find_none p us (λ v i. none v (inr i))
 
+-- what a search finds is a member that passes
 pub find_in : (p : Ticket → Bool) (ts : List Ticket) (t : Ticket) → find p ts ≡ Some t → IsIn t ts × (p t ≡ true)
 find_in p [] t e = absurd cc
 find_in p (u ∷ us) t e = by (p u) refl e (find_in p us t)
@@ -287,5 +301,6 @@ changed_is_map p f (u ∷ us) t v order found e same = by (p u) refl found (λ k
 
 -- ---- counts
 
+-- the count of a list is one for its first ticket, where that passes, and the count of the rest
 pub count_cons : (q : Ticket → Bool) (u : Ticket) (us : List Ticket) → count_by q (u ∷ us) ≡ one (q u) + count_by q us
 count_cons q u us = sum_by-cons (λ v. one (q v)) u us

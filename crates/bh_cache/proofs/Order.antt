@@ -24,6 +24,7 @@ later_same ps qs s r (x ∷ xs) e same h =
     let k : serial_in (slice_get qs x) ≡ serial_in (slice_get ps x) = same x (has_first x xs) in
     (omega (arith, h.0, k, e), later_same ps qs s r xs e (λ y i. same y (has_rest y x xs i)) h.1)
 
+-- serials that rise along a list still rise where each slot of it has a payload of the same serial
 pub order_same : (ps qs : List Ticket) (xs : List ℕ) → ((y : ℕ) → has y xs ≡ true → serial_in (slice_get qs y) ≡ serial_in (slice_get ps y)) → InOrder ps xs → InOrder qs xs
 order_same ps qs [] same h = tt
 order_same ps qs (x ∷ xs) same h = (later_same ps qs (serial_in (slice_get ps x)) (serial_in (slice_get qs x)) xs (same x (has_first x xs)) (λ y i. same y (has_rest y x xs i)) h.0, order_same ps qs xs (λ y i. same y (has_rest y x xs i)) h.1)
@@ -36,6 +37,7 @@ later_without ps s x (y ∷ ys) h = by (eqb y x) (later_without ps s x ys h.1)
     by true r = r
     by false r = (h.0, r)
 
+-- serials that rise along a list still rise without a slot
 pub order_without : (ps : List Ticket) (x : ℕ) (xs : List ℕ) → InOrder ps xs → InOrder ps (without x xs)
 order_without ps x [] h = tt
 order_without ps x (y ∷ ys) h = by (eqb y x) (order_without ps x ys h.1)
@@ -48,6 +50,7 @@ later_append : (ps : List Ticket) (s x : ℕ) (xs : List ℕ) → Later ps s xs 
 later_append ps s x [] h lt = (lt, tt)
 later_append ps s x (y ∷ ys) h lt = (h.0, later_append ps s x ys h.1 lt)
 
+-- serials that rise along a list still rise with a slot of a greater serial put last
 pub order_append : (ps : List Ticket) (x : ℕ) (xs : List ℕ) → InOrder ps xs → ((y : ℕ) → has y xs ≡ true → serial_in (slice_get ps y) < serial_in (slice_get ps x)) → InOrder ps (xs ++ x ∷ [])
 order_append ps x [] h less = (tt, tt)
 order_append ps x (y ∷ ys) h less = (later_append ps (serial_in (slice_get ps y)) x ys h.0 (less y (has_first y ys)), order_append ps x ys h.1 (λ z i. less z (has_rest z y ys i)))
@@ -71,28 +74,34 @@ pub front_is : (x : ℕ) (xs : List ℕ) → slice_get xs 0 ≡ Some x → (ys :
 front_is x [] e = absurd cc
 front_is x (y ∷ ys) e = let k : y ≡ x = cc in (ys, ap (λ z. z ∷ ys) k)
 
+-- a list that has no first slot is empty
 pub front_none : (xs : List ℕ) → slice_get xs 0 ≡ None → xs ≡ []
 front_none [] e = refl
 front_none (y ∷ ys) e = absurd cc
 
+-- the first slot of a list is on it
 pub front_on : (x : ℕ) (xs : List ℕ) → slice_get xs 0 ≡ Some x → has x xs ≡ true
 front_on x xs e = let r = front_is x xs e in ap (has x) r.1 ∙ has_first x r.0
 
 -- ---- how many
 
+-- where two tests say the same of each number, as many pass the one as the other
 pub count_same : (p q : ℕ → Bool) (n : ℕ) → ((x : ℕ) → p x ≡ q x) → count_below n p ≡ count_below n q
 count_same p q zero same = refl
 count_same p q (suc n) same = let k : one (p n) ≡ one (q n) = ap one (same n) in omega (arith, k, count_same p q n same)
 
+-- where c is true whenever b is, b counts for no more than c
 pub one_le : (b c : Bool) → (b ≡ true → c ≡ true) → one b ≤ one c
 one_le true true h = omega arith
 one_le true false h = let k : false ≡ true = h refl in absurd cc
 one_le false c h = omega arith
 
+-- where each number that passes p passes q, no more pass p than q
 pub count_le : (p q : ℕ → Bool) (n : ℕ) → ((x : ℕ) → p x ≡ true → q x ≡ true) → count_below n p ≤ count_below n q
 count_le p q zero h = omega arith
 count_le p q (suc n) h = omega (arith, one_le (p n) (q n) (h n), count_le p q n h)
 
+-- and fewer do, where a number below n passes q alone
 pub count_lt : (p q : ℕ → Bool) (n x : ℕ) → x < n → ((x : ℕ) → p x ≡ true → q x ≡ true) → p x ≡ false → q x ≡ true → count_below n p < count_below n q
 count_lt p q zero x lt h a b = absurd (omega (arith, lt))
 count_lt p q (suc n) x lt h no' yes' = elim (cases_eq x n) [
@@ -111,6 +120,7 @@ length_insert t (u ∷ us) = by (nat_lt t.serial u.serial) (length_insert t us)
     by true r = omega arith
     by false r = omega (arith, r)
 
+-- as many tickets are listed as there are places below n that have one
 pub length_listed : (at : ℕ → Option Ticket) (p : ℕ → Bool) (n : ℕ) → ((x : ℕ) → x < n → p x ≡ is_some (at x)) → length (listed at n) ≡ count_below n p
 length_listed at p zero h = refl
 length_listed at p (suc n) h = by (at n) (h n (omega arith)) (length_listed at p n (λ x lt. h x (omega (arith, lt))))

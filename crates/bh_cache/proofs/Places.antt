@@ -7,6 +7,7 @@ use Rattle.bh_cache.specs.Slots.{has}
 
 -- ---- members and places
 
+-- a slot is on two lists joined just where it is on one of them
 pub has_append : (x : ℕ) (xs ys : List ℕ) → has x (xs ++ ys) ≡ (has x xs || has x ys)
 has_append x [] ys = refl
 has_append x (z ∷ zs) ys = ap (λ b. eqb z x || b) (has_append x zs ys) ∙ regroup (eqb z x) (has x zs) (has x ys)
@@ -25,18 +26,21 @@ has_place (y ∷ ys) x e = elim (cases_eq y x) [
 
 -- ---- what is ahead of a place, and what is behind it
 
+-- what is left of a list from a place on is the slot at that place, and what is left from the next on
 pub drop_at : (xs : List ℕ) (i x : ℕ) → slice_get xs i ≡ Some x → drop i xs ≡ x ∷ drop (suc i) xs
 drop_at [] zero x e = absurd cc
 drop_at [] (suc i) x e = absurd cc
 drop_at (y ∷ ys) zero x e = let k : y ≡ x = cc in ap (λ z. z ∷ ys) k
 drop_at (y ∷ ys) (suc i) x e = drop_at ys i x e
 
+-- from a place on that has no slot, nothing is left
 pub drop_past : (xs : List ℕ) (i : ℕ) → slice_get xs i ≡ None → drop i xs ≡ []
 drop_past [] zero e = refl
 drop_past [] (suc i) e = refl
 drop_past (y ∷ ys) zero e = absurd cc
 drop_past (y ∷ ys) (suc i) e = drop_past ys i e
 
+-- from the end of a list on, nothing is left
 pub drop_end : (xs : List ℕ) (i : ℕ) → length xs ≤ i → drop i xs ≡ []
 drop_end [] zero h = refl
 drop_end [] (suc i) h = refl
@@ -73,6 +77,7 @@ get_set xs i j v lt = elim (cases_eq j i) [
   | inr ne ↦ get_set_other xs i j v ne ∙ sym (ap (λ b. if b then Some v else slice_get xs j) (ne_eqb j i ne))
 ]
 
+-- a slot that has a payload is below the number of payloads
 pub get_within : (xs : List Ticket) (i : ℕ) (v : Ticket) → slice_get xs i ≡ Some v → i < length xs
 get_within [] i v e = absurd cc
 get_within (x ∷ xs) zero v e = omega arith

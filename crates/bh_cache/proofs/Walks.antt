@@ -10,9 +10,11 @@ use Rattle.bh_cache.proofs.Places.{drop_at, has_place}
 use Rattle.bh_cache.specs.Slots.{Slots, has, is_on, is_live, ticket_at, has_serial_in, serial_on, Once, IsArena}
 
 module _ (p : ℕ → Bool) (xs : List ℕ) (i x : ℕ) (at : slice_get xs i ≡ Some x) where
+  -- a search from a place on finds the slot at that place, where it passes
   pub found_at : p x ≡ true → find p (drop i xs) ≡ Some x
   found_at yes' = ap (find p) (drop_at xs i x at) ∙ ap (λ b. cond b (Some x) (find p (drop (suc i) xs))) yes'
 
+  -- where it does not pass, the search goes on from the next place
   pub next_at : p x ≡ false → find p (drop i xs) ≡ find p (drop (i + 1) xs)
   next_at no' = ap (find p) (drop_at xs i x at) ∙ ap (λ b. cond b (Some x) (find p (drop (suc i) xs))) no' ∙ ap (λ n. find p (drop n xs)) (sym (add-one i))
 
@@ -35,9 +37,11 @@ arena_is a f wide law = record {
 
 module _ (a : Slots) (l serial i x : ℕ) (t : Ticket) (at : slice_get (slots_on a 0 l) i ≡ Some x) (is : slice_get a.payloads x ≡ Some t)
     (rest : serial_on a l serial ≡ find (λ x. has_serial_in serial (slice_get a.payloads x)) (drop i (slots_on a 0 l))) where
+  -- where the ticket at hand has the serial, its slot is the one that the list has for the serial
   pub serial_found : t.serial ≡ serial → Some x ≡ serial_on a l serial
   serial_found e = sym (rest ∙ found_at (λ x. has_serial_in serial (slice_get a.payloads x)) (slots_on a 0 l) i x at (ap (has_serial_in serial) is ∙ eq-eqb t.serial serial e))
 
+  -- where it has another serial, the search goes on from the next place
   pub serial_next : (t.serial ≡ serial → ⊥) → serial_on a l serial ≡ find (λ x. has_serial_in serial (slice_get a.payloads x)) (drop (i + 1) (slots_on a 0 l))
   serial_next ne = rest ∙ next_at (λ x. has_serial_in serial (slice_get a.payloads x)) (slots_on a 0 l) i x at (ap (has_serial_in serial) is ∙ ne_eqb t.serial serial ne)
 
@@ -74,20 +78,25 @@ live_of false false false h = elim h [ inl e ↦ e | inr k ↦ elim k [ inl e �
 abbrev live_for_list : Slots → GroupLists → ℕ → ℕ → Type 0
 live_for_list a g l x = is_on a 0 l x ≡ true → is_live a g x ≡ true
 
+-- a slot on the group's list of queued tickets is on one of its lists with tickets
 pub on_queued : (a : Slots) (g : GroupLists) (x : ℕ) → is_on a 0 g.queued x ≡ true → is_live a g x ≡ true
 on_queued a g x e = live_of (is_on a 0 g.queued x) (is_on a 0 g.running x) (is_on a 0 g.settled x) (inl e)
 
+-- and so is a slot on its list of running tickets
 pub on_running : (a : Slots) (g : GroupLists) (x : ℕ) → is_on a 0 g.running x ≡ true → is_live a g x ≡ true
 on_running a g x e = live_of (is_on a 0 g.queued x) (is_on a 0 g.running x) (is_on a 0 g.settled x) (inr (inl e))
 
+-- and so is a slot on its list of settled tickets
 pub on_settled : (a : Slots) (g : GroupLists) (x : ℕ) → is_on a 0 g.settled x ≡ true → is_live a g x ≡ true
 on_settled a g x e = live_of (is_on a 0 g.queued x) (is_on a 0 g.running x) (is_on a 0 g.settled x) (inr (inr e))
 
+-- the slot that a list with tickets has for a serial has a ticket of that serial
 pub serial_at : (a : Slots) (g : GroupLists) (l serial x : ℕ) → live_for_list a g l x → Some x ≡ serial_on a l serial → has_serial_in serial (ticket_at a g x) ≡ true
 serial_at a g l serial x live e =
     let r = find_on (λ x. has_serial_in serial (slice_get a.payloads x)) (slots_on a 0 l) x (sym e) in
     ap (λ b. has_serial_in serial (if b then slice_get a.payloads x else None)) (live r.0) ∙ r.1
 
+-- where no list with tickets has a slot for the serial, no ticket of the group has it
 pub serial_none : (a : Slots) (g : GroupLists) (serial : ℕ) → None ≡ serial_on a g.queued serial → None ≡ serial_on a g.running serial → None ≡ serial_on a g.settled serial → (x : ℕ) → has_serial_in serial (ticket_at a g x) ≡ false
 serial_none a g serial q r s x = by (is_on a 0 g.queued x) (is_on a 0 g.running x) (is_on a 0 g.settled x) refl refl refl
   where

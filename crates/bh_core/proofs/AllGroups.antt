@@ -23,6 +23,7 @@ use Rattle.bh_tickets.specs.TicketsView.{GroupTickets, TicketsView, group_at, sl
 abbrev pub groups_in : TicketsView → List GroupView → CoreView
 groups_in ts gs = record { slot_limit = ts.limit; views = views_in ts gs }
 
+-- two functions that agree on each group of a list map it alike
 pub map_alike : (f h : GroupView → View) (gs : List GroupView) → ((j : ℕ) (k : GroupView) → slice_get gs j ≡ Some k → f k ≡ h k) → map f gs ≡ map h gs
 map_alike f h [] same = refl
 map_alike f h (k ∷ ks) same =
@@ -58,9 +59,11 @@ slice_get-set_other (x ∷ xs) (suc i) (suc j) h differ = slice_get-set_other xs
 group_here : (gs : List GroupView) (i : ℕ) (g : GroupView) → i < length gs → g ≡ get_or gs i g → slice_get gs i ≡ Some g
 group_here gs i g inside is = slice_get_read gs (length gs) i g refl inside is
 
+-- the group at a place has its tickets
 pub has_at : (ts : TicketsView) (gs : List GroupView) (i : ℕ) (g : GroupView) → AreGroups ts gs → i < length gs → g ≡ get_or gs i g → HasTickets ts g
 has_at ts gs i g all inside is = all.tickets i g (group_here gs i g inside is)
 
+-- the group at a place is steady together with its tickets
 pub steady_at : (ts : TicketsView) (gs : List GroupView) (i : ℕ) (g : GroupView) → AreGroups ts gs → i < length gs → g ≡ get_or gs i g → IsSteady (view_in ts g)
 steady_at ts gs i g all inside is = all.steady i g (group_here gs i g inside is)
 
@@ -68,9 +71,11 @@ steady_at ts gs i g all inside is = all.steady i g (group_here gs i g inside is)
 pub shown_is : (ts : TicketsView) (gs : List GroupView) (i : ℕ) (g : GroupView) (v : View) → slice_get gs i ≡ Some g → slice_get (views_in ts gs) i ≡ Some v → v ≡ view_in ts g
 shown_is ts gs i g v here shown = (let both : Some v ≡ Some (view_in ts g) = sym shown ∙ slice_get-map (view_in ts) gs i ∙ ap (option_map (view_in ts)) here in cc)
 
+-- where there is a group, callers see a view
 pub shown_some : (ts : TicketsView) (gs : List GroupView) (i : ℕ) (g : GroupView) → slice_get gs i ≡ Some g → slice_get (views_in ts gs) i ≡ None → ⊥
 shown_some ts gs i g here none = (let both : None ≡ Some (view_in ts g) = sym none ∙ slice_get-map (view_in ts) gs i ∙ ap (option_map (view_in ts)) here in cc)
 
+-- where there is no group, callers see no view
 pub shown_none : (ts : TicketsView) (gs : List GroupView) (i : ℕ) (v : View) → slice_get gs i ≡ None → slice_get (views_in ts gs) i ≡ Some v → ⊥
 shown_none ts gs i v none shown = (let both : Some v ≡ None = sym shown ∙ slice_get-map (view_in ts) gs i ∙ ap (option_map (view_in ts)) none in cc)
 
@@ -90,6 +95,7 @@ module _ (ts us : TicketsView) (gs : List GroupView) (i : ℕ) (g h : GroupView)
   groups_after : groups_in us (set gs i h) ≡ record { slot_limit = ts.limit; views = set (views_in ts gs) i (view_in us h) }
   groups_after = λ k. record { slot_limit = left.limit k; views = views_after k }
 
+  -- each group has the tickets of its number still, where the changed one has them and is steady
   pub groups_kept : HasTickets us h → IsSteady (view_in us h) → AreGroups us (set gs i h)
   groups_kept has steady = record {
     count = left.count ∙ all.count ∙ sym (length-set gs i h);
@@ -130,6 +136,7 @@ sums_alike ts (x ∷ xs) (g ∷ gs) same rooms =
     let rest = sums_alike ts xs gs (omega (arith, same)) (λ i y k e f. rooms (suc i) y k e f) in
     omega (arith, first, rest, sum_by-cons (λ (y : GroupTickets). y.room) x xs, sum_by-cons (λ (v : View). v.present.props.slots) (view_in ts g) (views_in ts gs))
 
+-- the slots that the tickets have in all are those of the views of the groups
 pub slots_alike : (ts : TicketsView) (gs : List GroupView) → AreGroups ts gs → slots_of ts ≡ slots_in (views_in ts gs)
 slots_alike ts gs all =
     sums_alike ts ts.groups gs all.count (λ i x g e f. sym (ap (λ (y : GroupTickets). y.room) (group_read ts i x e)) ∙ ap (λ n. (group_at ts n).room) (sym (all.number i g f)) ∙ (all.tickets i g f).room)

@@ -86,6 +86,7 @@ pub counted-at : (w : Window) (moment : ℕ) (table health : List Counts) → co
 unfolding counted_at
 counted-at w moment table health = refl
 
+-- one more event is counted at most twice
 pub counted-event : (k : EventKind) (v : View) → 0 < v.present.props.buckets → counted (with_event k v) ≤ counted v + 2
 counted-event k v some =
     let w : Window = window_of v.present.props in

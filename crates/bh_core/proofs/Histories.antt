@@ -47,10 +47,12 @@ health_same f g h = ap (λ (r : Rolling). r.health) (rolling_by_same f f f g (λ
 abbrev pub seen : RingView → RingView → ℕ → HistoryView
 seen a b moment = record { window = a.window; latest = moment; table = ring_table a moment; health = ring_table b moment }
 
+-- two empty rings are at the moment 0 a history that has no event yet
 pub opened_is : (w : Window) (a b : RingView) → a ≡ empty_ring w → b ≡ empty_ring w → seen a b 0 ≡ history_opened w
 opened_is w a b p q = (λ i. seen (p i) (q i) 0) ∙ (λ i. record { window = w; latest = 0; table = later_table-none w 0 0 i; health = later_table-none w 0 0 i })
 
 module _ (a b : RingView) (same : b.window ≡ a.window) where
+  -- two rings that are read at a later moment are the history then, with no event added
   pub advanced_is : (latest moment : ℕ) → a.latest ≤ latest → b.latest ≤ latest → latest ≤ moment → seen a b moment ≡ history_later moment [] (seen a b latest)
   advanced_is latest moment before too later = λ i. record {
     window = a.window;
@@ -72,6 +74,7 @@ module _ (a b : RingView) (same : b.window ≡ a.window) where
       of_kind true = ring_with b moment k
       of_kind false = ring_same b moment
 
+  -- with an empty ring of health the history has no event in its table of health, and is the same else
   pub restarted_is : (moment : ℕ) (c : RingView) → c ≡ empty_ring b.window → seen a c moment ≡ record (seen a b moment) { health = no_rows a.window }
   restarted_is moment c is = λ i. record (seen a b moment) { health = (ap (λ r. ring_table r moment) is ∙ later_table-none b.window 0 moment ∙ ap no_rows same) i }
 
@@ -88,6 +91,7 @@ module _ (a b : RingView) (same : b.window ≡ a.window) where
   reported_within moment most k some few =
       omega (arith, counted-at a.window moment (ring_table a moment) (ring_table b moment), ring_now a moment k some, kind-le-total (sum_in a.window moment (ring_table a moment) moment) k)
 
+  -- in the ring of health, too, each kind is counted within the sum of all
   pub health_within : (moment most : ℕ) (k : EventKind) → 0 < a.window.buckets → counted_at a.window moment (ring_table a moment) (ring_table b moment) < most → ring_count b moment k < most
   health_within moment most k some few =
       omega (arith, counted-at a.window moment (ring_table a moment) (ring_table b moment), health_now moment k some, kind-le-total (sum_in a.window moment (ring_table b moment) moment) k)
@@ -106,5 +110,6 @@ module _ (a b : RingView) (same : b.window ≡ a.window) where
   pub health_is : (moment : ℕ) → 0 < a.window.buckets → health_by (count_in (counts_by (ring_count b moment))) ≡ health_by (sum_in a.window moment (ring_table b moment) moment)
   health_is moment some = health_same _ _ (λ k. count_in-counts_by (ring_count b moment) k ∙ health_now moment k some)
 
+-- the counts that a ring gives at a moment are those of its table then
 pub reported_is : (r : RingView) (moment : ℕ) → 0 < r.window.buckets → counts_by (ring_count r moment) ≡ counts_by (sum_in r.window moment (ring_table r moment) moment)
 reported_is r moment some = counts_by_same _ _ (λ k. sym (ring_now r moment k some))

@@ -10,9 +10,11 @@ use Rattle.bh_base.specs.Runs.{State, View, IsSound, view, step}
 use Rattle.bh_base.specs.Seen.{view_after, view_reply}
 use Rattle.bh_base.proofs.Views.{after_seen, reply_seen}
 
+-- the view that is read at a place within the list stands there
 pub view_at : (ds : List View) (i : ℕ) (d : View) → i < length ds → d ≡ get_or ds i d → slice_get ds i ≡ Some d
 view_at ds i d inside is = slice_get_read ds (length ds) i d refl inside is
 
+-- two views that one option holds are the same
 pub one_view : (o : Option View) (a b : View) → o ≡ Some a → o ≡ Some b → a ≡ b
 one_view o a b p q = cc
 
@@ -35,6 +37,7 @@ step_view ds i d e s o now inside is did sound shown =
 pub seen_reply : (ds : List View) (i : ℕ) (d : View) (v : View) (o : Op) (now : ℕ) (r : Reply) → i < length ds → d ≡ get_or ds i d → r ≡ view_reply d o now → slice_get ds i ≡ Some v → r ≡ view_reply v o now
 seen_reply ds i d v o now r inside is said shown = said ∙ ap (λ u. view_reply u o now) (one_view _ _ _ (view_at ds i d inside is) shown)
 
+-- the group shows then what the step leaves of the view that it showed
 pub seen_view : (ds : List View) (i : ℕ) (d e : View) (v : View) (o : Op) (now : ℕ) → i < length ds → d ≡ get_or ds i d → e ≡ view_after d o now → slice_get ds i ≡ Some v → slice_get (set ds i e) i ≡ Some (view_after v o now)
 seen_view ds i d e v o now inside is did shown =
     let longer : i < length (set ds i e) = omega (arith, length-set ds i e) in
@@ -52,6 +55,7 @@ slice_get-set_other (y ∷ ys) (suc i) x (suc j) differ = slice_get-set_other ys
 pub step_others : (ds : List View) (i : ℕ) (d : View) (j : ℕ) → j ≢ i → slice_get (set ds i d) j ≡ slice_get ds j
 step_others ds i d j differ = slice_get-set_other ds i d j differ
 
+-- a place within the list is not empty
 pub known : (ds : List View) (i : ℕ) (d : View) → i < length ds → d ≡ get_or ds i d → slice_get ds i ≡ None → ⊥
 known ds i d inside is none = let e = view_at ds i d inside is in cc
 

@@ -65,6 +65,7 @@ group_at_is ts i = at ts.groups i
 group_alike : (ts us : TicketsView) (i : ℕ) → slice_get us.groups i ≡ slice_get ts.groups i → group_at us i ≡ group_at ts i
 group_alike ts us i e = group_at_is us i ∙ ap read_or e ∙ sym (group_at_is ts i)
 
+-- the tickets that stand at the number of a group are those that are read for it
 pub group_read : (ts : TicketsView) (i : ℕ) (x : GroupTickets) → slice_get ts.groups i ≡ Some x → group_at ts i ≡ x
 group_read ts i x e = group_at_is ts i ∙ ap read_or e
 
@@ -74,6 +75,7 @@ view_same ts us g e =
     let same = group_alike ts us g.number e in
     λ i. record (view_in ts g) { present = record (view_in ts g).present { tickets = (same i).items; serial = (same i).next } }
 
+-- a group whose tickets are as they were, among as many groups or more, has them still
 pub tickets_same : (ts us : TicketsView) (g : GroupView) → length ts.groups ≤ length us.groups → slice_get us.groups g.number ≡ slice_get ts.groups g.number → HasTickets ts g → HasTickets us g
 tickets_same ts us g count e has =
     let same = group_alike ts us g.number e in

@@ -42,6 +42,7 @@ within ts gs slots b all asked is =
     at_most : (m n : ℕ) → nat_le m n ≡ true → m ≤ n
     at_most m n h = grind (arith, nat_tests)
 
+-- where the test says no, the slots of all groups and of one more are beyond the limit
 pub beyond : (ts : TicketsView) (gs : List GroupView) (slots : ℕ) (b : Bool) → AreGroups ts gs → b ≡ nat_le (slots_of ts + slots) ts.limit → b ≡ false → ts.limit < slots_in (views_in ts gs) + slots
 beyond ts gs slots b all asked is =
     let passes : ts.limit < slots_of ts + slots = more _ _ (sym asked ∙ is) in
@@ -91,6 +92,7 @@ module _ (ts : TicketsView) (gs : List GroupView) (props : GroupProps) (limit : 
     events = omega (arith, counted-opened (window_of props));
   }
 
+  -- with the new group behind the others, each group has the tickets of its number
   pub groups_pushed : AreGroups us (gs ++ g ∷ [])
   groups_pushed = record {
     count = many ∙ sym (length-append gs (g ∷ []));
@@ -103,6 +105,7 @@ module _ (ts : TicketsView) (gs : List GroupView) (props : GroupProps) (limit : 
         (λ p q. subst (λ (x : GroupView). IsSteady (view_in us x)) (sym q) steady);
   }
 
+  -- callers see the views as they were, and behind them that of a new group
   pub views_pushed : views_in us (gs ++ g ∷ []) ≡ views_in ts gs ++ view (opened props limit) ∷ []
   views_pushed =
       let before : views_in us gs ≡ views_in ts gs = map_alike (view_in us) (view_in ts) gs (λ i k e. view_same ts us k (apart i k e)) in

@@ -6,6 +6,7 @@ use Rattle.bh_base.specs.Runs.{State, replies, state_after, view}
 use Rattle.bh_core.specs.CoreView.{CoreView, Shows}
 use Rattle.bh_core.specs.Runs.{AreTwoWorlds, EndAlike}
 
+-- in both worlds the group was told the same, and looks the same at the end
 pub end_alike : (group : ℕ) (s : State) (a b c d : CoreView) (xs ys : List Step) (told heard : List Reply) → AreTwoWorlds group s a b c d xs ys told heard → EndAlike group b d xs ys told heard
 end_alike group s a b c d xs ys told heard are =
     let shown : Shows c group s = record { sound = are.shows.sound; view_is = are.alike ∙ are.shows.view_is } in

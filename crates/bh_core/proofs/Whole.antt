@@ -64,6 +64,7 @@ not_its_own group s xs x rs r old new same differ test so applied =
       });
     }
 
+-- with one more step, the group was still told what its machine tells, and shows its state
 pub goes_on : (group : ℕ) (s : State) (xs : List Step) (x : Step) (rs : List Reply) (r : Reply) (old new : CoreView) → length xs ≡ length rs → GoesAs group s xs rs old → IsStep old x r new → GoesAs group s (xs ++ x ∷ []) (rs ++ r ∷ []) new
 goes_on group s xs x rs r old new same so applied = at (x.group.0 == group) refl
   where
@@ -83,6 +84,7 @@ pub record IsUnknown (group : ℕ) (xs : List Step) (rs : List Reply) (now : Cor
   pub told : own_replies group xs rs ≡ no_groups (own group xs)
   pub none : slice_get now.views group ≡ None
 
+-- with one more step, a group that is not registered was still told so, and is not registered
 pub stays_unknown : (group : ℕ) (xs : List Step) (x : Step) (rs : List Reply) (r : Reply) (old new : CoreView) → length xs ≡ length rs → IsUnknown group xs rs old → IsStep old x r new → IsUnknown group (xs ++ x ∷ []) (rs ++ r ∷ []) new
 stays_unknown group xs x rs r old new same so applied = at (x.group.0 == group) refl
   where
@@ -122,6 +124,7 @@ pub goes_on_in : (group : ℕ) (s : State) (steps : List Step) (i : ℕ) (x : St
 goes_on_in group s steps i x rs us r old new same next pushed so applied =
     subst (λ ys. GoesAs group s ys us new) (sym next) (subst (λ vs. GoesAs group s (seen steps i ++ x ∷ []) vs new) (sym pushed) (goes_on group s (seen steps i) x rs r old new same so applied))
 
+-- the same of a group that is not registered: the step at the place i, as a loop over the steps sees it
 pub stays_unknown_in : (group : ℕ) (steps : List Step) (i : ℕ) (x : Step) (rs us : List Reply) (r : Reply) (old new : CoreView) → length (seen steps i) ≡ length rs → seen steps (i + 1) ≡ seen steps i ++ x ∷ [] → us ≡ rs ++ r ∷ [] → IsUnknown group (seen steps i) rs old → IsStep old x r new → IsUnknown group (seen steps (i + 1)) us new
 stays_unknown_in group steps i x rs us r old new same next pushed so applied =
     subst (λ ys. IsUnknown group ys us new) (sym next) (subst (λ vs. IsUnknown group (seen steps i ++ x ∷ []) vs new) (sym pushed) (stays_unknown group (seen steps i) x rs r old new same so applied))

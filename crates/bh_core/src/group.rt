@@ -84,7 +84,7 @@ impl Group {
         reply
     }
 
-    // The step gets its number and its moment.
+    /// The step gets its number and its moment.
     fn begin(&mut self, now: Moment)
         requires { self.old.steps < self.old.limit }
         ensures begins { (ts : TicketsView) → Begins (view_in ts self.old) now (view_in ts self.new) }
@@ -95,7 +95,7 @@ impl Group {
         self.history.advance(now);
     }
 
-    // The case of the operation, in a step that has begun.
+    /// The case of the operation, in a step that has begun.
     fn act(&mut self, tickets: &mut Tickets, op: &Op) -> Reply
         requires has { HasTickets tickets.old self.old }
         requires bounded { IsBounded (view_in tickets.old self.old) }
@@ -115,6 +115,7 @@ impl Group {
         }
     }
 
+    /// A request context ends: no ticket of the group is cached in it any more.
     fn close(&self, tickets: &mut Tickets, context: u64) -> Reply
         requires { HasTickets tickets.old self.now }
         ensures done { IsDone (view_in tickets.old self.now) (op.Close context) result (view_in tickets.new self.now) }
@@ -123,6 +124,7 @@ impl Group {
         Reply::Closed(tickets.close(self.number, context))
     }
 
+    /// The metrics of the group at the step's moment.
     fn read(&self, tickets: &Tickets) -> Reply
         requires { HasTickets tickets.now self.now }
         ensures { IsDone (view_in tickets.now self.now) op.Read result (view_in tickets.now self.now) }
@@ -140,7 +142,7 @@ impl Group {
         })
     }
 
-    // Adds an event at the step's moment.
+    /// Adds an event at the step's moment.
     fn record(&mut self, kind: EventKind)
         requires { counted_of self.old < 2 ^ 60 }
         ensures view { (ts : TicketsView) → view_in ts self.new ≡ with_event kind (view_in ts self.old) }
@@ -150,7 +152,7 @@ impl Group {
         self.history.record(kind);
     }
 
-    // Tells the circuit breaker how the ticket ended; where that closes it, health starts anew.
+    /// Tells the circuit breaker how the ticket ended; where that closes it, health starts anew.
     fn tell_circuit(&mut self, serial: Serial, end: End)
         ensures view { (ts : TicketsView) → view_in ts self.new ≡ view_ended serial end (view_in ts self.old) }
         ensures left { (ts : TicketsView) → Leaves ts self.old ts self.new }

@@ -81,7 +81,7 @@ impl Core {
         Ok(GroupId(number))
     }
 
-    // A group more, where its slots are within the limit. Its slots come last, when nothing more can be refused.
+    /// A group more, where its slots are within the limit. Its slots come last, when nothing more can be refused.
     fn add_group(&mut self, props: GroupProps, step_limit: u64) -> Result<(), AllocError>
         requires props { IsInRange props }
         requires few_steps { step_limit ≤ 2 ^ 40 }

@@ -23,6 +23,7 @@ module _ (L : List Link) (heads : List ListHead) (on_list : List ℕ) (y : Link)
   old_below : (l x : ℕ) → l < length heads → IsIn x (list_of L (head_at heads l)) → x < length L
   old_below l x lt i = linked-below L None None (list_of L (head_at heads l)) x (sound.listed l lt).linked i
 
+  -- the place behind the last link is on none of the lists
   pub not_there : (l : ℕ) → l < length heads → IsIn (length L) (list_of L (head_at heads l)) → ⊥
   not_there l lt i = omega (arith, old_below l (length L) lt i)
 
@@ -60,6 +61,7 @@ module _ (L : List Link) (heads : List ListHead) (on_list : List ℕ) (y : Link)
     new_number : (x : ℕ) → x ≡ length L → get_or (on_list ++ to ∷ []) x 0 ≡ to
     new_number x e = get_or_push on_list to 0 x (sound.sizes ∙ sym e)
 
+    -- with the new slot last on its list, each slot is on the list whose number it has, and on no other
     pub added-sound : IsLinked N (set heads to f) (on_list ++ to ∷ [])
     added-sound = record {
       sizes = omega (arith, length-append on_list (to ∷ []), sound.sizes, more);
@@ -97,6 +99,7 @@ module _ (L : List Link) (heads : List ListHead) (on_list : List ℕ) (y : Link)
       ];
     }
 
+    -- the lists are what they were, with the new slot put at the end of one
     pub added-view : map (list_of N) (set heads to f) ≡ put_last (length L ∷ []) to (map (list_of L) heads)
     added-view =
         let before : List (List ℕ) = map (list_of L) heads in
@@ -113,12 +116,15 @@ module _ (L : List Link) (heads : List ListHead) (on_list : List ℕ) (y : Link)
 
 -- the same, where the longer slice and the new slot go by other names
 module _ (L M : List Link) (heads : List ListHead) (on_list : List ℕ) (y : Link) (s to : ℕ) (sound : IsLinked L heads on_list) (longer : M ≡ L ++ y ∷ []) (is : length L ≡ s) (few : s + 1 < 2 ^ 32) (to_within : to < length heads) where
+  -- in the longer slice the list that the slot goes to holds the places that it held
   pub before-listed : IsListed M (head_at heads to) (list_of L (head_at heads to))
   before-listed = subst (λ (ls : List Link). IsListed ls (head_at heads to) (list_of L (head_at heads to))) (sym longer) (grown-listed L heads on_list y sound to to_within)
 
+  -- the head of that list holds a list in the longer slice
   pub before-list : IsList M (head_at heads to)
   before-list = IsList-from M (head_at heads to) (list_of L (head_at heads to)) before-listed
 
+  -- the new slot is not on that list yet
   pub before-apart : ¬ (Contains (list_of M (head_at heads to)) s)
   before-apart m = not_there L heads on_list y sound to to_within (subst (λ z. IsIn z (list_of L (head_at heads to))) (sym is) (subst (IsIn s) (listed M (head_at heads to) (list_of L (head_at heads to)) before-listed) (IsIn-from_Contains s (list_of M (head_at heads to)) m)))
 
@@ -129,9 +135,11 @@ module _ (L M : List Link) (heads : List ListHead) (on_list : List ℕ) (y : Lin
     few' : length L + 1 < 2 ^ 32
     few' = omega (arith, is, few)
 
+    -- once the slot is put there, each slot is on the list whose number it has, and on no other
     pub put-sound : IsLinked N (set heads to f) (on_list ++ to ∷ [])
     put-sound = added-sound L heads on_list y sound N to (head_at heads to) f few' to_within refl (same ∙ ap (λ (ls : List Link). length ls) longer) isList same_put (λ x out. outside x out ∙ ap (λ (ls : List Link). link_at ls x) longer)
 
+    -- the lists are what they were, with the slot put at the end of that one
     pub put-view : map (list_of N) (set heads to f) ≡ put_last (s ∷ []) to (map (list_of L) heads)
     put-view =
         added-view L heads on_list y sound N to (head_at heads to) f few' to_within refl (same ∙ ap (λ (ls : List Link). length ls) longer) isList same_put (λ x out. outside x out ∙ ap (λ (ls : List Link). link_at ls x) longer)

@@ -17,6 +17,7 @@ all_lists fs = map (λ (v : FamilyView). v.lists) fs
 pub all_lists-at : (fs : List FamilyView) (f : ℕ) → get_or (all_lists fs) f [] ≡ (family_at fs f).lists
 all_lists-at fs f = get_or-map_default (λ (v : FamilyView). v.lists) fs f no_lists
 
+-- the lists at the place of a family are those of the family, by whatever default it is read
 pub all_lists-read : (fs : List FamilyView) (f : ℕ) (d : FamilyView) → f < length fs → get_or (all_lists fs) f [] ≡ (get_or fs f d).lists
 all_lists-read fs f d lt = get_or-map (λ (v : FamilyView). v.lists) fs f d [] lt
 
@@ -24,12 +25,14 @@ all_lists-read fs f d lt = get_or-map (λ (v : FamilyView). v.lists) fs f d [] l
 abbrev pub shown : {T : Type 0} → ℕ → List T → List FamilyView → ArenaView T
 shown limit payloads fs = record { limit = limit; payloads = payloads; families = all_lists fs }
 
+-- where one family changes, the arena shows the change of that family's lists and no other
 pub shown-set : {T : Type 0} (limit : ℕ) (payloads : List T) (fs : List FamilyView) (f : ℕ) (d v : FamilyView) (change : List (List ℕ) → List (List ℕ)) → f < length fs → v.lists ≡ change (get_or fs f d).lists
     → shown limit payloads (set fs f v) ≡ with_lists f (change (lists_in (shown limit payloads fs) f)) (shown limit payloads fs)
 shown-set {T} limit payloads fs f d v change lt e =
     ap (λ (ls : List (List (List ℕ))). let a : ArenaView T = record { limit = limit; payloads = payloads; families = ls } in a)
     (map-set (λ (w : FamilyView). w.lists) fs f v ∙ ap (λ (ls : List (List ℕ)). set (all_lists fs) f ls) (e ∙ ap change (sym (all_lists-read fs f d lt))))
 
+-- an arena is as it was where a family gets the lists that it has
 pub with_lists-same : {T : Type 0} (a : ArenaView T) (f : ℕ) → with_lists f (lists_in a f) a ≡ a
 with_lists-same {T} a f = ap (λ (ls : List (List (List ℕ))). record a { families = ls }) (set-get_or a.families f [])
 
@@ -48,11 +51,13 @@ all_lists-same fs gs size same = same_lists (all_lists gs) (all_lists fs) (lengt
     let in_gs : f < length gs = omega (arith, lt, length-map gs (λ (v : FamilyView). v.lists)) in
     get_or-map (λ (v : FamilyView). v.lists) gs f no_lists d in_gs ∙ same f ∙ sym (get_or-map (λ (v : FamilyView). v.lists) fs f no_lists d (omega (arith, in_gs, size))))
 
+-- n families that have neither a list nor a slot show no lists, each of them
 pub all_lists-empty : (n : ℕ) (fs : List FamilyView) → length fs ≡ n → ((f : ℕ) → f < n → but_room (family_at fs f) ≡ no_lists) → all_lists fs ≡ replicate n []
 all_lists-empty n fs size empty = same_lists (all_lists fs) (replicate n []) (length-map fs _ ∙ size ∙ sym (length-replicate n [])) (λ f d lt.
     let within : f < length fs = omega (arith, lt, length-map fs (λ (v : FamilyView). v.lists)) in
     get_or-map (λ (v : FamilyView). v.lists) fs f no_lists d within ∙ ap (λ (v : FamilyView). v.lists) (empty f (omega (arith, within, size))) ∙ sym (get_or-replicate n f [] d (omega (arith, within, size))))
 
+-- where each family puts the slots last on its list, all lists are the old ones with the slots so put
 pub all_lists-added : (first count : ℕ) (lists : List ℕ) (fs gs : List FamilyView) → length gs ≡ length fs → length lists ≡ length fs
     → ((f : ℕ) → f < length fs → AddsSlots first count (get_or lists f 0) (family_at fs f) (family_at gs f))
     → all_lists gs ≡ map (λ (p : ℕ × List (List ℕ)). put_last (range_with_len first count) p.0 p.1) (zip lists (all_lists fs))

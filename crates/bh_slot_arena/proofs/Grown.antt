@@ -12,9 +12,11 @@ map-empty : (L : List Link) (n : ℕ) → map (list_of L) (replicate n no_list) 
 map-empty L zero = refl
 map-empty L (suc n) = ap (λ (xs : List (List ℕ)). [] ∷ xs) (map-empty L n)
 
+-- heads of empty lists are as many empty lists, behind the lists as they were
 pub grown-view : (L : List Link) (heads : List ListHead) (n : ℕ) → map (list_of L) (heads ++ replicate n no_list) ≡ map (list_of L) heads ++ replicate {A = List ℕ} n []
 grown-view L heads n = map-append (list_of L) heads (replicate n no_list) ∙ ap (λ (xs : List (List ℕ)). map (list_of L) heads ++ xs) (map-empty L n)
 
+-- with heads of empty lists added, each slot is on the list whose number it has still, and on no other
 pub grown-sound : (L : List Link) (heads : List ListHead) (on_list : List ℕ) (n : ℕ) → IsLinked L heads on_list → IsLinked L (heads ++ replicate n no_list) on_list
 grown-sound L heads on_list n sound =
     let more = heads ++ replicate n no_list in

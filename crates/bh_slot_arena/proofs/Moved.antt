@@ -28,6 +28,7 @@ module _ (L M : List Link) (heads : List ListHead) (on_list : List ℕ) (slot : 
   only_on : (l x : ℕ) → l < length heads → IsIn x (list_of L (head_at heads l)) → get_or on_list x 0 ≡ l
   only_on l x lt i = sound.on l x lt (Contains-from_IsIn x (list_of L (head_at heads l)) i)
 
+  -- each list holds what it held but the slot
   pub taken-listed : (l : ℕ) → l < length heads → IsListed M (head_at out l) (without slot (list_of L (head_at heads l)))
   taken-listed l lt = elim (cases_eq l (get_or on_list slot 0)) [
     | inl e ↦
@@ -52,9 +53,11 @@ module _ (L M : List Link) (heads : List ListHead) (on_list : List ℕ) (slot : 
     put_is : list_of N f ≡ without slot (list_of L (head_at heads to)) ++ slot ∷ []
     put_is = put ∙ ap (λ (xs : List ℕ). xs ++ slot ∷ []) (ap (list_of M) was_to ∙ listed M (head_at out to) _ (taken-listed to to_within))
 
+    -- the list `to` holds what it held but the slot, and the slot at its end
     pub end-to : IsListed N (head_at end to) (without slot (list_of L (head_at heads to)) ++ slot ∷ [])
     end-to = subst (λ (z : ListHead). IsListed N z (without slot (list_of L (head_at heads to)) ++ slot ∷ [])) (sym (set_head_same out to f (omega (arith, to_within, length-set heads (get_or on_list slot 0) d)))) (subst (IsListed N f) put_is isList')
 
+    -- each other list holds what it held but the slot
     pub end-other : (l : ℕ) → l < length heads → (l ≡ to → ⊥) → IsListed N (head_at end l) (without slot (list_of L (head_at heads l)))
     end-other l lt ne =
         let away : (x : ℕ) → IsIn x (without slot (list_of L (head_at heads l))) → ¬ (Contains (list_of N f) x)
@@ -72,6 +75,7 @@ module _ (L M : List Link) (heads : List ListHead) (on_list : List ℕ) (slot : 
     slot_on_list : slot < length on_list
     slot_on_list = omega (arith, within, sound.sizes)
 
+    -- where the slot has the number `to`, each slot is on the list whose number it has, and on no other
     pub end-sound : IsLinked N end (set on_list slot to)
     end-sound = record {
       sizes = omega (arith, length-set on_list slot to, sound.sizes, same, same');
@@ -109,6 +113,7 @@ module _ (L M : List Link) (heads : List ListHead) (on_list : List ℕ) (slot : 
       ];
     }
 
+    -- all lists are what they were but for the slot, which is put at the end of one
     pub end-view : map (list_of N) end ≡ put_last (slot ∷ []) to (map (without slot) (map (list_of L) heads))
     end-view =
         let before : List (List ℕ) = map (without slot) (map (list_of L) heads) in

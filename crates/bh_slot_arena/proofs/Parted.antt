@@ -39,6 +39,7 @@ module _ (L : List Link) (heads : List ListHead) (on_list : List ℕ) (sound : I
   number : (l k x : ℕ) → slice_get (get_or (map (list_of L) heads) l []) k ≡ Some x → get_or on_list x 0 ≡ l
   number l k x e = let h = at_head l k x e in sound.on l x h.0 (Contains-from_IsIn x (list_of L (head_at heads l)) (IsIn-at (list_of L (head_at heads l)) k x h.1))
 
+  -- each slot is at exactly one place of exactly one list, and nothing else is on the lists
   pub IsPartition-sound : IsPartition (length L) (map (list_of L) heads)
   IsPartition-sound = record {
     within = λ l k x e. let h = at_head l k x e in linked-below L None None (list_of L (head_at heads l)) x (sound.listed l h.0).linked (IsIn-at (list_of L (head_at heads l)) k x h.1);

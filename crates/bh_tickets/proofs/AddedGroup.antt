@@ -82,9 +82,11 @@ nothing_slotted at (suc n) none = ap (λ o. slot_in n o (slotted at n)) (none n)
 -- ---- lists more
 
 module _ (a b : Slots) (ss : List GroupSlots) (whole : AreGroupSlots a ss) (more : HasNewLists a b) where
+  -- the lists are those from before, and four empty ones after them
   pub lists_more : lists_in b 0 ≡ lists_in a 0 ++ replicate 4 []
   lists_more = ap (λ (z : Slots). lists_in z 0) more.is ∙ get_or-set_same a.families 0 (lists_in a 0 ++ replicate 4 []) [] whole.arena.wide
 
+  -- the payloads of the slots are as they were
   pub same_payloads : b.payloads ≡ a.payloads
   same_payloads = ap (λ (z : Slots). z.payloads) more.is
 
@@ -101,6 +103,7 @@ module _ (a b : Slots) (ss : List GroupSlots) (whole : AreGroupSlots a ss) (more
         payloads = λ l x own on. ap (λ (ps : List Ticket). slice_get ps x) same_payloads;
       }
 
+  -- with four lists more, the groups are as they should be
   pub whole_more : AreGroupSlots b ss
   whole_more = record {
     arena = more.arena;
@@ -109,6 +112,7 @@ module _ (a b : Slots) (ss : List GroupSlots) (whole : AreGroupSlots a ss) (more
     slots = ap (λ (ps : List Ticket). length ps) same_payloads ∙ whole.slots;
   }
 
+  -- with four lists more, contracts see of the groups what they saw before
   pub view_more : view_of b ss ≡ view_of a ss
   view_more = λ i. record { limit = same_limit i; groups = map_same (group_of b) (group_of a) ss (λ j s e. group_same a b s (same_more j s e) whole.arena (whole.each j s e)) i }
 
@@ -182,6 +186,7 @@ module _ (a m b : Slots) (ss : List GroupSlots) (g : GroupLists) (count : ℕ) (
   no_count : (q : Ticket → Bool) → count_at b g q ≡ 0
   no_count q = count_none (λ x. has_one q (ticket_at b g x)) (length b.payloads) (λ x lt. ap (has_one q) (none_at x))
 
+  -- what a group keeps that has no ticket yet fits the new lists and slots
   pub new_slots : IsGroupSlots b (no_slot_taken g count)
   new_slots = record {
     numbered = record { queued = is_queued_list ∙ ap (λ n. n + 1) (sym is_free); running = is_running_list ∙ ap (λ n. n + 2) (sym is_free); settled = is_settled_list ∙ ap (λ n. n + 3) (sym is_free) };
@@ -236,6 +241,7 @@ module _ (a m b : Slots) (ss : List GroupSlots) (g : GroupLists) (count : ℕ) (
     new_apart : (i : ℕ) (s r : GroupSlots) → slice_get ss i ≡ Some s → r ≡ made → IsApart r.lists s.lists
     new_apart i s r e k = record { apart = λ l own other. (apart_new i s r e k).apart l other own }
 
+    -- with the new group after them, the groups are as they should be
     pub whole_grown : AreGroupSlots b (ss ++ made ∷ [])
     whole_grown = record {
       arena = grown.arena;
@@ -259,6 +265,7 @@ module _ (a m b : Slots) (ss : List GroupSlots) (g : GroupLists) (count : ℕ) (
     shown_new : group_of b made ≡ no_tickets_in count
     shown_new = ap (group_of b) is_new ∙ (λ i. record { items = nothing_listed (ticket_at b g) (length b.payloads) none_at i; room = count; next = 1; slots = nothing_slotted (ticket_at b g) (length b.payloads) none_at i })
 
+    -- contracts see the groups from before, and after them one with so many slots and no ticket
     pub view_grown : view_of b (ss ++ made ∷ []) ≡ record (view_of a ss) { groups = (view_of a ss).groups ++ no_tickets_in count ∷ [] }
     view_grown = λ i. record { limit = same i; groups = shown i }
       where

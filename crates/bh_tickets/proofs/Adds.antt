@@ -20,11 +20,13 @@ use Rattle.bh_tickets.proofs.Others.{each_list, own_for}
 
 -- ---- tickets lie in live slots
 
+-- each slot below the number of payloads has one
 pub payload_some : (ps : List Ticket) (y : ℕ) → y < length ps → is_some (slice_get ps y) ≡ true
 payload_some [] y lt = absurd (omega (arith, lt))
 payload_some (p ∷ ps) zero lt = refl
 payload_some (p ∷ ps) (suc y) lt = payload_some ps y (omega (arith, lt))
 
+-- a slot on one of the group's lists with tickets is below the number of slots
 pub live_within : (a : Slots) (g : GroupLists) (x : ℕ) → IsArena a 0 → is_live a g x ≡ true → x < length a.payloads
 live_within a g x arena e = by (is_on a 0 g.queued x) (is_on a 0 g.running x) (is_on a 0 g.settled x) refl refl refl e
   where
@@ -34,10 +36,12 @@ live_within a g x arena e = by (is_on a 0 g.queued x) (is_on a 0 g.running x) (i
     by false false true i j k e = arena.within g.settled x k
     by false false false i j k e = absurd cc
 
+-- where there is a ticket, there is one that passes the test that all pass, and else there is none
 pub any_is : (o : Option Ticket) → has_one is_any o ≡ is_some o
 any_is None = refl
 any_is (Some t) = refl
 
+-- a slot has a ticket of the group just where it is on one of the group's lists with tickets
 pub live_is : (a : Slots) (g : GroupLists) (x : ℕ) → IsArena a 0 → has_one is_any (ticket_at a g x) ≡ is_live a g x
 live_is a g x arena = by (is_live a g x) refl
   where
@@ -173,6 +177,7 @@ module _ (a b : Slots) (s : GroupSlots) (x : ℕ) (v : Ticket) (arena : IsArena 
       noted = noted_at;
     }
 
+    -- a ticket that is put in the first free slot is added to the group
     pub add_is : IsAdded a s v b r
     add_is = record {
       change = record {
@@ -191,6 +196,7 @@ module _ (a b : Slots) (s : GroupSlots) (x : ℕ) (v : Ticket) (arena : IsArena 
 pub not_free : (g : GroupLists) (r : TicketState) → IsNumbered g → g.free ≢ list_for g r
 not_free g r n = each_list (λ l. g.free ≢ l) g (λ e. absurd (omega (arith, e, n.queued))) (λ e. absurd (omega (arith, e, n.running))) (λ e. absurd (omega (arith, e, n.settled))) r
 
+-- where a ticket can be added, there is a first free slot
 pub not_full : (a : Slots) (s : GroupSlots) (v : Ticket) → IsArena a 0 → IsGroupSlots a s → CanAdd s v → slice_get (slots_on a 0 s.lists.free) 0 ≡ None → ⊥
 not_full a s v arena group can none = absurd (omega (arith, can.room, all_taken a s arena group none))
 

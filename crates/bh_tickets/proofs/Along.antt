@@ -45,23 +45,29 @@ module _ (now old : List ℕ) (i x : ℕ) (along : IsAlong now old i) (at : slic
   pub along_at : slice_get now (length along.behind) ≡ Some x
   along_at = ap (λ ys. slice_get ys (length along.behind)) ahead ∙ get_ahead along.behind (drop (i + 1) old) x
 
+  -- what comes after the slot at hand is what came after it on the old list
   pub along_next : slice_get now (length along.behind + 1) ≡ slice_get old (i + 1)
   along_next = ap (λ ys. slice_get ys (length along.behind + 1)) ahead ∙ get_next along.behind (drop (i + 1) old) x ∙ get_drop old (i + 1)
 
+  -- where the slot at hand stays on the list, what is ahead is as it was from the next place on
   pub along_stays : (after : List ℕ) → after ≡ now → IsAlong after old (i + 1)
   along_stays after e = record { behind = along.behind ++ x ∷ []; is = e ∙ ahead ∙ sym (append_assoc along.behind (x ∷ []) (drop (i + 1) old)) }
 
+  -- and so it is where the slot at hand is taken off a list that has each slot once
   pub along_gone : Once now → (after : List ℕ) → after ≡ without x now → IsAlong after old (i + 1)
   along_gone once after e = record { behind = along.behind; is = e ∙ ap (without x) ahead ∙ without_at x along.behind (drop (i + 1) old) (subst Once ahead once) }
 
+  -- and so it is either way, where b says whether the slot at hand is taken off
   pub along_either : Once now → (b : Bool) (after : List ℕ) → after ≡ (if b then without x now else now) → IsAlong after old (i + 1)
   along_either once true after e = along_gone once after e
   along_either once false after e = along_stays after e
 
+  -- and so it is either way, where b says whether the slot at hand stays
   pub along_unless : Once now → (b : Bool) (after : List ℕ) → after ≡ (if b then now else without x now) → IsAlong after old (i + 1)
   along_unless once true after e = along_stays after e
   along_unless once false after e = along_gone once after e
 
+  -- the slot at hand is on the list
   pub along_on : has x now ≡ true
   along_on = ap (has x) ahead ∙ has_append x along.behind (x ∷ drop (i + 1) old) ∙ ap (λ b. has x along.behind || (b || has x (drop (i + 1) old))) (eq-eqb x x refl) ∙ or_true (has x along.behind)
     where
@@ -99,6 +105,7 @@ on_live a g l x arena live on = ap (λ b. is_some (if b then slice_get a.payload
 
 -- ---- the tickets
 
+-- a change of a group, and another after it, are one change of the group
 pub change_trans : (a : Slots) (s : GroupSlots) (b : Slots) (r : GroupSlots) (c : Slots) (u : GroupSlots) → IsGroupChange a s b r → IsGroupChange b r c u → IsGroupChange a s c u
 change_trans a s b r c u first second = record {
   arena = second.arena;
@@ -110,6 +117,7 @@ change_trans a s b r c u first second = record {
 }
 
 module _ (f : Option Ticket → Option Ticket) (again : (o : Option Ticket) → f (f o) ≡ f o) where
+  -- slots swept after others are swept together with them, where to sweep twice is to sweep once
   pub swept_both : (xs ys : List ℕ) (a : Slots) (s : GroupSlots) (b : Slots) (r : GroupSlots) (c : Slots) (u : GroupSlots) → IsSwept f xs a s b r → IsSwept f ys b r c u → IsSwept f (xs ++ ys) a s c u
   swept_both xs ys a s b r c u first second = record {
     change = change_trans a s b r c u first.change second.change;
@@ -126,6 +134,7 @@ module _ (f : Option Ticket → Option Ticket) (again : (o : Option Ticket) → 
       by false true o q is = ap f is
       by false false o q is = is
 
+  -- where the first i slots of a list are swept, and then the next, one slot more of the list is
   pub swept_more : (xs : List ℕ) (i x : ℕ) (a : Slots) (s : GroupSlots) (b : Slots) (r : GroupSlots) (c : Slots) (u : GroupSlots) → slice_get xs i ≡ Some x → IsSwept f (take i xs) a s b r → IsSwept f (x ∷ []) b r c u → IsSwept f (take (i + 1) xs) a s c u
   swept_more xs i x a s b r c u at first second = subst (λ ys. IsSwept f ys a s c u) (sym (take_one_more xs i x at)) (swept_both (take i xs) (x ∷ []) a s b r c u first second)
 

@@ -6,6 +6,7 @@ use Rattle.bh_tickets.specs.declared.changes.TicketChange.{TicketChange}
 use Rattle.bh_tickets.specs.declared.changes.TicketChange.TheVariants as change
 use Rattle.bh_tickets.specs.Changes.{IsAllowed, changed_by}
 
+-- a ticket keeps its serial, whatever happens to it
 pub serial_kept : (c : TicketChange) (t : Ticket) → (changed_by c t).serial ≡ t.serial
 serial_kept change.StartRun t = refl
 serial_kept (change.EndRun s) t = refl

@@ -34,15 +34,19 @@ module _ (f : ℕ → Bool) (xs : List ℕ) (i x : ℕ) (at : slice_get xs i ≡
   any_dropped : list_any f (drop i xs) ≡ (f x || list_any f (drop (i + 1) xs))
   any_dropped = ap (list_any f) (drop_at xs i x at) ∙ ap (λ n. f x || list_any f (drop n xs)) (sym (add-one i))
 
+  -- where the number at the place passes, one from there on passes
   pub any_here : f x ≡ true → list_any f (drop i xs) ≡ true
   any_here e = any_dropped ∙ ap (λ b. b || list_any f (drop (i + 1) xs)) e
 
+  -- where the number at the place does not pass, whether one from there on does is whether one behind it does
   pub any_next : f x ≡ false → list_any f (drop i xs) ≡ list_any f (drop (i + 1) xs)
   any_next e = any_dropped ∙ ap (λ b. b || list_any f (drop (i + 1) xs)) e
 
+-- from a place on that the list does not have, none passes
 pub any_past : (f : ℕ → Bool) (xs : List ℕ) (i : ℕ) → slice_get xs i ≡ None → list_any f (drop i xs) ≡ false
 any_past f xs i e = ap (list_any f) (drop_past xs i e)
 
+-- from the end of the list on, none passes
 pub any_end : (f : ℕ → Bool) (xs : List ℕ) (i : ℕ) → length xs ≤ i → list_any f (drop i xs) ≡ false
 any_end f xs i e = ap (list_any f) (drop_end xs i e)
 
@@ -121,20 +125,24 @@ module _ (a : Slots) (ss : List GroupSlots) (i : ℕ) (s : GroupSlots) (whole : 
   first_named : (x : ℕ) → IsEarliest p a s.lists x → IsFirstAt p (group_at (view_of a ss) i) x
   first_named x e = first_at a ss i s whole is p x e.ticket e.here (earliest_first p a s.lists (whole.each i s is).arranged.distinct x e)
 
+  -- the slot of the least serial that passes, where one was found, has the first ticket that contracts see pass
   pub name_found : (o : Option ℕ) → IfSome o (λ x. IsEarliest p a s.lists x) → IfSome o (λ x. IsFirstAt p (group_at (view_of a ss) i) x)
   name_found None e = tt
   name_found (Some x) e = first_named x e
 
+  -- where no slot has a ticket that passes, contracts see none that passes
   pub name_none : ((x : ℕ) → has_one p (ticket_at a s.lists x) ≡ false) → find p (group_at (view_of a ss) i).items ≡ None
   name_none none = none_at a ss i s whole is p (no_first p a s.lists none)
 
 -- ---- whether there is one
 
+-- a search that finds the first ticket that passes, or nothing where none does, says whether there is one
 pub any_first : (p : Ticket → Bool) (g : GroupTickets) (o : Option ℕ) → IfSome o (λ x. IsFirstAt p g x) → (o ≡ None → find p g.items ≡ None) → is_some o ≡ list_any p g.items
 any_first p g None found none = sym (any_none p g.items (none refl))
 any_first p g (Some x) found none = sym (any_found p g.items found.ticket found.first)
 
 module _ (a : Slots) (ss : List GroupSlots) (i : ℕ) (s : GroupSlots) (whole : AreGroupSlots a ss) (is : slice_get ss i ≡ Some s) where
+  -- whether contracts see a ticket that passes is whether the group has one in the arena
   pub shown_any : (p : Ticket → Bool) → list_any p (group_at (view_of a ss) i).items ≡ list_any p (tickets_of a s.lists)
   shown_any p = ap (λ (z : GroupTickets). list_any p z.items) (group_is a ss i s is)
 
@@ -142,9 +150,11 @@ module _ (a : Slots) (ss : List GroupSlots) (i : ℕ) (s : GroupSlots) (whole : 
     shown_due : (serial : ℕ) → list_any (λ u. u.serial == serial) (filter (is_due_by due) (group_at (view_of a ss) i).items) ≡ list_any (λ u. u.serial == serial && is_due_by due u) (tickets_of a s.lists)
     shown_due serial = ap (λ (z : GroupTickets). list_any (λ u. u.serial == serial) (filter (is_due_by due) z.items)) (group_is a ss i s is) ∙ any_filtered (λ u. u.serial == serial) (is_due_by due) (tickets_of a s.lists)
 
+    -- where no slot has a ticket of the serial, contracts see none of the serial that is due
     pub no_such : (serial : ℕ) → ((x : ℕ) → has_serial_in serial (ticket_at a s.lists x) ≡ false) → false ≡ list_any (λ u. u.serial == serial) (filter (is_due_by due) (group_at (view_of a ss) i).items)
     no_such serial none = sym (shown_due serial ∙ any_none (λ u. u.serial == serial && is_due_by due u) (tickets_of a s.lists) (none_first a s whole.arena (whole.each i s is) serial (is_due_by due) none))
 
+    -- whether the slot's ticket of the serial is due is whether contracts see one of the serial that is due
     pub due_at : (serial x : ℕ) (t : Ticket) → has_serial_in serial (ticket_at a s.lists x) ≡ true → Some t ≡ slice_get a.payloads x → is_due_by due t ≡ list_any (λ u. u.serial == serial) (filter (is_due_by due) (group_at (view_of a ss) i).items)
     due_at serial x t has' read = by (is_due_by due t) refl
       where
@@ -187,16 +197,19 @@ module _ (a : Slots) (ss : List GroupSlots) (i : ℕ) (s : GroupSlots) (whole : 
           | inr k ↦ inr (slot_any (λ x. has_one (is_due_by due) (slice_get a.payloads x)) (slots_on a 0 s.lists.running) x (subst (λ l. is_on a 0 l x ≡ true) k lies) passes)
         ]
 
+    -- where a ticket on the queue is due, contracts see one that is due
     pub due_queued : any_at (is_due_by due) a.payloads (slots_on a 0 s.lists.queued) ≡ true → true ≡ list_any (is_due_by due) (group_at (view_of a ss) i).items
     due_queued e =
         let r = any_slot (λ x. has_one (is_due_by due) (slice_get a.payloads x)) (slots_on a 0 s.lists.queued) e in
         sym (shown_any (is_due_by due) ∙ on_list s.lists.queued r.0 (on_queued a s.lists r.0) r.1 r.2)
 
+    -- where a ticket on the list of running ones is due, contracts see one that is due
     pub due_running : any_at (is_due_by due) a.payloads (slots_on a 0 s.lists.running) ≡ true → true ≡ list_any (is_due_by due) (group_at (view_of a ss) i).items
     due_running e =
         let r = any_slot (λ x. has_one (is_due_by due) (slice_get a.payloads x)) (slots_on a 0 s.lists.running) e in
         sym (shown_any (is_due_by due) ∙ on_list s.lists.running r.0 (on_running a s.lists r.0) r.1 r.2)
 
+    -- where no ticket on either list is due, contracts see none that is due
     pub due_nowhere : any_at (is_due_by due) a.payloads (slots_on a 0 s.lists.queued) ≡ false → any_at (is_due_by due) a.payloads (slots_on a 0 s.lists.running) ≡ false → false ≡ list_any (is_due_by due) (group_at (view_of a ss) i).items
     due_nowhere q r = sym (shown_any (is_due_by due) ∙ any_of_none (is_due_by due) (tickets_of a s.lists) (λ u k. by u k (is_due_by due u) refl))
       where
@@ -212,6 +225,7 @@ module _ (a : Slots) (ss : List GroupSlots) (i : ℕ) (s : GroupSlots) (whole : 
               | inr h ↦ absurd (never (sym h ∙ r))
             ]
 
+    -- whether one on the queue or one on the list of running ones is due is whether contracts see one that is due
     pub due_either : (b c : Bool) → b ≡ any_at (is_due_by due) a.payloads (slots_on a 0 s.lists.queued) → c ≡ any_at (is_due_by due) a.payloads (slots_on a 0 s.lists.running) → (b || c) ≡ list_any (is_due_by due) (group_at (view_of a ss) i).items
     due_either true c e f = due_queued (sym e)
     due_either false true e f = due_running (sym f)

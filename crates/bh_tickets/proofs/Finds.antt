@@ -20,6 +20,7 @@ use Rattle.bh_tickets.proofs.Adds.{payload_some}
 use Rattle.bh_tickets.proofs.Whole.{shows, group_is}
 
 module _ (a : Slots) (s : GroupSlots) (arena : IsArena a 0) (group : IsGroupSlots a s) where
+  -- a ticket in a slot is among the group's tickets
   pub is_in : (x : ℕ) (t : Ticket) → ticket_at a s.lists x ≡ Some t → IsIn t (tickets_of a s.lists)
   is_in x t e = in_listed (ticket_at a s.lists) (length a.payloads) x t (within_slots a s.lists x t e) e
 
@@ -44,11 +45,13 @@ module _ (a : Slots) (s : GroupSlots) (arena : IsArena a 0) (group : IsGroupSlot
       is_same : (t.serial == serial) ≡ true
       is_same = grind (arith, nat_tests)
 
+      -- where the ticket of the serial passes, the search by serial and test finds it
       pub found_first : q t ≡ true → find (λ u. u.serial == serial && q u) (tickets_of a s.lists) ≡ Some t
       found_first yes' = find_least (λ u. u.serial == serial && q u) (tickets_of a s.lists) t (tickets_rising a s.lists s.next group.arranged) (is_in x t here)
           (ap (λ b. b && q t) is_same ∙ yes')
           (λ u i e. let k : u.serial ≡ serial = serial_of (q u) u.serial e in omega (arith, k, same))
 
+      -- where the ticket of the serial does not pass, the search finds none
       pub other_first : q t ≡ false → find (λ u. u.serial == serial && q u) (tickets_of a s.lists) ≡ None
       other_first no' = find_none (λ u. u.serial == serial && q u) (tickets_of a s.lists) (λ u i. by u i ((u.serial == serial) && q u) refl)
         where
@@ -62,12 +65,14 @@ module _ (a : Slots) (s : GroupSlots) (arena : IsArena a 0) (group : IsGroupSlot
               let g : u ≡ t = cc in
               let h : true ≡ false = sym e ∙ ap (λ (w : Ticket). (w.serial == serial) && q w) g ∙ ap (λ b. b && q t) is_same ∙ no' in absurd cc
 
+    -- where no slot has a ticket of the serial, the search finds none
     pub none_first : ((x : ℕ) → has_serial_in serial (ticket_at a s.lists x) ≡ false) → find (λ u. u.serial == serial && q u) (tickets_of a s.lists) ≡ None
     none_first none = find_none (λ u. u.serial == serial && q u) (tickets_of a s.lists) (λ u i.
         let r = from_listed (ticket_at a s.lists) (length a.payloads) u i in
         let k : (u.serial == serial) ≡ false = ap (has_serial_in serial) (sym r.2) ∙ none r.0 in
         ap (λ b. b && q u) k)
 
+  -- a slot that is said to have the serial has a ticket of this serial
   pub has_serial : (serial x : ℕ) → has_serial_in serial (ticket_at a s.lists x) ≡ true → (t : Ticket) × (ticket_at a s.lists x ≡ Some t) × (t.serial ≡ serial)
   has_serial serial x e = by (ticket_at a s.lists x) refl e
     where
@@ -82,6 +87,7 @@ module _ (a : Slots) (s : GroupSlots) (arena : IsArena a 0) (group : IsGroupSlot
   on_queue : (x : ℕ) (t : Ticket) → is_queued t ≡ true → ticket_at a s.lists x ≡ Some t → is_on a 0 s.lists.queued x ≡ true
   on_queue x t waits here = subst (λ l. is_on a 0 l x ≡ true) (ap (list_for s.lists) (queued_state t.state waits)) (group.arranged.placed x t here)
 
+  -- a slot on the queue has a ticket
   pub ticket_on_queue : (x : ℕ) → is_on a 0 s.lists.queued x ≡ true → (t : Ticket) × (ticket_at a s.lists x ≡ Some t)
   ticket_on_queue x on = by (slice_get a.payloads x) refl (payload_some a.payloads x (arena.within s.lists.queued x on))
     where
@@ -89,6 +95,7 @@ module _ (a : Slots) (s : GroupSlots) (arena : IsArena a 0) (group : IsGroupSlot
       by None is e = absurd cc
       by (Some t) is e = (t, ap (λ b. if (b || (is_on a 0 s.lists.running x || is_on a 0 s.lists.settled x)) then slice_get a.payloads x else None) on ∙ is)
 
+  -- the slot at the front of the queue has the first of the group's tickets that waits
   pub front_first : (x : ℕ) → slice_get (slots_on a 0 s.lists.queued) 0 ≡ Some x → (t : Ticket) × (ticket_at a s.lists x ≡ Some t) × (find is_queued (tickets_of a s.lists) ≡ Some t)
   front_first x front =
       let on = front_on x (slots_on a 0 s.lists.queued) front in
@@ -105,6 +112,7 @@ module _ (a : Slots) (s : GroupSlots) (arena : IsArena a 0) (group : IsGroupSlot
             omega (arith, le, j, k)),
       )
 
+  -- where the queue has no front, none of the group's tickets waits
   pub no_front : slice_get (slots_on a 0 s.lists.queued) 0 ≡ None → find is_queued (tickets_of a s.lists) ≡ None
   no_front none = find_none is_queued (tickets_of a s.lists) (λ u i. by u i (is_queued u) refl)
     where
@@ -116,16 +124,20 @@ module _ (a : Slots) (s : GroupSlots) (arena : IsArena a 0) (group : IsGroupSlot
 
 -- ---- as the store shows it
 module _ (a : Slots) (ss : List GroupSlots) (i : ℕ) (s : GroupSlots) (whole : AreGroupSlots a ss) (is : slice_get ss i ≡ Some s) where
+  -- where a slot has the first of the group's tickets that passes, contracts see it so
   pub first_at : (p : Ticket → Bool) (x : ℕ) (t : Ticket) → ticket_at a s.lists x ≡ Some t → find p (tickets_of a s.lists) ≡ Some t → IsFirstAt p (group_at (view_of a ss) i) x
   first_at p x t here first = subst (λ (z : GroupTickets). IsFirstAt p z x) (sym (group_is a ss i s is)) (record { ticket = t; here = shows a s x whole.arena ∙ here; first = first })
 
+  -- where none of the group's tickets passes, contracts see none that passes
   pub none_at : (p : Ticket → Bool) → find p (tickets_of a s.lists) ≡ None → find p (group_at (view_of a ss) i).items ≡ None
   none_at p e = ap (λ (z : GroupTickets). find p z.items) (group_is a ss i s is) ∙ e
 
+  -- the front of the queue, where there is one, has the first ticket that contracts see wait
   pub queue_found : (o : Option ℕ) → o ≡ slice_get (slots_on a 0 s.lists.queued) 0 → IfSome o (λ x. IsFirstAt is_queued (group_at (view_of a ss) i) x)
   queue_found None e = tt
   queue_found (Some x) e = let r = front_first a s whole.arena (whole.each i s is) x (sym e) in first_at is_queued x r.0 r.1 r.2
 
+  -- where the queue has no front, contracts see no ticket that waits
   pub queue_none : (o : Option ℕ) → o ≡ slice_get (slots_on a 0 s.lists.queued) 0 → o ≡ None → find is_queued (group_at (view_of a ss) i).items ≡ None
   queue_none o e none = none_at is_queued (no_front a s whole.arena (whole.each i s is) (sym e ∙ none))
 
@@ -138,19 +150,23 @@ module _ (a : Slots) (ss : List GroupSlots) (i : ℕ) (s : GroupSlots) (whole : 
       let g : r.0 ≡ t = cc in
       (here, ap (λ (u : Ticket). u.serial) (sym g) ∙ r.2)
 
+  -- a slot that has a ticket of the serial is one of the arena's
   pub serial_within : (serial x : ℕ) → has_serial_in serial (ticket_at a s.lists x) ≡ true → x < length a.payloads
   serial_within serial x has' = let r = has_serial a s whole.arena (whole.each i s is) serial x has' in within_slots a s.lists x r.0 r.1
 
+  -- where the slot's ticket has the serial and passes, the slot has the first such ticket that contracts see
   pub serial_found : (serial : ℕ) (q : Ticket → Bool) (x : ℕ) (t : Ticket) → has_serial_in serial (ticket_at a s.lists x) ≡ true → Some t ≡ slice_get a.payloads x → q t ≡ true → IsFirstAt (λ u. u.serial == serial && q u) (group_at (view_of a ss) i) x
   serial_found serial q x t has' read yes' =
       let r = ticket_of serial x t has' read in
       first_at (λ u. u.serial == serial && q u) x t r.0 (found_first a s whole.arena (whole.each i s is) serial q x t r.0 r.1 yes')
 
+  -- where the slot's ticket has the serial and does not pass, contracts see none that has it and passes
   pub serial_other : (serial : ℕ) (q : Ticket → Bool) (x : ℕ) (t : Ticket) → has_serial_in serial (ticket_at a s.lists x) ≡ true → Some t ≡ slice_get a.payloads x → q t ≡ false → find (λ u. u.serial == serial && q u) (group_at (view_of a ss) i).items ≡ None
   serial_other serial q x t has' read no' =
       let r = ticket_of serial x t has' read in
       none_at (λ u. u.serial == serial && q u) (other_first a s whole.arena (whole.each i s is) serial q x t r.0 r.1 no')
 
+  -- where no slot has a ticket of the serial, contracts see none that has it and passes
   pub serial_none : (serial : ℕ) (q : Ticket → Bool) → ((x : ℕ) → has_serial_in serial (ticket_at a s.lists x) ≡ false) → find (λ u. u.serial == serial && q u) (group_at (view_of a ss) i).items ≡ None
   serial_none serial q none = none_at (λ u. u.serial == serial && q u) (none_first a s whole.arena (whole.each i s is) serial q none)
 
@@ -158,6 +174,7 @@ module _ (a : Slots) (ss : List GroupSlots) (i : ℕ) (s : GroupSlots) (whole : 
 abbrev pub is_held : Ticket → Bool
 is_held t = nat_lt 0 t.holders
 
+-- each of the group's lists is there
 pub lists_there : (a : Slots) (s : GroupSlots) → IsGroupSlots a s → HasLists a s.lists
 lists_there a s group = record {
   free = omega (arith, group.there, group.numbered.settled);

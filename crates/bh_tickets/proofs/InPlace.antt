@@ -20,6 +20,7 @@ some_same : (t u : Ticket) → Some t ≡ Some u → t ≡ u
 some_same t u e = cc
 
 module _ (a : Slots) (s : GroupSlots) (x : ℕ) (change : TicketChange) (can : CanBe a s x change) (was : Ticket) (read : Some was ≡ slice_get a.payloads x) where
+  -- what was read from the slot is the ticket that the group has there
   pub here_is : ticket_at a s.lists x ≡ Some was
   here_is = was_is a s.lists x can.was was can.here (sym read)
 
@@ -33,6 +34,7 @@ module _ (a : Slots) (s : GroupSlots) (x : ℕ) (change : TicketChange) (can : C
     read_is : read_now ≡ changed_by change was
     read_is = some_same read_now now (again ∙ get_set a.payloads x x now (within_slots a s.lists x was here_is) ∙ ap (λ c. if c then Some now else slice_get a.payloads x) (eq-eqb x x refl)) ∙ now_is
 
+    -- a slot whose payload is changed, and that is on the list for the new state, has the changed ticket
     pub change_from : (b : Slots) → IsArena a 0 → IsGroupSlots a s → (from to : ℕ) → from ≡ list_for s.lists was.state → to ≡ list_for s.lists read_now.state
         → (from ≡ to → b ≡ with_payload x now a) → (from ≢ to → b ≡ with_moved 0 x to (with_payload x now a))
         → (r : GroupSlots) (needless : Needless) → r ≡ record (counted_in read_now (counted_out was s)) { needless = needless }

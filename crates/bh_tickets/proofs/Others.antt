@@ -23,12 +23,15 @@ each_list P g p q r (ticket.NeedsFallback c) = r
 each_list P g p q r (ticket.InFallback c) = r
 each_list P g p q r (ticket.Answered c) = r
 
+-- the list for a state is one of the group's
 pub own_for : (g : GroupLists) → IsNumbered g → (s : TicketState) → IsOwn g (list_for g s)
 own_for g n s = each_list (IsOwn g) g (record { from = omega (arith, n.queued); to = omega (arith, n.queued, n.settled) }) (record { from = omega (arith, n.running); to = omega (arith, n.running, n.settled) }) (record { from = omega (arith, n.settled); to = omega arith }) s
 
+-- where nothing changes, the lists of other groups are as before
 pub frame_refl : (g : GroupLists) (a : Slots) → IsFrame g a a
 frame_refl g a = record { slots = refl; count = refl; lists = λ l out. refl; payloads = λ l x out on. refl }
 
+-- where two changes in turn leave the lists of other groups as before, both together do
 pub frame_trans : (g : GroupLists) (a b c : Slots) → IsFrame g a b → IsFrame g b c → IsFrame g a c
 frame_trans g a b c f h = record {
   slots = h.slots ∙ f.slots;
@@ -100,6 +103,7 @@ module _ (a b : Slots) (h : GroupSlots) (same : IsSame h.lists a b) (arena : IsA
   owned_alike : (x : ℕ) → is_owned b h.lists x ≡ is_owned a h.lists x
   owned_alike x = λ i. on_same h.lists.free x own_free i || live_same x i
 
+  -- a slot has the ticket of the group that it had
   pub at_same : (x : ℕ) → ticket_at b h.lists x ≡ ticket_at a h.lists x
   at_same x = ap (λ c. if c then slice_get b.payloads x else None) (live_same x)
       ∙ by (is_on a 0 h.lists.queued x) (is_on a 0 h.lists.running x) (is_on a 0 h.lists.settled x) refl refl refl
@@ -124,12 +128,15 @@ module _ (a b : Slots) (h : GroupSlots) (same : IsSame h.lists a b) (arena : IsA
   owned_past : (x : ℕ) → length a.payloads ≤ x → is_owned a h.lists x ≡ false
   owned_past x past = λ i. off h.lists.free x past i || (off h.lists.queued x past i || (off h.lists.running x past i || off h.lists.settled x past i))
 
+  -- the group's tickets are as they were
   pub tickets_same : tickets_of b h.lists ≡ tickets_of a h.lists
   tickets_same = (λ i. listed (λ x. at_same x i) (length b.payloads)) ∙ listed_past (ticket_at a h.lists) (length a.payloads) (length b.payloads) same.slots none_past
 
+  -- the group's tickets with their slots are as they were
   pub slotted_same : slotted (ticket_at b h.lists) (length b.payloads) ≡ slotted (ticket_at a h.lists) (length a.payloads)
   slotted_same = (λ i. slotted (λ x. at_same x i) (length b.payloads)) ∙ slotted_past (ticket_at a h.lists) (length a.payloads) (length b.payloads) same.slots none_past
 
+  -- as many of the group's tickets pass as before
   pub count_alike : (q : Ticket → Bool) → count_at b h.lists q ≡ count_at a h.lists q
   count_alike q = count_same (λ x. has_one q (ticket_at b h.lists x)) (λ x. has_one q (ticket_at a h.lists x)) (length b.payloads) (λ x. ap (has_one q) (at_same x))
       ∙ count_past (λ x. has_one q (ticket_at a h.lists x)) (length a.payloads) (length b.payloads) same.slots (λ x past. ap (has_one q) (none_past x past))
@@ -143,6 +150,7 @@ module _ (a b : Slots) (h : GroupSlots) (same : IsSame h.lists a b) (arena : IsA
         (order_same a.payloads b.payloads (slots_on a 0 h.lists.queued) (λ y i. ap serial_in (same.payloads h.lists.queued y own_queued i)) group.arranged.order);
   }
 
+  -- what the group keeps still fits its tickets
   pub slots_same : IsGroupSlots b h
   slots_same = record {
     numbered = group.numbered;
@@ -158,5 +166,6 @@ module _ (a b : Slots) (h : GroupSlots) (same : IsSame h.lists a b) (arena : IsA
     noted = λ x e. ap is_some (at_same x) ∙ group.noted x e;
   }
 
+  -- contracts see the group as it was
   pub group_same : group_of b h ≡ group_of a h
   group_same = λ i. record { items = tickets_same i; room = h.slots.max; next = h.next; slots = slotted_same i }

@@ -35,6 +35,7 @@ live_for g (ticket.NeedsFallback c) = third (eqb g.queued g.settled) (eqb g.runn
 live_for g (ticket.InFallback c) = third (eqb g.queued g.settled) (eqb g.running g.settled) (eqb g.settled g.settled) (eq-eqb g.settled g.settled refl)
 live_for g (ticket.Answered c) = third (eqb g.queued g.settled) (eqb g.running g.settled) (eqb g.settled g.settled) (eq-eqb g.settled g.settled refl)
 
+-- the list of free slots is none of the lists with tickets
 pub not_live_free : (g : GroupLists) → IsNumbered g → is_live_list g g.free ≡ false
 not_live_free g n = by (ne_eqb g.queued g.free (λ e. absurd (omega (arith, e, n.queued)))) (ne_eqb g.running g.free (λ e. absurd (omega (arith, e, n.running)))) (ne_eqb g.settled g.free (λ e. absurd (omega (arith, e, n.settled))))
   where
@@ -43,6 +44,7 @@ not_live_free g n = by (ne_eqb g.queued g.free (λ e. absurd (omega (arith, e, n
 
 -- the tickets are in the slots
 module _ (a : Slots) (g : GroupLists) (s : ℕ) (arranged : IsArranged a g s) where
+  -- the serials of the group's tickets rise
   pub tickets_rising : Rising (tickets_of a g)
   tickets_rising = rising (ticket_at a g) (length a.payloads) arranged.distinct
 
@@ -61,6 +63,7 @@ module _ (a b : Slots) (g : GroupLists) (x s : ℕ) (t v : Ticket) (arranged : I
     | inr ne ↦ (u, sym (at_other a b x (list_for g v.state) v touched g y ne) ∙ e, refl)
   ]
 
+  -- the tickets are arranged after the change too, where the queue is in order
   pub changed_arranged : InOrder b.payloads (slots_on b 0 g.queued) → IsArranged b g s
   changed_arranged order = record {
     distinct = λ y z u w p q e. let h = before y u p in let k = before z w q in arranged.distinct y z h.0 k.0 h.1 k.1 (h.2 ∙ e ∙ sym k.2);
@@ -97,6 +100,7 @@ module _ (a b : Slots) (g : GroupLists) (x s : ℕ) (t v : Ticket) (arranged : I
           let c : (u.serial == v.serial) ≡ false = grind (arith, nat_tests, differ) in
           sym (ap (λ d. Some (if d then v else u)) c)
 
+  -- the group's tickets are those from before, but for the one of the serial, which is the new one
   pub changed_tickets : tickets_of b g ≡ map (now_is v) (tickets_of a g)
   changed_tickets = ap (listed (ticket_at b g)) touched.slots ∙ listed_map (now_is v) (ticket_at a g) (ticket_at b g) (length a.payloads) keeps mapped
 
@@ -119,6 +123,7 @@ module _ (a b : Slots) (g : GroupLists) (x s : ℕ) (v : Ticket) (arranged : IsA
   fresh y z u w (inr p) (inl q) e = let lt : u.serial < s = arranged.below y u p.1 in let k : w.serial ≡ v.serial = ap (λ (r : Ticket). r.serial) q.1 in absurd (omega (arith, lt, k, e, serial))
   fresh y z u w (inr p) (inr q) e = arranged.distinct y z u w p.1 q.1 e
 
+  -- the tickets are arranged with the new one too, where the queue is in order
   pub come_arranged : InOrder b.payloads (slots_on b 0 g.queued) → IsArranged b g (s + 1)
   come_arranged order = record {
     distinct = λ y z u w p q e. fresh y z u w (since y u p) (since z w q) e;
@@ -133,6 +138,7 @@ module _ (a b : Slots) (g : GroupLists) (x s : ℕ) (v : Ticket) (arranged : IsA
     order = order;
   }
 
+  -- the group's tickets are those from before, and the new one after them
   pub come_tickets : tickets_of b g ≡ tickets_of a g ++ v ∷ []
   come_tickets = ap (listed (ticket_at b g)) touched.slots ∙ listed_added (ticket_at a g) (ticket_at b g) (length a.payloads) x v within was come_at (λ y ne. at_other a b x (list_for g v.state) v touched g y ne)
       (λ y u e. let lt : u.serial < s = arranged.below y u e in omega (arith, lt, serial))
@@ -148,6 +154,7 @@ module _ (a b : Slots) (g : GroupLists) (x s : ℕ) (t v : Ticket) (arranged : I
     | inr ne ↦ (ne, sym (at_other a b x g.free v touched g y ne) ∙ e)
   ]
 
+  -- the tickets are arranged without the one that went too, where the queue is in order
   pub gone_arranged : InOrder b.payloads (slots_on b 0 g.queued) → IsArranged b g s
   gone_arranged order = record {
     distinct = λ y z u w p q e. arranged.distinct y z u w (still y u p).1 (still z w q).1 e;

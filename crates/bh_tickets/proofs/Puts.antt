@@ -33,13 +33,16 @@ held_at a g x t e = by (is_live a g x) refl e
         none : None ≡ Some t → ⊥
         none e = cc
 
+-- a slot that has a ticket of the group is below the number of slots
 pub within_slots : (a : Slots) (g : GroupLists) (x : ℕ) (t : Ticket) → ticket_at a g x ≡ Some t → x < length a.payloads
 within_slots a g x t e = get_within a.payloads x t (held_at a g x t e).1
 
+-- a test counts for one at most
 pub one_few : (b : Bool) → one b ≤ 1
 one_few true = omega arith
 one_few false = omega arith
 
+-- a number below n that passes is in the count
 pub count_has : (p : ℕ → Bool) (n x : ℕ) → x < n → one (p x) ≤ count_below n p
 count_has p zero x lt = absurd (omega (arith, lt))
 count_has p (suc n) x lt = elim (cases_eq x n) [
@@ -62,6 +65,7 @@ or_right : (b c : Bool) → c ≡ true → (b || c) ≡ true
 or_right true c e = refl
 or_right false c e = e
 
+-- a slot with a ticket of the group that passes is a slot of the group
 pub owned_if : (a : Slots) (g : GroupLists) (q : Ticket → Bool) (x : ℕ) → has_one q (ticket_at a g x) ≡ true → is_owned a g x ≡ true
 owned_if a g q x e = by (is_live a g x) refl e
   where
@@ -88,6 +92,7 @@ module _ (a : Slots) (s : GroupSlots) (x : ℕ) (t : Ticket) (group : IsGroupSlo
 
 -- ---- the queue
 
+-- a state whose list is that of queued tickets is that of a ticket that waits
 pub queued_list : (g : GroupLists) (s : TicketState) → IsNumbered g → g.queued ≡ list_for g s → s ≡ ticket.Queued
 queued_list g ticket.Queued n e = refl
 queued_list g ticket.Running n e = absurd (omega (arith, n.queued, n.running, e))
@@ -95,6 +100,7 @@ queued_list g (ticket.NeedsFallback c) n e = absurd (omega (arith, n.queued, n.s
 queued_list g (ticket.InFallback c) n e = absurd (omega (arith, n.queued, n.settled, e))
 queued_list g (ticket.Answered c) n e = absurd (omega (arith, n.queued, n.settled, e))
 
+-- a ticket waits in one state only
 pub queued_state : (s : TicketState) → queued_in s ≡ true → s ≡ ticket.Queued
 queued_state ticket.Queued e = refl
 queued_state ticket.Running e = absurd cc
@@ -158,6 +164,7 @@ module _ (a b : Slots) (s : GroupSlots) (x : ℕ) (t v : Ticket) (arena : IsAren
   to_there (ticket.InFallback c) = group.there
   to_there (ticket.Answered c) = group.there
 
+  -- just the one slot has changed: it has the ticket, and is on the list for the ticket's state
   pub touched : IsTouched a b x (list_for s.lists v.state) v
   touched = elim (cases_eq (list_for s.lists t.state) (list_for s.lists v.state)) [
     | inl e ↦ subst (λ (z : Slots). IsTouched a z x (list_for s.lists v.state) v) (sym (same e)) (touched_set a x (list_for s.lists v.state) v arena (subst (λ l. is_on a 0 l x ≡ true) e lies))
@@ -244,6 +251,7 @@ module _ (a b : Slots) (s : GroupSlots) (x : ℕ) (t v : Ticket) (arena : IsAren
       noted = noted_at;
     }
 
+    -- where the group has counted the ticket and noted what nobody needs, the slot has the ticket now
     pub put_is : IsPut a s x v b r
     put_is = record {
       change = record {

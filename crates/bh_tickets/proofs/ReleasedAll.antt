@@ -26,6 +26,7 @@ kept_again (Some t) = by (is_kept t) refl
     by true e = ap (λ b. if b then Some t else None) e
     by false e = refl
 
+-- what is released at a slot is released from the list of just that slot
 pub released_slot : (a : Slots) (s : GroupSlots) (x : ℕ) (b : Slots) (r : GroupSlots) → IsReleasedAt a s x b r → IsReleasedFrom (x ∷ []) a s b r
 released_slot a s x b r released = record {
   swept = record {
@@ -36,6 +37,7 @@ released_slot a s x b r released = record {
   needless = released.needless;
 }
 
+-- where the first i slots of a list are released, and then the next, one slot more of the list is
 pub released_more : (xs : List ℕ) (i x : ℕ) (a : Slots) (s : GroupSlots) (b : Slots) (r : GroupSlots) (c : Slots) (u : GroupSlots) → slice_get xs i ≡ Some x → IsReleasedFrom (take i xs) a s b r → IsReleasedAt b r x c u → IsReleasedFrom (take (i + 1) xs) a s c u
 released_more xs i x a s b r c u at first second = record {
   swept = swept_more if_kept kept_again xs i x a s b r c u at first.swept (released_slot b r x c u second).swept;
@@ -51,6 +53,7 @@ module _ (a : Slots) (s : GroupSlots) (b : Slots) (r : GroupSlots) (group : IsGr
       by true e = inr e
       by false e = inl e
 
+  -- the tickets that somebody needs are those from before
   pub same_kept : (y : ℕ) → if_kept (ticket_at b s.lists y) ≡ if_kept (ticket_at a s.lists y)
   same_kept y = elim (stays_or_goes y) [ inl e ↦ ap if_kept e | inr e ↦ ap if_kept e ∙ kept_again (ticket_at a s.lists y) ]
 
@@ -66,6 +69,7 @@ module _ (a : Slots) (s : GroupSlots) (b : Slots) (r : GroupSlots) (group : IsGr
           at true f = f
           at false f = absurd cc
 
+  -- a ticket that is left though nobody needs it has a state with another list than the one walked
   pub off_list : (y : ℕ) (t : Ticket) → ticket_at b s.lists y ≡ Some t → is_kept t ≡ false → list_for s.lists t.state ≡ l → ⊥
   off_list y t e drops q = by (is_on a 0 l y) refl (swept.tickets y)
     where
@@ -101,6 +105,7 @@ module _ (a : Slots) (s : GroupSlots) (b : Slots) (r : GroupSlots) (group : IsGr
           at true g f = let k : u ≡ t = cc in ap is_kept (sym k) ∙ g
           at false g f = absurd cc
 
+  -- where just the tickets that somebody needs are left, the group is released, with nothing noted
   pub released_is : IsReleased a s b (record r { needless = needless.Nothing })
   released_is = record {
     change = record {
@@ -223,5 +228,6 @@ module _ (a : Slots) (s : GroupSlots) (b : Slots) (r : GroupSlots) (c : Slots) (
   change_all : IsGroupChange a s d w
   change_all = change_trans a s b r d w first.swept.change (change_trans b r c u d w second.swept.change third.swept.change)
 
+  -- after the walks over all three lists, no ticket is left that nobody needs, and nothing is noted
   pub released_all : IsReleased a s d (record w { needless = needless.Nothing })
   released_all = released_is a s d w group change_all (third.swept.next ∙ second.swept.next ∙ first.swept.next) kept_all

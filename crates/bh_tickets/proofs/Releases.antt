@@ -25,6 +25,7 @@ there_at a s x t some is = by (is_live a s.lists x) some
     by true e = sym is
     by false e = absurd cc
 
+-- a slot that has a ticket of the group is below the number of slots
 pub there_within : (a : Slots) (s : GroupSlots) (x : ℕ) → is_some (ticket_at a s.lists x) ≡ true → x < length a.payloads
 there_within a s x some = by (ticket_at a s.lists x) refl some
   where
@@ -32,6 +33,7 @@ there_within a s x some = by (ticket_at a s.lists x) refl some
     by None e f = absurd cc
     by (Some t) e f = within_slots a s.lists x t e
 
+-- where nothing has changed, that is a change of the group too
 pub change_none : (a : Slots) (s : GroupSlots) → IsArena a 0 → IsGroupSlots a s → IsGroupChange a s a s
 change_none a s arena group = record { arena = arena; group = group; frame = frame_refl s.lists a; limit = refl; lists = refl; room = refl }
 
@@ -116,6 +118,7 @@ module _ (a b : Slots) (s : GroupSlots) (x : ℕ) (t : Ticket) (arena : IsArena 
       noted = λ y e. absurd (never_one y e);
     }
 
+    -- a ticket that nobody needs is gone once its slot is put on the list of free slots
     pub gone_from : IsReleasedAt a s x b r
     gone_from = record {
       change = record {

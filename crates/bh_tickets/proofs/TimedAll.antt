@@ -149,6 +149,7 @@ module _ (a : Slots) (s : GroupSlots) (due : DueRule) (n m : ℕ) (b : Slots) (r
       at None = refl
       at (Some t) = timed_not_due due t
 
+  -- after the walks over both lists, each ticket of the group that was due has timed out
   pub timed_out_all : IsTimedOut a s due (n + m) c u
   timed_out_all = record {
     change = change_both;

@@ -39,6 +39,7 @@ module _ (a : Slots) (s : GroupSlots) (x : ℕ) (t : Ticket) (due : DueRule) (ar
     | inr ne ↦ sym (ap (λ b. Some (if b then timed_out_by due u else u)) (ne_eqb y x ne))
   ]
 
+  -- where the ticket is not due, all stays as it is, and none has timed out
   pub not_due : is_due_by due t ≡ false → IsTimed a s x due 0 a s
   not_due off = record {
     change = change_none a s arena group;
@@ -48,6 +49,7 @@ module _ (a : Slots) (s : GroupSlots) (x : ℕ) (t : Ticket) (due : DueRule) (ar
     walk = λ l ne. sym (ap (λ b. if b then without x (slots_on a 0 l) else slots_on a 0 l) (ap (has_one (is_due_by due)) here ∙ off));
   }
 
+  -- the ticket may be put in its slot again as one that has timed out
   pub can_time_out : CanPut a s x (with_timeout t)
   can_time_out = record {
     was = t;
@@ -59,6 +61,7 @@ module _ (a : Slots) (s : GroupSlots) (x : ℕ) (t : Ticket) (due : DueRule) (ar
       never : false ≡ true → ⊥
       never e = cc
 
+  -- where the ticket was due and is in its slot as one that has timed out, one has timed out
   pub has_timed_out : (b : Slots) (r : GroupSlots) → IsPut a s x (with_timeout t) b r → is_due_by due t ≡ true → IsTimed a s x due 1 b r
   has_timed_out b r done on = record {
     change = done.change;

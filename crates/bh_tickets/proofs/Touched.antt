@@ -12,6 +12,7 @@ use Rattle.bh_slot_arena.specs.Slots.{lists_in, slots_on, with_payload, with_mov
 use Rattle.bh_cache.proofs.Places.{get_set, has_append}
 use Rattle.bh_cache.specs.Slots.{Slots, has, is_on, is_live_list, is_owned, ticket_at, Once, IsArena, IsOwn, IsFrame}
 
+-- a list without a slot has each other slot that it had, and not this one
 pub has_without : (x s : ℕ) (xs : List ℕ) → has x (without s xs) ≡ (if eqb x s then false else has x xs)
 has_without x s [] = by (eqb x s)
   where
@@ -29,6 +30,7 @@ has_without x s (y ∷ ys) = elim (cases_eq y s) [
     there : (y ≡ s → ⊥) → (eqb y x || (if eqb x s then false else has x ys)) ≡ (if eqb x s then false else (eqb y x || has x ys))
     there ne = grind (arith, nat_tests)
 
+-- a list without a slot that it does not have is as it was
 pub without_absent : (x : ℕ) (xs : List ℕ) → has x xs ≡ false → without x xs ≡ xs
 without_absent x [] out = refl
 without_absent x (y ∷ ys) out = elim (cases_eq y x) [
@@ -49,21 +51,25 @@ at_map x l [] = refl
 at_map x zero (xs ∷ ls) = refl
 at_map x (suc l) (xs ∷ ls) = at_map x l ls
 
+-- the list to which a slot is moved has it last, and before it its other slots
 pub list_to : (a : Slots) (x to : ℕ) → 0 < length a.families → to < length (lists_in a 0) → slots_on (with_moved 0 x to a) 0 to ≡ without x (slots_on a 0 to) ++ x ∷ []
 list_to a x to wide there =
     ap (λ (ls : List (List ℕ)). get_or ls to []) (lists_moved a x to wide)
     ∙ get_or-set_same (map (without x) (lists_in a 0)) to _ [] (omega (arith, there, length-map (lists_in a 0) (without x)))
     ∙ ap (λ (xs : List ℕ). xs ++ x ∷ []) (at_map x to (lists_in a 0))
 
+-- each other list is as it was, without the slot that is moved
 pub list_not_to : (a : Slots) (x to l : ℕ) → 0 < length a.families → (l ≡ to → ⊥) → slots_on (with_moved 0 x to a) 0 l ≡ without x (slots_on a 0 l)
 list_not_to a x to l wide ne =
     ap (λ (ls : List (List ℕ)). get_or ls l []) (lists_moved a x to wide)
     ∙ get_or-set_other (map (without x) (lists_in a 0)) to l _ [] ne
     ∙ at_map x l (lists_in a 0)
 
+-- there are as many lists after a move as before
 pub lists_count : (a : Slots) (x to : ℕ) → 0 < length a.families → length (lists_in (with_moved 0 x to a) 0) ≡ length (lists_in a 0)
 lists_count a x to wide = ap (λ (ls : List (List ℕ)). length ls) (lists_moved a x to wide) ∙ length-set (map (without x) (lists_in a 0)) to _ ∙ length-map (lists_in a 0) (without x)
 
+-- after a move the slot is on the list to which it went and on no other, and each other slot is where it was
 pub on_moved : (a : Slots) (x to l y : ℕ) → 0 < length a.families → to < length (lists_in a 0) → is_on (with_moved 0 x to a) 0 l y ≡ (if eqb y x then eqb l to else is_on a 0 l y)
 on_moved a x to l y wide there = elim (cases_eq l to) [
   | inl e ↦
@@ -77,6 +83,7 @@ on_moved a x to l y wide there = elim (cases_eq l to) [
 
 -- ---- no slot comes twice
 
+-- where no slot comes twice, none does without one of them
 pub once_without : (x : ℕ) (xs : List ℕ) → Once xs → Once (without x xs)
 once_without x [] h = tt
 once_without x (y ∷ ys) h = by (eqb y x) (once_without x ys h.1)
@@ -92,6 +99,7 @@ once_without x (y ∷ ys) h = by (eqb y x) (once_without x ys h.1)
     by true r = r
     by false r = (out, r)
 
+-- where no slot comes twice, none does with one at the end that was not there
 pub once_append : (x : ℕ) (xs : List ℕ) → has x xs ≡ false → Once xs → Once (xs ++ x ∷ [])
 once_append x [] out h = (refl, tt)
 once_append x (y ∷ ys) out h = (has_append y ys (x ∷ []) ∙ ap (λ b. b || (eqb x y || false)) h.0 ∙ apart, once_append x ys (rest (eqb y x) (has x ys) out) h.1)
@@ -172,6 +180,7 @@ touched_moved a x to v arena is there = record {
   once = λ once l. once_moved a x to l arena.wide there once;
 }
 
+-- a slot that is on a list is on no other
 pub not_on : (a : Slots) (l m x : ℕ) → IsArena a 0 → is_on a 0 l x ≡ true → (m ≡ l → ⊥) → is_on a 0 m x ≡ false
 not_on a l m x arena on ne = by (is_on a 0 m x) refl
   where
@@ -201,24 +210,31 @@ touched_set a x to v arena on = record {
 -- ---- what is seen of it
 
 module _ (a b : Slots) (x to : ℕ) (v : Ticket) (touched : IsTouched a b x to v) where
+  -- each other slot is on the lists that it was on
   pub on_other : (l y : ℕ) → (y ≡ x → ⊥) → is_on b 0 l y ≡ is_on a 0 l y
   on_other l y ne = touched.on l y ∙ ap (λ c. if c then eqb l to else is_on a 0 l y) (ne_eqb y x ne)
 
+  -- the slot is on the list to which it went, and on no other
   pub on_slot : (l : ℕ) → is_on b 0 l x ≡ eqb l to
   on_slot l = touched.on l x ∙ ap (λ c. if c then eqb l to else is_on a 0 l x) (eq-eqb x x refl)
 
+  -- each other slot has the payload that it had
   pub payload_other : (y : ℕ) → (y ≡ x → ⊥) → slice_get b.payloads y ≡ slice_get a.payloads y
   payload_other y ne = touched.payload y ∙ ap (λ c. if c then Some v else slice_get a.payloads y) (ne_eqb y x ne)
 
+  -- the slot's payload is the ticket
   pub payload_slot : slice_get b.payloads x ≡ Some v
   payload_slot = touched.payload x ∙ ap (λ c. if c then Some v else slice_get a.payloads x) (eq-eqb x x refl)
 
+  -- in each other slot a group has the ticket that it had there
   pub at_other : (g : GroupLists) (y : ℕ) → (y ≡ x → ⊥) → ticket_at b g y ≡ ticket_at a g y
   at_other g y ne = λ i. if (on_other g.queued y ne i || (on_other g.running y ne i || on_other g.settled y ne i)) then payload_other y ne i else None
 
+  -- a group has the ticket in the slot if the list is one of its lists with tickets, and else none there
   pub at_slot : (g : GroupLists) → ticket_at b g x ≡ (if is_live_list g to then Some v else None)
   at_slot g = λ i. if (on_slot g.queued i || (on_slot g.running i || on_slot g.settled i)) then payload_slot i else None
 
+  -- each slot is still on one list at most, and there once
   pub touched_arena : IsArena a 0 → x < length a.payloads → IsArena b 0
   touched_arena arena within = record {
     wide = touched.wide;
@@ -239,6 +255,7 @@ module _ (a b : Slots) (x to : ℕ) (v : Ticket) (touched : IsTouched a b x to v
       both : (l m : ℕ) → eqb l to ≡ true → eqb m to ≡ true → l ≡ m
       both l m r s = grind (arith, nat_tests)
 
+  -- where the slot was on a list of the group and went to one, the lists of other groups are as before
   pub touched_frame : (g : GroupLists) (from : ℕ) → IsArena a 0 → is_on a 0 from x ≡ true → IsOwn g from → IsOwn g to → IsFrame g a b
   touched_frame g from arena on own own_to = record {
     slots = touched.slots;

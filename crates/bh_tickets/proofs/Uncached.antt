@@ -171,6 +171,7 @@ module _ (a b : Slots) (s : GroupSlots) (context n : ℕ) (arena : IsArena a 0) 
       noted = noted_at;
     }
 
+    -- the group's tickets are uncached, where Many is noted, or none was cached and what was noted stays
     pub uncached_is : IsUncached a s context n b r
     uncached_is = record {
       change = record {

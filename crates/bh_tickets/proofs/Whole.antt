@@ -25,11 +25,13 @@ use Rattle.bh_tickets.proofs.Changed.{serial_kept}
 use Rattle.bh_tickets.proofs.Puts.{owned_if, within_slots, held_at}
 use Rattle.bh_tickets.proofs.Adds.{any_is, live_within}
 
+-- a group's part is at the number where it was set
 pub set_same : (ss : List GroupSlots) (i : ℕ) (x : GroupSlots) → i < length ss → slice_get (set ss i x) i ≡ Some x
 set_same [] i x lt = absurd (omega (arith, lt))
 set_same (y ∷ ys) zero x lt = refl
 set_same (y ∷ ys) (suc i) x lt = set_same ys i x (omega (arith, lt))
 
+-- the parts at other numbers are as they were
 pub set_other : (ss : List GroupSlots) (i j : ℕ) (x : GroupSlots) → (j ≡ i → ⊥) → slice_get (set ss i x) j ≡ slice_get ss j
 set_other [] i j x ne = refl
 set_other (y ∷ ys) zero zero x ne = absurd (ne refl)
@@ -37,16 +39,19 @@ set_other (y ∷ ys) zero (suc j) x ne = refl
 set_other (y ∷ ys) (suc i) zero x ne = refl
 set_other (y ∷ ys) (suc i) (suc j) x ne = set_other ys i j x (λ e. ne (ap suc e))
 
+-- a number at which there is a part is less than how many parts there are
 pub get_lt : (ss : List GroupSlots) (i : ℕ) (s : GroupSlots) → slice_get ss i ≡ Some s → i < length ss
 get_lt [] i s e = absurd cc
 get_lt (y ∷ ys) zero s e = omega arith
 get_lt (y ∷ ys) (suc i) s e = let k : i < length ys = get_lt ys i s e in omega (arith, k)
 
+-- what contracts see at a group's number is what they see of the group's part
 pub group_is : (a : Slots) (ss : List GroupSlots) (i : ℕ) (s : GroupSlots) → slice_get ss i ≡ Some s → group_at (view_of a ss) i ≡ group_of a s
 group_is a [] i s e = absurd cc
 group_is a (y ∷ ys) zero s e = let k : y ≡ s = cc in ap (group_of a) k
 group_is a (y ∷ ys) (suc i) s e = group_is a ys i s e
 
+-- what is read at a number below how many parts there are is the part there
 pub get_is : (ss : List GroupSlots) (i : ℕ) (s : GroupSlots) → i < length ss → s ≡ get_or ss i s → slice_get ss i ≡ Some s
 get_is [] i s lt e = absurd (omega (arith, lt))
 get_is (y ∷ ys) zero s lt e = ap Some (sym e)
@@ -56,6 +61,7 @@ get_is (y ∷ ys) (suc i) s lt e = get_is ys i s (omega (arith, lt)) e
 abbrev pub rooms : List GroupSlots → ℕ
 rooms ss = sum_by (λ (s : GroupSlots). s.slots.max) ss
 
+-- a part in place of one with as much room leaves the room of all groups as it was
 pub rooms_set : (ss : List GroupSlots) (i : ℕ) (s r : GroupSlots) → slice_get ss i ≡ Some s → r.slots.max ≡ s.slots.max → rooms (set ss i r) ≡ rooms ss
 rooms_set [] i s r is same = absurd cc
 rooms_set (y ∷ ys) zero s r is same =
@@ -76,6 +82,7 @@ module _ (a b : Slots) (ss : List GroupSlots) (i : ℕ) (s r : GroupSlots) (whol
   apart_own : (j : ℕ) (k : GroupSlots) → (j ≡ i → ⊥) → slice_get ss j ≡ Some k → IsApart s.lists k.lists
   apart_own j k ne e = whole.apart i j s k is e (λ q. ne (sym q))
 
+  -- once one group has changed, the parts of all groups are as they should be again
   pub whole_kept : AreGroupSlots b (set ss i r)
   whole_kept = record {
     arena = change.arena;
@@ -98,6 +105,7 @@ module _ (a b : Slots) (ss : List GroupSlots) (i : ℕ) (s r : GroupSlots) (whol
     slots = change.frame.slots ∙ whole.slots ∙ sym (rooms_set ss i s r is change.room);
   }
 
+  -- contracts see each other group as it was
   pub others_same : (j : ℕ) → j ≢ i → slice_get (groups_of b (set ss i r)) j ≡ slice_get (groups_of a ss) j
   others_same j ne = slice_get-map (group_of b) (set ss i r) j ∙ ap (option_map (group_of b)) (set_other ss i j r ne) ∙ at (slice_get ss j) refl ne ∙ sym (slice_get-map (group_of a) ss j)
     where
@@ -105,9 +113,11 @@ module _ (a b : Slots) (ss : List GroupSlots) (i : ℕ) (s r : GroupSlots) (whol
       at None e ne = refl
       at (Some k) e ne = ap Some (group_same a b k (frame_same s.lists k.lists a b change.frame (apart_own j k ne e)) whole.arena (whole.each j k e))
 
+  -- at the group's number contracts see the part that was set
   pub now_group : group_at (view_of b (set ss i r)) i ≡ group_of b r
   now_group = group_is b (set ss i r) i r here
 
+  -- contracts see as many groups as before
   pub same_count : length (groups_of b (set ss i r)) ≡ length (groups_of a ss)
   same_count = length-map (set ss i r) (group_of b) ∙ length-set ss i r ∙ sym (length-map ss (group_of a))
 
@@ -150,12 +160,15 @@ shows a s x arena = elim (cases_lt x (length a.payloads)) [
     by false e past = refl
 
 module _ (a : Slots) (s : GroupSlots) (group : IsGroupSlots a s) where
+  -- as many slots are taken as the group has tickets
   pub taken_is : s.slots.taken ≡ length (tickets_of a s.lists)
   taken_is = group.taken ∙ sym (length_listed (ticket_at a s.lists) (λ x. has_one is_any (ticket_at a s.lists x)) (length a.payloads) (λ x lt. any_is (ticket_at a s.lists x)))
 
+  -- counted by slots, as many tickets pass as in the list of the group's tickets
   pub count_is : (q : Ticket → Bool) → count_at a s.lists q ≡ count_by q (tickets_of a s.lists)
   count_is q = sym (count_listed q (ticket_at a s.lists) (length a.payloads))
 
+  -- what may happen to a ticket that contracts see may happen to that in the slot
   pub can_be : (x : ℕ) (change : TicketChange) → IsArena a 0 → CanChange (group_of a s) x change → CanBe a s x change
   can_be x change arena can = record { was = can.ticket; here = sym (shows a s x arena) ∙ can.here; allowed = can.allowed }
 
@@ -166,12 +179,15 @@ put_items a b s r x t v group done serial p f found is =
     done.items ∙ sym (changed_is_map p f (tickets_of a s.lists) t v (tickets_rising a s.lists s.next group.arranged) found is serial)
 
 module _ (a b : Slots) (ss : List GroupSlots) (i : ℕ) (s r : GroupSlots) (whole : AreGroupSlots a ss) (is : slice_get ss i ≡ Some s) (change : IsGroupChange a s b r) where
+  -- what contracts saw of the group is what they see of its part as it was
   pub old_group : group_at (view_of a ss) i ≡ group_of a s
   old_group = group_is a ss i s is
 
+  -- what contracts see of the group now is what they see of the part that was set
   pub new_group : group_at (view_of b (set ss i r)) i ≡ group_of b r
   new_group = now_group a b ss i s r whole is change
 
+  -- where the next serial is as it was, nothing but the group's tickets has changed
   pub else_is : r.next ≡ s.next → ChangesOnly i (view_of a ss) (view_of b (set ss i r))
   else_is next = record {
     limit = change.limit;
@@ -181,13 +197,16 @@ module _ (a b : Slots) (ss : List GroupSlots) (i : ℕ) (s r : GroupSlots) (whol
     next = ap (λ (z : GroupTickets). z.next) new_group ∙ next ∙ sym (ap (λ (z : GroupTickets). z.next) old_group);
   }
 
+  -- what became of the group's tickets became of those that contracts see
   pub items_now : (f : List Ticket → List Ticket) → tickets_of b s.lists ≡ f (tickets_of a s.lists) → (group_at (view_of b (set ss i r)) i).items ≡ f (group_at (view_of a ss) i).items
   items_now f e = ap (λ (z : GroupTickets). z.items) new_group ∙ ap (tickets_of b) change.lists ∙ e ∙ sym (ap (λ (z : GroupTickets). f z.items) old_group)
 
 module _ (a b : Slots) (ss : List GroupSlots) (i : ℕ) (s r : GroupSlots) (whole : AreGroupSlots a ss) (is : slice_get ss i ≡ Some s) (change : IsGroupChange a s b r) where
+  -- what became of the part's next serial became of that which contracts see
   pub next_now : (f : ℕ → ℕ) → r.next ≡ f s.next → (group_at (view_of b (set ss i r)) i).next ≡ f (group_at (view_of a ss) i).next
   next_now f e = ap (λ (z : GroupTickets). z.next) (now_group a b ss i s r whole is change) ∙ e ∙ sym (ap (λ (z : GroupTickets). f z.next) (group_is a ss i s is))
 
+  -- contracts see as much room in the group as before
   pub room_now : (group_at (view_of b (set ss i r)) i).room ≡ (group_at (view_of a ss) i).room
   room_now = ap (λ (z : GroupTickets). z.room) (now_group a b ss i s r whole is change) ∙ change.room ∙ sym (ap (λ (z : GroupTickets). z.room) (group_is a ss i s is))
 
@@ -199,6 +218,7 @@ part_is a ss view i s e lt is = get_is ss i s (let n : length (groups_of a ss) �
 pub there_is : (a : Slots) (ss : List GroupSlots) (i x : ℕ) (s : GroupSlots) (t : Ticket) → AreGroupSlots a ss → slice_get ss i ≡ Some s → in_slot (group_at (view_of a ss) i) x ≡ Some t → ticket_at a s.lists x ≡ Some t
 there_is a ss i x s t whole is e = sym (shows a s x whole.arena) ∙ ap (λ (z : GroupTickets). in_slot z x) (sym (group_is a ss i s is)) ∙ e
 
+-- what may happen to a ticket that contracts see in one of all groups may happen to that in the slot
 pub can_be_at : (a : Slots) (ss : List GroupSlots) (i x : ℕ) (s : GroupSlots) (change : TicketChange) → AreGroupSlots a ss → slice_get ss i ≡ Some s → CanChange (group_at (view_of a ss) i) x change → CanBe a s x change
 can_be_at a ss i x s change whole is can = can_be a s (whole.each i s is) x change whole.arena (subst (λ (z : GroupTickets). CanChange z x change) (group_is a ss i s is) can)
 
@@ -214,6 +234,7 @@ changed_is a b ss i x s r change whole is can done = record {
   left = let put = done can.ticket (there_is a ss i x s can.ticket whole is can.here) in else_is a b ss i s r whole is put.change put.next;
 }
 
+-- a ticket that can be pushed, as contracts see the group, can be added to the group's part
 pub can_add_at : (a : Slots) (ss : List GroupSlots) (i : ℕ) (s : GroupSlots) (v : Ticket) → AreGroupSlots a ss → slice_get ss i ≡ Some s → CanPush (group_at (view_of a ss) i) v → CanAdd s v
 can_add_at a ss i s v whole is can =
     let store = group_is a ss i s is in
@@ -225,15 +246,19 @@ can_add_at a ss i s v whole is can =
       needed = can.needed;
     }
 
+-- as many slots are taken as contracts see tickets in the group
 pub len_is : (a : Slots) (ss : List GroupSlots) (i : ℕ) (s : GroupSlots) → AreGroupSlots a ss → slice_get ss i ≡ Some s → s.slots.taken ≡ length (group_at (view_of a ss) i).items
 len_is a ss i s whole is = taken_is a s (whole.each i s is) ∙ ap (λ (z : GroupTickets). length z.items) (sym (group_is a ss i s is))
 
+-- a list made of the tickets that contracts see is as long as one made alike of those in the arena
 pub shown_length : (a : Slots) (ss : List GroupSlots) (i : ℕ) (s : GroupSlots) → slice_get ss i ≡ Some s → (f : List Ticket → List Ticket) → length (f (group_at (view_of a ss) i).items) ≡ length (f (tickets_of a s.lists))
 shown_length a ss i s is f = ap (λ (z : GroupTickets). length (f z.items)) (group_is a ss i s is)
 
+-- of the tickets that contracts see as many pass as of those in the arena
 pub shown_count : (a : Slots) (ss : List GroupSlots) (i : ℕ) (s : GroupSlots) → slice_get ss i ≡ Some s → (q : Ticket → Bool) → count_by q (group_at (view_of a ss) i).items ≡ count_by q (tickets_of a s.lists)
 shown_count a ss i s is q = ap (λ (z : GroupTickets). count_by q z.items) (group_is a ss i s is)
 
+-- counted by slots, as many tickets pass as among those that contracts see
 pub counted_is : (a : Slots) (ss : List GroupSlots) (i : ℕ) (s : GroupSlots) (q : Ticket → Bool) → AreGroupSlots a ss → slice_get ss i ≡ Some s → count_at a s.lists q ≡ count_by q (group_at (view_of a ss) i).items
 counted_is a ss i s q whole is = count_is a s (whole.each i s is) q ∙ ap (λ (z : GroupTickets). count_by q z.items) (sym (group_is a ss i s is))
 
@@ -245,6 +270,7 @@ some_group (y ∷ ys) (suc i) lt = some_group ys i (omega (arith, lt))
 within_groups : (a : Slots) (ss : List GroupSlots) (i : ℕ) → i < length (groups_of a ss) → i < length ss
 within_groups a ss i lt = omega (arith, lt, length-map ss (group_of a))
 
+-- a slot in which contracts see a ticket is one of the arena's
 pub slot_there : (a : Slots) (ss : List GroupSlots) (i x : ℕ) (t : Ticket) → AreGroupSlots a ss → i < length (groups_of a ss) → in_slot (group_at (view_of a ss) i) x ≡ Some t → x < length a.payloads
 slot_there a ss i x t whole lt e =
     let r = some_group ss i (within_groups a ss i lt) in

@@ -56,6 +56,7 @@ impl GroupSlots {
     }
 }
 
+/// What a ticket adds to a count: 1 where it counts, else 0.
 fn one(counts: bool) -> u64
     ensures { result ≡ one counts }
 {
@@ -92,6 +93,7 @@ fn list_for(lists: &GroupLists, state: &TicketState) -> usize
     }
 }
 
+/// The ticket is taken out of the group's counts.
 fn count_out(group: &mut GroupSlots, ticket: &Ticket)
     requires busy { one ticket.now.busy ≤ group.old.busy }
     requires queued { one (is_queued ticket.now) ≤ group.old.queued }
@@ -103,6 +105,7 @@ fn count_out(group: &mut GroupSlots, ticket: &Ticket)
     group.in_fallback -= one(is_in_fallback(ticket));
 }
 
+/// The ticket is taken into the group's counts.
 fn count_in(group: &mut GroupSlots, ticket: &Ticket)
     requires busy { group.old.busy + one ticket.now.busy < 2 ^ 64 }
     requires queued { group.old.queued + one (is_queued ticket.now) < 2 ^ 64 }

@@ -12,6 +12,7 @@ use bh_base::{CircuitState, End, EventKind, Reply};
 use bh_tickets::{DueRule, Tickets};
 
 impl Group {
+    /// Each ticket that is due times out.
     pub fn expire(&mut self, tickets: &mut Tickets) -> Reply
         requires has { HasTickets tickets.old self.old }
         requires bounded { IsBounded (view_in tickets.old self.old) }
@@ -25,7 +26,7 @@ impl Group {
         Reply::Expired(count)
     }
 
-    // Which tickets are due at the latest moment.
+    /// Which tickets are due at the latest moment.
     pub fn due_rule(&self) -> DueRule
         ensures { result ≡ record { timeout_on = self.now.props.timeout_on; timeout_ms = self.now.props.timeout_ms; moment = self.now.history.latest } }
     {
@@ -36,7 +37,7 @@ impl Group {
         }
     }
 
-    // Tells the circuit breaker where its test call is due.
+    /// Tells the circuit breaker where its test call is due.
     fn time_out_test(&mut self, tickets: &Tickets, due: &DueRule)
         requires there { self.old.number < length tickets.now.groups }
         requires rule { due.now ≡ due_rule_of (view_in tickets.now self.old).present }
@@ -50,7 +51,7 @@ impl Group {
         }
     }
 
-    // Adds so many timeouts at the step's moment.
+    /// Adds so many timeouts at the step's moment.
     fn record_timeouts(&mut self, count: u64)
         requires { counted_of self.old + 2 * count < 2 ^ 60 }
         ensures view { (ts : TicketsView) → view_in ts self.new ≡ with_events (replicate count kind.Timeout) (view_in ts self.old) }

@@ -14,6 +14,7 @@ use bh_base::{Answer, Cause, EventKind, FallbackEnd, FallbackFault, Reply, Seria
 use bh_tickets::Tickets;
 
 impl Group {
+    /// One holder of the ticket asks for its answer.
     pub fn collect(&mut self, tickets: &mut Tickets, serial: Serial) -> Reply
         requires has { HasTickets tickets.old self.old }
         requires bounded { IsBounded (view_in tickets.old self.old) }
@@ -37,7 +38,7 @@ impl Group {
         }
     }
 
-    // A holder asks for the answer of a ticket that needs a fallback.
+    /// A holder asks for the answer of a ticket that needs a fallback.
     fn fall_back(&mut self, tickets: &mut Tickets, serial: Serial, slot: u32, cause: Cause) -> Reply
         requires has { HasTickets tickets.old self.old }
         requires bounded { IsBounded (view_in tickets.old self.old) }
@@ -62,6 +63,7 @@ impl Group {
         Reply::RunFallback(cause)
     }
 
+    /// The end of a ticket's fallback is told.
     pub fn fallback_done(
         &mut self,
         tickets: &mut Tickets,
@@ -84,7 +86,7 @@ impl Group {
         }
     }
 
-    // The fallback of the ticket has ended: it is answered.
+    /// The fallback of the ticket has ended: it is answered.
     fn end_fallback(
         &mut self,
         tickets: &mut Tickets,
@@ -120,14 +122,14 @@ impl Group {
     }
 }
 
-// The answer where no fallback gave a value.
+/// The answer where no fallback gave a value.
 fn error(cause: Cause, fallback: FallbackFault) -> Answer
     ensures { result ≡ Answer.Error cause fallback }
 {
     Answer::Error { cause, fallback }
 }
 
-// The answer that a fallback gives.
+/// The answer that a fallback gives.
 fn fallback_answer(end: &FallbackEnd, cause: Cause) -> Answer
     ensures { result ≡ fallback_answer end.now cause }
 {

@@ -11,30 +11,35 @@ use bh_base::{GroupProps, Moment, Serial};
 use bh_tickets::{DueRule, Tickets, is_unanswered};
 
 impl Group {
+    /// The properties of the group.
     pub fn props(&self) -> &GroupProps
         ensures { result.now ≡ self.now.props }
     {
         &self.props
     }
 
+    /// How many steps the group may do.
     pub fn step_limit(&self) -> u64
         ensures { result ≡ self.now.limit }
     {
         self.limit
     }
 
+    /// How many steps the group has done.
     pub fn steps(&self) -> u64
         ensures { result ≡ self.now.steps }
     {
         self.steps
     }
 
+    /// Whether the group has done all the steps that it may.
     pub fn is_worn(&self) -> bool
         ensures { result ≡ (self.now.steps == self.now.limit) }
     {
         self.steps == self.limit
     }
 
+    /// Whether a `Start` would be answered `Assigned`, at whatever moment.
     pub fn is_startable(&self, tickets: &Tickets) -> bool
         requires { HasTickets tickets.now self.now }
         ensures { (moment : ℕ) → result ≡ is_assigned (view_reply (view_in tickets.now self.now) op.Start moment) }
@@ -45,6 +50,7 @@ impl Group {
         tickets.busy_count(self.number) < self.props.core && tickets.any_queued(self.number)
     }
 
+    /// Whether a `Collect` of the serial would be answered `Pending`, at whatever moment.
     pub fn is_pending(&self, tickets: &Tickets, serial: Serial) -> bool
         requires { HasTickets tickets.now self.now }
         ensures { (moment : ℕ) → result ≡ is_pending (view_reply (view_in tickets.now self.now) (op.Collect serial) moment) }
@@ -58,6 +64,7 @@ impl Group {
         }
     }
 
+    /// Whether an `Expire` at the moment would be answered `Expired` of more than 0.
     pub fn is_due(&self, tickets: &Tickets, now: Moment) -> bool
         requires { HasTickets tickets.now self.now }
         ensures { result ≡ expires_some (view_reply (view_in tickets.now self.now) op.Expire now) }
@@ -72,7 +79,7 @@ impl Group {
         tickets.any_due(self.number, &due)
     }
 
-    // The moment of a step that comes at the given one: never before the latest.
+    /// The moment of a step that comes at the given one: never before the latest.
     fn moment_of(&self, now: Moment) -> Moment
         ensures { result ≡ max self.now.history.latest now }
     {

@@ -13,6 +13,7 @@ use bh_base::{Answer, Cause, End, EventKind, Reply, Serial, Text, TicketState};
 use bh_tickets::{Tickets, is_running};
 
 impl Group {
+    /// The first queued ticket runs, where a worker is free.
     pub fn start(&self, tickets: &mut Tickets) -> Reply
         requires { HasTickets tickets.old self.now }
         ensures done { IsDone (view_in tickets.old self.now) op.Start result (view_in tickets.new self.now) }
@@ -33,6 +34,7 @@ impl Group {
         }
     }
 
+    /// The end of a ticket's run is told, with the value that it gave.
     pub fn finish(&mut self, tickets: &mut Tickets, serial: Serial, body: &Text<256>) -> Reply
         requires has { HasTickets tickets.old self.old }
         requires bounded { IsBounded (view_in tickets.old self.old) }
@@ -43,6 +45,7 @@ impl Group {
         self.end_run(tickets, serial, &state, End::Success, EventKind::Success)
     }
 
+    /// The end of a ticket's run is told, as a failure or as a bad request.
     pub fn fail(&mut self, tickets: &mut Tickets, serial: Serial, bad: bool) -> Reply
         requires has { HasTickets tickets.old self.old }
         requires bounded { IsBounded (view_in tickets.old self.old) }
@@ -63,7 +66,7 @@ impl Group {
         self.end_run(tickets, serial, &state, End::Error, EventKind::Failure)
     }
 
-    // The run of the ticket has ended, and the ticket goes on to the state, unless it had timed out.
+    /// The run of the ticket has ended, and the ticket goes on to the state, unless it had timed out.
     fn end_run(
         &mut self,
         tickets: &mut Tickets,

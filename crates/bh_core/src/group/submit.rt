@@ -16,6 +16,7 @@ use bh_base::{
 use bh_tickets::Tickets;
 
 impl Group {
+    /// A request comes in: it joins a cached ticket, or asks for one of its own.
     pub fn submit(&mut self, tickets: &mut Tickets, request: &Request) -> Reply
         requires has { HasTickets tickets.old self.old }
         requires bounded { IsBounded (view_in tickets.old self.old) }
@@ -28,7 +29,7 @@ impl Group {
         self.make_ticket(tickets, request)
     }
 
-    // The slot of the cached ticket that the request may join.
+    /// The slot of the cached ticket that the request may join.
     fn find_cached(&self, tickets: &Tickets, request: &Request) -> Option<u32>
         requires { HasTickets tickets.now self.now }
         ensures { IsJoinable (view_in tickets.now self.now).present (group_at tickets.now self.now.number) request.now.cache result }
@@ -42,7 +43,7 @@ impl Group {
         }
     }
 
-    // The request joins the ticket in the slot.
+    /// The request joins the ticket in the slot.
     fn join(&mut self, tickets: &mut Tickets, request: &Request, slot: u32) -> Reply
         requires has { HasTickets tickets.old self.old }
         requires bounded { IsBounded (view_in tickets.old self.old) }
@@ -56,7 +57,7 @@ impl Group {
         Reply::Joined(serial)
     }
 
-    // The request gets a ticket of its own, unless there is no free slot.
+    /// The request gets a ticket of its own, unless there is no free slot.
     fn make_ticket(&mut self, tickets: &mut Tickets, request: &Request) -> Reply
         requires has { HasTickets tickets.old self.old }
         requires bounded { IsBounded (view_in tickets.old self.old) }
@@ -86,7 +87,7 @@ impl Group {
         }
     }
 
-    // Health for the circuit breaker, which is counted only where it is looked at.
+    /// Health for the circuit breaker, which is counted only where it is looked at.
     fn health_asked(&self, tickets: &Tickets) -> Health
         requires { HasTickets tickets.now self.now }
         ensures range { result.errors ≤ result.total }
@@ -104,7 +105,7 @@ impl Group {
         }
     }
 
-    // The request runs, or waits for a worker, where there is room for it.
+    /// The request runs, or waits for a worker, where there is room for it.
     fn place(&mut self, tickets: &mut Tickets, request: &Request, test: bool) -> Reply
         requires has { HasTickets tickets.old self.old }
         requires bounded { IsBounded (view_in tickets.old self.old) }
@@ -128,7 +129,7 @@ impl Group {
         }
     }
 
-    // Whether a permit is free, or the pool takes one more.
+    /// Whether a permit is free, or the pool takes one more.
     fn is_admitted(&self, tickets: &Tickets) -> bool
         requires { HasTickets tickets.now self.now }
         ensures { result ≡ is_admitted (view_in tickets.now self.now).present (view_in tickets.now self.now).present.props.strategy }
@@ -146,7 +147,7 @@ impl Group {
         }
     }
 
-    // The request is rejected; a test call that is rejected has failed.
+    /// The request is rejected; a test call that is rejected has failed.
     fn reject(&mut self, tickets: &mut Tickets, request: &Request, test: bool) -> Reply
         requires has { HasTickets tickets.old self.old }
         requires bounded { IsBounded (view_in tickets.old self.old) }
@@ -177,7 +178,7 @@ impl Group {
         }
     }
 
-    // The request does not run: its ticket needs a fallback.
+    /// The request does not run: its ticket needs a fallback.
     fn fall_back_from(
         &mut self,
         tickets: &mut Tickets,
@@ -204,7 +205,7 @@ impl Group {
         Reply::FallbackDue { serial, cause }
     }
 
-    // Makes the ticket of a request.
+    /// Makes the ticket of a request.
     fn add_ticket(
         &self,
         tickets: &mut Tickets,

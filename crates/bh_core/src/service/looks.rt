@@ -89,7 +89,7 @@ impl Core {
     }
 }
 
-// The group of the number, where it is registered.
+/// The group of the number, where it is registered.
 fn find(groups: &[Group], group: GroupId) -> Option<&Group>
     ensures found { IfSome result (λ found. slice_get groups.now group.0 ≡ Some found.now) }
     ensures missing { IsNone result → slice_get groups.now group.0 ≡ None }
