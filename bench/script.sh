@@ -17,13 +17,8 @@ while getopts n:g:r: option; do
     esac
 done
 shift $((OPTIND - 1))
-program=${1:-$here/../crates/bulkhead/out/bulkhead}
-work=$(mktemp -d)
-settings=$work/settings.toml
-trap 'rm -r "$work"' EXIT
 . "$here/timing.sh"
 
-[ $# -gt 0 ] || build
 list_groups "$groups" >"$settings"
 awk -v GROUPS="$groups" -v LINES="$lines" -f "$here/load.awk" >"$work/load"
 sed 's/"op":"[a-z]*"/"op":"none"/' "$work/load" >"$work/refused"

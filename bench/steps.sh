@@ -16,13 +16,7 @@ while getopts n:r: option; do
     esac
 done
 shift $((OPTIND - 1))
-program=${1:-$here/../crates/bulkhead/out/bulkhead}
-work=$(mktemp -d)
-settings=$work/settings.toml
-trap 'rm -r "$work"' EXIT
 . "$here/timing.sh"
-
-[ $# -gt 0 ] || build
 
 # Prints what a step costs with so many groups that hold so many tickets each.
 measure() {

@@ -1,9 +1,13 @@
-# For the scripts that time `bulkhead run`: they set `program`, `settings`, `runs` and `work`, a folder of theirs.
+# For the scripts that time `bulkhead run`: they set `here`, this folder, and `runs`, and have taken their options. What is
+# left is the program; where none is given, it is proved and built.
+program=${1:-$here/../crates/bulkhead/out/bulkhead}
+work=$(mktemp -d)
+settings=$work/settings.toml
+trap 'rm -r "$work"' EXIT
 
-# Proves and builds the program.
-build() {
+if [ $# -eq 0 ]; then
     (cd "$here/../crates/bulkhead" && rt run -- --help >"$work/build" 2>&1) || { cat "$work/build"; exit 1; }
-}
+fi
 
 # Prints the first line of a settings file, which lists so many groups.
 list_groups() {
