@@ -117,6 +117,8 @@ pub record IsFrame (g : GroupLists) (a b : Slots) : Type 0 where
   pub lists : (l : ℕ) → (IsOwn g l → ⊥) → slots_on b 0 l ≡ slots_on a 0 l
   pub payloads : (l x : ℕ) → (IsOwn g l → ⊥) → is_on a 0 l x ≡ true → slice_get b.payloads x ≡ slice_get a.payloads x
 
--- the groups have no list in common
+-- the groups have no list in common, in any family
 pub record IsApart (g h : GroupLists) : Type 0 where
   pub apart : (l : ℕ) → IsOwn g l → IsOwn h l → ⊥
+  pub serials : (l : ℕ) → (g.serials ≤ l) × (l ≤ g.free1) → (h.serials ≤ l) × (l ≤ h.free1) → ⊥
+  pub names : (l : ℕ) → (g.names ≤ l) × (l ≤ g.free2) → (h.names ≤ l) × (l ≤ h.free2) → ⊥
