@@ -71,9 +71,9 @@ abbrev pub has_serial_in : ℕ → Option Ticket → Bool
 has_serial_in serial None = false
 has_serial_in serial (Some t) = t.serial == serial
 
--- the slot of the list whose ticket has the serial
-abbrev pub serial_on : Slots → ℕ → ℕ → Option ℕ
-serial_on a l serial = find (λ x. has_serial_in serial (slice_get a.payloads x)) (slots_on a 0 l)
+-- the slot of the family's list whose ticket has the serial
+abbrev pub serial_on : Slots → ℕ → ℕ → ℕ → Option ℕ
+serial_on a family l serial = find (λ x. has_serial_in serial (slice_get a.payloads x)) (slots_on a family l)
 
 -- ---- by serials
 

@@ -1,12 +1,10 @@
 //! The chains on which a group's tickets are found: sixteen by serial and sixteen by cache name.
 
-ghost use Rattle.std.specs.Prelude.{◌≡◌, ◌<◌, Some, None, length, slice_get};
-ghost use Rattle.bh_base.specs.declared.ticket.Ticket.{Ticket};
-ghost use Rattle.bh_slot_arena.specs.Slots.{lists_in};
+ghost use Rattle.std.specs.Prelude.{◌≡◌, ◌+◌, ◌<◌, ◌^◌, Some, None, length, slice_get};
 ghost use Rattle.bh_cache.specs.Chains.{HasChains, list_by_name, name_chain, serial_chain, with_placed};
-ghost use Rattle.bh_cache.specs.Names.{mixed, place_of_name, place_of_serial};
 
 use crate::lists::GroupLists;
+use crate::names::place_of_name;
 use bh_base::{Serial, Text, Ticket};
 use bh_slot_arena::Arena;
 
@@ -15,7 +13,7 @@ use bh_slot_arena::Arena;
 pub fn place(arena: &mut Arena<Ticket, 3>, lists: &GroupLists, slot: u32)
     requires lists { HasChains arena.old lists.now }
     requires slot { slot < length arena.old.payloads }
-    ensures { (t : Ticket) → slice_get arena.old.payloads slot ≡ Some t → arena.new ≡ with_placed lists.now slot (Some t) arena.old }
+    ensures { arena.new ≡ with_placed lists.now slot (slice_get arena.old.payloads slot) arena.old }
 {
     let ticket = arena.get(slot);
     let serials = serial_chain(lists, ticket.serial);
@@ -37,6 +35,7 @@ pub fn place_free(arena: &mut Arena<Ticket, 3>, lists: &GroupLists, slot: u32)
 
 /// The chain of a serial.
 pub(crate) fn serial_chain(lists: &GroupLists, serial: Serial) -> usize
+    requires { lists.now.free1 ≡ lists.now.serials + 16 }
     ensures { result ≡ serial_chain lists.now serial }
 {
     lists.serials + (serial % 16) as usize
@@ -44,6 +43,7 @@ pub(crate) fn serial_chain(lists: &GroupLists, serial: Serial) -> usize
 
 /// The chain of a cache name.
 pub(crate) fn name_chain(lists: &GroupLists, context: u64, key: &Text<32>) -> usize
+    requires { lists.now.uncached ≡ lists.now.names + 16 }
     ensures { result ≡ name_chain lists.now (context, key.now) }
 {
     lists.names + place_of_name(context, key)
@@ -51,6 +51,7 @@ pub(crate) fn name_chain(lists: &GroupLists, context: u64, key: &Text<32>) -> us
 
 /// The list of the third family for a ticket.
 fn list_by_name(lists: &GroupLists, ticket: &Ticket) -> usize
+    requires { lists.now.uncached ≡ lists.now.names + 16 }
     ensures { result ≡ list_by_name lists.now (Some ticket.now) }
 {
     match &ticket.cache {
