@@ -20,13 +20,13 @@ lists_from n m k = record {
 }
 
 -- so many empty lists more in each family, and all else is as before
-pub record HasNewLists (first second third : ℕ) (a b : Slots) : Type 0 where
+pub record HasNewLists (n m k : ℕ) (a b : Slots) : Type 0 where
   pub limit : b.limit ≡ a.limit
   pub payloads : b.payloads ≡ a.payloads
   pub families : length b.families ≡ length a.families
-  pub first : lists_in b 0 ≡ lists_in a 0 ++ replicate first []
-  pub second : lists_in b 1 ≡ lists_in a 1 ++ replicate second []
-  pub third : lists_in b 2 ≡ lists_in a 2 ++ replicate third []
+  pub first : lists_in b 0 ≡ lists_in a 0 ++ replicate n []
+  pub second : lists_in b 1 ≡ lists_in a 1 ++ replicate m []
+  pub third : lists_in b 2 ≡ lists_in a 2 ++ replicate k []
 
 -- some empty lists more, and all else is as before
 pub record HasMoreLists (a b : Slots) : Type 0 where
