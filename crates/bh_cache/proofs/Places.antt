@@ -24,6 +24,16 @@ has_place (y ∷ ys) x e = elim (cases_eq y x) [
   | inr ne ↦ let r = has_place ys x (ap (λ b. b || has x ys) (sym (ne_eqb y x ne)) ∙ e) in (suc r.0, r.1)
 ]
 
+-- what has a place on a list is a member of it
+pub has_at : (xs : List ℕ) (k x : ℕ) → slice_get xs k ≡ Some x → has x xs ≡ true
+has_at [] k x e = absurd cc
+has_at (y ∷ ys) zero x e = let q : y ≡ x = cc in ap (λ b. b || has x ys) (eq-eqb y x q)
+has_at (y ∷ ys) (suc k) x e = ap (λ b. eqb y x || b) (has_at ys k x e) ∙ or_true (eqb y x)
+  where
+    or_true : (b : Bool) → (b || true) ≡ true
+    or_true true = refl
+    or_true false = refl
+
 -- ---- what is ahead of a place, and what is behind it
 
 -- what is left of a list from a place on is the slot at that place, and what is left from the next on
