@@ -147,11 +147,11 @@ module _ (context : ℕ) (g : GroupLists) (xs ys : List ℕ) (a b c : Slots) (n 
 
 -- where the first i slots of a list are dropped, and then the next, one slot more of the list is
 pub dropped_more : (context : ℕ) (g : GroupLists) (xs : List ℕ) (i x : ℕ) (a b c : Slots) (n m : ℕ) → slice_get xs i ≡ Some x → IsDroppedFrom context g (take i xs) a b n → IsDroppedFrom context g (x ∷ []) b c m → IsDroppedFrom context g (take (i + 1) xs) a c (n + m)
-dropped_more context xs i x a b c n m at first second = subst (λ ys. IsDroppedFrom context g ys a c (n + m)) (sym (take_one_more xs i x at)) (dropped_both context g (take i xs) (x ∷ []) a b c n m first second)
+dropped_more context g xs i x a b c n m at first second = subst (λ ys. IsDroppedFrom context g ys a c (n + m)) (sym (take_one_more xs i x at)) (dropped_both context g (take i xs) (x ∷ []) a b c n m first second)
 
 -- no more were dropped than there are slots
 pub dropped_few : (context : ℕ) (g : GroupLists) (xs : List ℕ) (a b : Slots) (n : ℕ) → IsDroppedFrom context g xs a b n → n ≤ length a.payloads
-dropped_few context xs a b n dropped =
+dropped_few context g xs a b n dropped =
     let k = dropped.count (λ x. true) (λ x h. refl) in
     let l = count_all (length a.payloads) (λ x. true && has_one (is_cached_in context) (slice_get a.payloads x)) in
     omega (arith, k, l)

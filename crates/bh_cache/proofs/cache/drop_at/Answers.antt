@@ -1,6 +1,6 @@
-use Rattle.std.proofs.Common.{◌≡◌, ℕ, ◌+◌, ◌<◌, [], ◌∷◌, length, true, false, Bool, Option, None, Some, slice_get, refl, sym, ap, subst, ◌∙◌, arith, length-set}
+use Rattle.std.proofs.Common.{◌≡◌, ℕ, inl, inr, ◌<◌, [], ◌∷◌, length, true, false, Bool, Option, None, Some, slice_get, refl, sym, ap, subst, ◌∙◌, arith, length-set}
 use Rattle.std.specs.Prelude.{◌||◌, eqb, if◌then◌else◌}
-use Rattle.std.proofs.lemmas.Bool.{ne_eqb}
+use Rattle.std.proofs.lemmas.Bool.{cases_eq, eq-eqb, ne_eqb}
 use Rattle.bh_base.specs.declared.ticket.Ticket.{Ticket}
 use Rattle.bh_base.specs.Tickets.{is_cached_in}
 use Rattle.bh_slot_arena.specs.Slots.{with_payload}
@@ -19,15 +19,13 @@ module _ (context : ℕ) (a : Slots) (g : GroupLists) (slot : ℕ) (t : Ticket) 
   stays : is_cached_in context t ≡ false → IsDroppedFrom context g (slot ∷ []) a a 0
   stays not_cached =
       dropped_at context a a g slot t 0 within (sym is) refl refl refl chained (frame_refl g a) refl
-      (λ y. as_it_is y (eqb y slot) refl)
+      (λ y. elim (cases_eq y slot) [
+        | inl e ↦
+            ap (slice_get a.payloads) e ∙ sym is ∙ ap Some (sym (uncached_same context t not_cached))
+            ∙ sym (ap (λ d. if d then Some (uncached_in context t) else slice_get a.payloads y) (eq-eqb y slot e))
+        | inr ne ↦ sym (ap (λ d. if d then Some (uncached_in context t) else slice_get a.payloads y) (ne_eqb y slot ne))
+      ])
       (sym (ap one not_cached))
-    where
-      as_it_is : (y : ℕ) (b : Bool) → eqb y slot ≡ b → slice_get a.payloads y ≡ (if b then Some (uncached_in context t) else slice_get a.payloads y)
-      as_it_is y false e = refl
-      as_it_is y true e = let k : y ≡ slot = eqb_is y slot e in ap (slice_get a.payloads) k ∙ sym is ∙ ap Some (sym (uncached_same context t not_cached))
-        where
-          eqb_is : (y z : ℕ) → eqb y z ≡ true → y ≡ z
-          eqb_is y z e = ?
 
   module _ (cached : is_cached_in context t ≡ true) (live : is_live a g slot ≡ true) (first : IsArena a 1) (second : IsArena a 2) where
     abbrev v : Ticket
@@ -64,5 +62,17 @@ module _ (context : ℕ) (a : Slots) (g : GroupLists) (slot : ℕ) (t : Ticket) 
         (λ y. now y ∙ ap (λ (w : Ticket). if eqb y slot then Some w else slice_get a.payloads y) changed)
         (sym (ap one cached))
 
+pub returns-then-not-has_context : goal.returns-then-not-has_context
+returns-then-not-has_context c =
+    stays c.args.context c.args.arena.now c.args.lists.now c.args.slot c.get.result.now c.requires.slot c.get.ensures c.requires.chained (sym c.has_context.ensures ∙ c.if-not-has_context.true)
+
 pub returns : goal.returns
-returns c = ?
+returns c =
+    let a = c.args.arena.now in
+    let g = c.args.lists.now in
+    let same : Some c.get_mut.result.now ≡ Some c.get.result.now = c.get_mut.ensures.value ∙ sym c.get.ensures in
+    let cached : is_cached_in c.args.context c.get_mut.result.now ≡ true = ap (has_one (is_cached_in c.args.context)) same ∙ sym c.has_context.ensures ∙ c.if-not-has_context.false in
+    let first : IsArena a 1 = arena_is a 1 (omega (arith, c.partition.ensures.families)) c.partition.ensures.lists in
+    let second : IsArena a 2 = arena_is a 2 (omega (arith, c.partition.ensures.families)) c.partition-2.ensures.lists in
+    subst (λ (b : Slots). IsDroppedFrom c.args.context g (c.args.slot ∷ []) a b 1) (sym c.place.ensures)
+    (dropped c.args.context a g c.args.slot c.get_mut.result.now c.requires.slot c.get_mut.ensures.value c.requires.chained cached c.requires.live first second)
