@@ -1,6 +1,6 @@
 -- What is found along a chain is what is found among all of the group's tickets.
 use Rattle.std.proofs.Common.{◌≡◌, ℕ, ◌≤◌, ◌<◌, inl, inr, Bool, true, false, List, [], ◌∷◌, Option, Some, None, refl, ◌∙◌, sym, ap, ap₂, subst, arith}
-use Rattle.std.specs.Prelude.{◌||◌, ◌&&◌, ◌==◌, eqb, nat_eq, slice_get, IfSome, if◌then◌else◌}
+use Rattle.std.specs.Prelude.{◌||◌, ◌&&◌, ◌==◌, eqb, nat_eq, reverse, slice_get, IfSome, if◌then◌else◌}
 use Rattle.std.specs.Cmp.Lexicographic.{pointwise}
 use Rattle.std.proofs.lemmas.Bool.{cases_eq, eq-eqb, ne_eqb}
 use Rattle.bh_base.specs.declared.ticket.Ticket.{Ticket}
@@ -12,6 +12,7 @@ use Rattle.bh_cache.specs.Chains.{AreOn, IsChained, list_by_name, list_by_serial
 use Rattle.bh_cache.specs.Slots.{Slots, IsArena, has_one, has_serial_in, is_on, is_live, is_owned, serial_on, ticket_at}
 use Rattle.bh_cache.proofs.Earliest.{IsBest, best_among, earliest_best}
 use Rattle.bh_cache.proofs.Placed.{name_chain_not_uncached, name_list_within, serial_chain_not_free, serial_list_within}
+use Rattle.bh_cache.proofs.Places.{has_reverse}
 use Rattle.bh_cache.proofs.Walks.{find_off, find_on}
 
 module _ (a : Slots) (g : GroupLists) (f first last : ℕ) (to : Option Ticket → ℕ) (are : AreOn f first last to a g) where
@@ -52,9 +53,9 @@ module _ (a : Slots) (g : GroupLists) (serial : ℕ) (chained : IsChained a g) (
   pub serial_found_on : (r : Option ℕ) → r ≡ serial_on a 1 (serial_chain g serial) serial → IfSome r (λ x. has_serial_in serial (ticket_at a g x) ≡ true)
   serial_found_on None e = tt
   serial_found_on (Some x) e =
-      let r = find_on has_it (slots_on a 1 (serial_chain g serial)) x (sym e) in
+      let r = find_on has_it (reverse (slots_on a 1 (serial_chain g serial))) x (sym e) in
       let k = serial_chain_not_free a g chained.lists serial in
-      let live = live_on a g 1 g.serials g.free1 (list_by_serial g) chained.serials arena (serial_chain g serial) x (omega arith) (omega (arith, k)) (λ q. absurd (omega (arith, k, q))) r.0 in
+      let live = live_on a g 1 g.serials g.free1 (list_by_serial g) chained.serials arena (serial_chain g serial) x (omega arith) (omega (arith, k)) (λ q. absurd (omega (arith, k, q))) (sym (has_reverse x (slots_on a 1 (serial_chain g serial))) ∙ r.0) in
       ap (λ d. has_serial_in serial (if d then slice_get a.payloads x else None)) live ∙ r.1
 
   -- where it has none, no ticket of the group has the serial
@@ -63,7 +64,7 @@ module _ (a : Slots) (g : GroupLists) (serial : ℕ) (chained : IsChained a g) (
     where
       off : is_live a g x ≡ true → (b : Bool) → has_it x ≡ b → b ≡ false
       off live false is = refl
-      off live true is = sym is ∙ find_off has_it (slots_on a 1 (serial_chain g serial)) x (sym e) (on_chain x (slice_get a.payloads x) live refl is)
+      off live true is = sym is ∙ find_off has_it (reverse (slots_on a 1 (serial_chain g serial))) x (sym e) (has_reverse x (slots_on a 1 (serial_chain g serial)) ∙ on_chain x (slice_get a.payloads x) live refl is)
 
       by : (b : Bool) → is_live a g x ≡ b → has_serial_in serial (if b then slice_get a.payloads x else None) ≡ false
       by true live = off live (has_it x) refl

@@ -1,6 +1,7 @@
 -- Members and places of a list of slots, and payloads by their slots.
 use Rattle.std.proofs.Common.{◌≡◌, ℕ, zero, suc, ◌+◌, ◌<◌, ◌≤◌, inl, inr, Bool, true, false, List, [], ◌∷◌, ◌++◌, length, drop, set, take, Some, None, refl, ◌∙◌, sym, ap, arith, add-one}
-use Rattle.std.specs.Prelude.{◌||◌, eqb, slice_get, if◌then◌else◌}
+use Rattle.std.specs.Prelude.{◌||◌, eqb, reverse, slice_get, if◌then◌else◌}
+use mathlib.Core.List.{reverse_aux}
 use Rattle.std.proofs.lemmas.Bool.{cases_eq, eq-eqb, ne_eqb}
 use Rattle.bh_base.specs.declared.ticket.Ticket.{Ticket}
 use Rattle.bh_cache.specs.Slots.{has}
@@ -15,6 +16,23 @@ has_append x (z ∷ zs) ys = ap (λ b. eqb z x || b) (has_append x zs ys) ∙ re
     regroup : (a b c : Bool) → (a || (b || c)) ≡ ((a || b) || c)
     regroup true b c = refl
     regroup false b c = refl
+
+-- a list has the same members from its end
+pub has_reverse : (x : ℕ) (xs : List ℕ) → has x (reverse xs) ≡ has x xs
+has_reverse x xs = onto xs [] ∙ or_false (has x xs)
+  where
+    regroup : (a b c : Bool) → (b || (a || c)) ≡ ((a || b) || c)
+    regroup true true c = refl
+    regroup true false c = refl
+    regroup false b c = refl
+
+    onto : (ys zs : List ℕ) → has x (reverse_aux ys zs) ≡ (has x ys || has x zs)
+    onto [] zs = refl
+    onto (y ∷ ys) zs = onto ys (y ∷ zs) ∙ regroup (eqb y x) (has x ys) (has x zs)
+
+    or_false : (b : Bool) → (b || false) ≡ b
+    or_false true = refl
+    or_false false = refl
 
 -- a member of a list has a place on it
 pub has_place : (xs : List ℕ) (x : ℕ) → has x xs ≡ true → (k : ℕ) × (slice_get xs k ≡ Some x)

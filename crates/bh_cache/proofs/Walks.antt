@@ -1,6 +1,6 @@
 -- A walk along a list.
 use Rattle.std.proofs.Common.{◌≡◌, ℕ, suc, ◌+◌, ◌<◌, ◌⊎◌, inl, inr, Bool, true, false, cond, List, [], ◌∷◌, length, drop, Some, None, refl, ◌∙◌, sym, ap, arith, add-one}
-use Rattle.std.specs.Prelude.{◌||◌, eqb, slice_get, find, if◌then◌else◌}
+use Rattle.std.specs.Prelude.{◌||◌, eqb, reverse, slice_get, find, if◌then◌else◌}
 use Rattle.std.proofs.lemmas.Bool.{cases_eq, eq-eqb, ne_eqb}
 use Rattle.bh_base.specs.declared.ticket.Ticket.{Ticket}
 use Rattle.bh_cache.specs.declared.lists.GroupLists.{GroupLists}
@@ -35,15 +35,15 @@ arena_is a f wide law = record {
         out false e = refl
         out true e = let r = has_place xs x e in let z : 0 ≡ suc r.0 = same 0 (suc r.0) x refl r.1 in absurd (omega (arith, z))
 
-module _ (a : Slots) (f l serial i x : ℕ) (t : Ticket) (at : slice_get (slots_on a f l) i ≡ Some x) (is : slice_get a.payloads x ≡ Some t)
-    (rest : serial_on a f l serial ≡ find (λ x. has_serial_in serial (slice_get a.payloads x)) (drop i (slots_on a f l))) where
+module _ (a : Slots) (f l serial i x : ℕ) (t : Ticket) (at : slice_get (reverse (slots_on a f l)) i ≡ Some x) (is : slice_get a.payloads x ≡ Some t)
+    (rest : serial_on a f l serial ≡ find (λ x. has_serial_in serial (slice_get a.payloads x)) (drop i (reverse (slots_on a f l)))) where
   -- where the ticket at hand has the serial, its slot is the one that the list has for the serial
   pub serial_found : t.serial ≡ serial → Some x ≡ serial_on a f l serial
-  serial_found e = sym (rest ∙ found_at (λ x. has_serial_in serial (slice_get a.payloads x)) (slots_on a f l) i x at (ap (has_serial_in serial) is ∙ eq-eqb t.serial serial e))
+  serial_found e = sym (rest ∙ found_at (λ x. has_serial_in serial (slice_get a.payloads x)) (reverse (slots_on a f l)) i x at (ap (has_serial_in serial) is ∙ eq-eqb t.serial serial e))
 
   -- where it has another serial, the search goes on from the next place
-  pub serial_next : (t.serial ≡ serial → ⊥) → serial_on a f l serial ≡ find (λ x. has_serial_in serial (slice_get a.payloads x)) (drop (i + 1) (slots_on a f l))
-  serial_next ne = rest ∙ next_at (λ x. has_serial_in serial (slice_get a.payloads x)) (slots_on a f l) i x at (ap (has_serial_in serial) is ∙ ne_eqb t.serial serial ne)
+  pub serial_next : (t.serial ≡ serial → ⊥) → serial_on a f l serial ≡ find (λ x. has_serial_in serial (slice_get a.payloads x)) (drop (i + 1) (reverse (slots_on a f l)))
+  serial_next ne = rest ∙ next_at (λ x. has_serial_in serial (slice_get a.payloads x)) (reverse (slots_on a f l)) i x at (ap (has_serial_in serial) is ∙ ne_eqb t.serial serial ne)
 
 -- what a search along a list finds
 pub find_on : (p : ℕ → Bool) (xs : List ℕ) (x : ℕ) → find p xs ≡ Some x → (has x xs ≡ true) × (p x ≡ true)
