@@ -1,6 +1,7 @@
 pub mod Counts
 pub mod Dropped
 pub mod Earliest
+pub mod Found
 pub mod Listed
 pub mod Moves
 pub mod Order

@@ -38,6 +38,7 @@ pub(crate) fn serial_chain(lists: &GroupLists, serial: Serial) -> usize
     requires { lists.now.free1 ≡ lists.now.serials + 16 }
     ensures { result ≡ serial_chain lists.now serial }
 {
+    let lists = *lists;
     lists.serials + (serial % 16) as usize
 }
 
@@ -46,6 +47,7 @@ pub(crate) fn name_chain(lists: &GroupLists, context: u64, key: &Text<32>) -> us
     requires { lists.now.uncached ≡ lists.now.names + 16 }
     ensures { result ≡ name_chain lists.now (context, key.now) }
 {
+    let lists = *lists;
     lists.names + place_of_name(context, key)
 }
 

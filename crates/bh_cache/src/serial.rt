@@ -20,19 +20,19 @@ pub fn find_serial(arena: &Arena<Ticket, 3>, lists: &GroupLists, serial: Serial)
     find_on(arena, serial_chain(lists, serial), serial)
 }
 
-/// The slot of the chain whose ticket has the serial.
+/// The slot of the chain whose ticket has the serial, from the newest ticket on: most often it is one of the last.
 fn find_on(arena: &Arena<Ticket, 3>, chain: usize, serial: Serial) -> Option<u32>
     requires { chain < length (lists_in arena.now 1) }
     ensures { result ≡ serial_on arena.now 1 chain serial }
 {
     arena.partition(1);
-    let mut place = arena.front(1, chain);
+    let mut place = arena.back(1, chain);
     for _ in 0..arena.len_of(1, chain) {
         let slot = place?;
         if arena.get(slot).serial == serial {
             return Some(slot);
         }
-        place = arena.next(1, slot);
+        place = arena.previous(1, slot);
     }
     None
 }
