@@ -14,6 +14,7 @@ use Rattle.bh_tickets.specs.GroupSlots.{IsNumbered, IsGroupSlots, CanAdd, IsAdde
 use Rattle.bh_tickets.specs.declared.group_slots.Needless.TheVariants as needless
 use Rattle.bh_cache.proofs.Order.{order_same, order_without, order_append, front_on, front_none, count_le, count_same}
 use Rattle.bh_cache.proofs.Counts.{count_point}
+use Rattle.bh_cache.proofs.Places.{get_set}
 use Rattle.bh_tickets.proofs.Touched.{IsTouched, touched_both, payload_other, payload_slot, at_other, at_slot, touched_arena, touched_frame, owned_same}
 use Rattle.bh_cache.proofs.Moves.{has_without, list_to}
 use Rattle.bh_tickets.proofs.Own.{come_arranged, come_tickets, live_for}
@@ -227,3 +228,9 @@ pub add_from : (a b : Slots) (s : GroupSlots) (x to : ℕ) (v : Ticket) → IsAr
     → b ≡ with_placed s.lists x (Some v) (with_moved 0 x to (with_payload x v a)) → (r : GroupSlots) → r ≡ record (counted_in v s) { slots = record s.slots { taken = s.slots.taken + 1 }; next = s.next + 1 } → IsAdded a s v b r
 add_from a b s x to v arena group front can serials names is moved r made =
     add_is a b s x v arena group front can serials names (moved ∙ ap (λ l. with_placed s.lists x (Some v) (with_moved 0 x l (with_payload x v a))) is) r made
+
+-- a slot that was written, moved and placed, as the code reads it
+pub placed_from : (a z m b : Slots) (g : GroupLists) (x to : ℕ) (v : Ticket) → x < length a.payloads → z ≡ with_payload x v a → m ≡ with_moved 0 x to z → b ≡ with_placed g x (slice_get m.payloads x) m → b ≡ with_placed g x (Some v) (with_moved 0 x to (with_payload x v a))
+placed_from a z m b g x to v lt written moved placed =
+    placed ∙ ap (λ (y : Slots). with_placed g x (slice_get y.payloads x) y) (moved ∙ ap (λ (y : Slots). with_moved 0 x to y) written)
+    ∙ ap (λ o. with_placed g x o (with_moved 0 x to (with_payload x v a))) (get_set a.payloads x x v lt ∙ ap (λ c. if c then Some v else slice_get a.payloads x) (eq-eqb x x refl))

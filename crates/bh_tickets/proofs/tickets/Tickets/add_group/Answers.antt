@@ -4,6 +4,18 @@ use Rattle.bh_tickets.specs.Whole.{view_of}
 use Rattle.bh_tickets.proofs.AddedGroup.{whole_more, view_more, whole_grown, view_grown}
 use Rattle.bh_tickets.proofs.tickets.Tickets.add_group.Goals as goal
 
+pub invariant_of-self-in_err-lists : goal.invariant_of-self-in_err-lists
+invariant_of-self-in_err-lists c =
+    let ss = c.self.inside.groups.items in
+    let now = whole_more c.self.inside.arena c.add_lists.new.arena ss c.self.invariant c.add_lists.ensures.more in
+    rw c.reserve.ensures.items now
+
+pub returns-in_err-lists-clause-err : goal.returns-in_err-lists-clause-err
+returns-in_err-lists-clause-err c =
+    let ss = c.self.inside.groups.items in
+    let now : view_of c.add_lists.new.arena c.reserve.new.self.items ≡ c.args.self.now = rw c.reserve.ensures.items (view_more c.self.inside.arena c.add_lists.new.arena ss c.self.invariant c.add_lists.ensures.more ∙ c.self.view_is) in
+    search (rules, now)
+
 pub invariant_of-self-in_err-add_slots : goal.invariant_of-self-in_err-add_slots
 invariant_of-self-in_err-add_slots c =
     let ss = c.self.inside.groups.items in
