@@ -105,7 +105,8 @@ module _ (p : Ticket → Bool) (ps : List Ticket) where
         by true e = better found e best
         by false e = no_better found e best
 
-  earliest_best : (xs : List ℕ) (seen : ℕ → Bool) (found : Option ℕ) → IsBest p ps seen found → IsBest p ps (λ y. seen y || has y xs) (earliest p ps found xs)
+  -- along a list, what a walk finds is the best of what was seen before and of the list
+  pub earliest_best : (xs : List ℕ) (seen : ℕ → Bool) (found : Option ℕ) → IsBest p ps seen found → IsBest p ps (λ y. seen y || has y xs) (earliest p ps found xs)
   earliest_best [] seen found best =
       let e : seen ≡ (λ y. seen y || false) = λ i y. same (seen y) i in
       subst (λ (s : ℕ → Bool). IsBest p ps s found) e best
@@ -118,16 +119,19 @@ module _ (p : Ticket → Bool) (ps : List Ticket) where
       let e : (λ y. (seen y || eqb x y) || has y xs) ≡ (λ y. seen y || (eqb x y || has y xs)) = λ i y. regroup (seen y) (eqb x y) (has y xs) i in
       subst (λ (s : ℕ → Bool). IsBest p ps s (earliest p ps after xs)) e (earliest_best xs (λ y. seen y || eqb x y) after (next_best seen x found best))
 
--- the best along the three lists of a group
-pub group_best : (p : Ticket → Bool) (a : Slots) (g : GroupLists) (q r s : Option ℕ) → q ≡ earliest p a.payloads None (slots_on a 0 g.queued) → r ≡ earliest p a.payloads q (slots_on a 0 g.running) → s ≡ earliest p a.payloads r (slots_on a 0 g.settled) → IsBest p a.payloads (is_live a g) s
-group_best p a g q r s is_q is_r is_s =
-    let ps = a.payloads in
-    let nothing : IsBest p ps (λ y. false) None = λ y e. absurd cc in
-    let first : IsBest p ps (λ y. is_on a 0 g.queued y) q = subst (IsBest p ps (λ y. is_on a 0 g.queued y)) (sym is_q) (earliest_best p ps (slots_on a 0 g.queued) (λ y. false) None nothing) in
-    let second : IsBest p ps (λ y. is_on a 0 g.queued y || is_on a 0 g.running y) r = subst (IsBest p ps (λ y. is_on a 0 g.queued y || is_on a 0 g.running y)) (sym is_r) (earliest_best p ps (slots_on a 0 g.running) (λ y. is_on a 0 g.queued y) q first) in
-    let third = earliest_best p ps (slots_on a 0 g.settled) (λ y. is_on a 0 g.queued y || is_on a 0 g.running y) r second in
-    let e : (λ y. (is_on a 0 g.queued y || is_on a 0 g.running y) || is_on a 0 g.settled y) ≡ is_live a g = λ i y. regroup (is_on a 0 g.queued y) (is_on a 0 g.running y) (is_on a 0 g.settled y) i in
-    subst (λ (seen : ℕ → Bool). IsBest p ps seen s) e (subst (IsBest p ps (λ y. (is_on a 0 g.queued y || is_on a 0 g.running y) || is_on a 0 g.settled y)) (sym is_s) third)
+-- the best of some slots is the best of more, where none of the others passes
+pub best_among : (p : Ticket → Bool) (ps : List Ticket) (seen live : ℕ → Bool) → ((x : ℕ) → seen x ≡ true → live x ≡ true) → ((x : ℕ) → live x ≡ true → has_one p (slice_get ps x) ≡ true → seen x ≡ true)
+    → (r : Option ℕ) → IsBest p ps seen r → IsBest p ps live r
+best_among p ps seen live into back None best = λ x l. by x l (has_one p (slice_get ps x)) refl
+  where
+    by : (x : ℕ) → live x ≡ true → (b : Bool) → has_one p (slice_get ps x) ≡ b → b ≡ false
+    by x l false e = refl
+    by x l true e = sym e ∙ best x (back x l e)
+best_among p ps seen live into back (Some w) best = record {
+  seen_it = into w best.seen_it;
+  passes = best.passes;
+  least = λ y l q. best.least y (back y l q) q;
+}
 
 -- ---- what that says of the group's tickets
 

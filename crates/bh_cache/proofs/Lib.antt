@@ -1,7 +1,10 @@
 pub mod Counts
 pub mod Dropped
 pub mod Earliest
+pub mod Found
 pub mod Listed
+pub mod Moves
 pub mod Order
+pub mod Placed
 pub mod Places
 pub mod Walks

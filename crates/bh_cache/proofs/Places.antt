@@ -1,6 +1,7 @@
 -- Members and places of a list of slots, and payloads by their slots.
 use Rattle.std.proofs.Common.{◌≡◌, ℕ, zero, suc, ◌+◌, ◌<◌, ◌≤◌, inl, inr, Bool, true, false, List, [], ◌∷◌, ◌++◌, length, drop, set, take, Some, None, refl, ◌∙◌, sym, ap, arith, add-one}
-use Rattle.std.specs.Prelude.{◌||◌, eqb, slice_get, if◌then◌else◌}
+use Rattle.std.specs.Prelude.{◌||◌, eqb, reverse, slice_get, if◌then◌else◌}
+use mathlib.Core.List.{reverse_aux}
 use Rattle.std.proofs.lemmas.Bool.{cases_eq, eq-eqb, ne_eqb}
 use Rattle.bh_base.specs.declared.ticket.Ticket.{Ticket}
 use Rattle.bh_cache.specs.Slots.{has}
@@ -16,6 +17,23 @@ has_append x (z ∷ zs) ys = ap (λ b. eqb z x || b) (has_append x zs ys) ∙ re
     regroup true b c = refl
     regroup false b c = refl
 
+-- a list has the same members from its end
+pub has_reverse : (x : ℕ) (xs : List ℕ) → has x (reverse xs) ≡ has x xs
+has_reverse x xs = onto xs [] ∙ or_false (has x xs)
+  where
+    regroup : (a b c : Bool) → (b || (a || c)) ≡ ((a || b) || c)
+    regroup true true c = refl
+    regroup true false c = refl
+    regroup false b c = refl
+
+    onto : (ys zs : List ℕ) → has x (reverse_aux ys zs) ≡ (has x ys || has x zs)
+    onto [] zs = refl
+    onto (y ∷ ys) zs = onto ys (y ∷ zs) ∙ regroup (eqb y x) (has x ys) (has x zs)
+
+    or_false : (b : Bool) → (b || false) ≡ b
+    or_false true = refl
+    or_false false = refl
+
 -- a member of a list has a place on it
 pub has_place : (xs : List ℕ) (x : ℕ) → has x xs ≡ true → (k : ℕ) × (slice_get xs k ≡ Some x)
 has_place [] x e = absurd cc
@@ -23,6 +41,16 @@ has_place (y ∷ ys) x e = elim (cases_eq y x) [
   | inl q ↦ (0, ap Some q)
   | inr ne ↦ let r = has_place ys x (ap (λ b. b || has x ys) (sym (ne_eqb y x ne)) ∙ e) in (suc r.0, r.1)
 ]
+
+-- what has a place on a list is a member of it
+pub has_at : (xs : List ℕ) (k x : ℕ) → slice_get xs k ≡ Some x → has x xs ≡ true
+has_at [] k x e = absurd cc
+has_at (y ∷ ys) zero x e = let q : y ≡ x = cc in ap (λ b. b || has x ys) (eq-eqb y x q)
+has_at (y ∷ ys) (suc k) x e = ap (λ b. eqb y x || b) (has_at ys k x e) ∙ or_true (eqb y x)
+  where
+    or_true : (b : Bool) → (b || true) ≡ true
+    or_true true = refl
+    or_true false = refl
 
 -- ---- what is ahead of a place, and what is behind it
 

@@ -1,13 +1,13 @@
 -- A walk along a list.
 use Rattle.std.proofs.Common.{◌≡◌, ℕ, suc, ◌+◌, ◌<◌, ◌⊎◌, inl, inr, Bool, true, false, cond, List, [], ◌∷◌, length, drop, Some, None, refl, ◌∙◌, sym, ap, arith, add-one}
-use Rattle.std.specs.Prelude.{◌||◌, eqb, slice_get, find, if◌then◌else◌}
+use Rattle.std.specs.Prelude.{◌||◌, eqb, reverse, slice_get, find, if◌then◌else◌}
 use Rattle.std.proofs.lemmas.Bool.{cases_eq, eq-eqb, ne_eqb}
 use Rattle.bh_base.specs.declared.ticket.Ticket.{Ticket}
 use Rattle.bh_cache.specs.declared.lists.GroupLists.{GroupLists}
 use Rattle.bh_slot_arena.specs.Lists.{IsPartition}
 use Rattle.bh_slot_arena.specs.Slots.{lists_in, slots_on}
 use Rattle.bh_cache.proofs.Places.{drop_at, has_place}
-use Rattle.bh_cache.specs.Slots.{Slots, has, is_on, is_live, ticket_at, has_serial_in, serial_on, Once, IsArena}
+use Rattle.bh_cache.specs.Slots.{Slots, has, is_on, is_live, is_live_list, has_serial_in, serial_on, Once, IsArena}
 
 module _ (p : ℕ → Bool) (xs : List ℕ) (i x : ℕ) (at : slice_get xs i ≡ Some x) where
   -- a search from a place on finds the slot at that place, where it passes
@@ -35,18 +35,18 @@ arena_is a f wide law = record {
         out false e = refl
         out true e = let r = has_place xs x e in let z : 0 ≡ suc r.0 = same 0 (suc r.0) x refl r.1 in absurd (omega (arith, z))
 
-module _ (a : Slots) (l serial i x : ℕ) (t : Ticket) (at : slice_get (slots_on a 0 l) i ≡ Some x) (is : slice_get a.payloads x ≡ Some t)
-    (rest : serial_on a l serial ≡ find (λ x. has_serial_in serial (slice_get a.payloads x)) (drop i (slots_on a 0 l))) where
+module _ (a : Slots) (f l serial i x : ℕ) (t : Ticket) (at : slice_get (reverse (slots_on a f l)) i ≡ Some x) (is : slice_get a.payloads x ≡ Some t)
+    (rest : serial_on a f l serial ≡ find (λ x. has_serial_in serial (slice_get a.payloads x)) (drop i (reverse (slots_on a f l)))) where
   -- where the ticket at hand has the serial, its slot is the one that the list has for the serial
-  pub serial_found : t.serial ≡ serial → Some x ≡ serial_on a l serial
-  serial_found e = sym (rest ∙ found_at (λ x. has_serial_in serial (slice_get a.payloads x)) (slots_on a 0 l) i x at (ap (has_serial_in serial) is ∙ eq-eqb t.serial serial e))
+  pub serial_found : t.serial ≡ serial → Some x ≡ serial_on a f l serial
+  serial_found e = sym (rest ∙ found_at (λ x. has_serial_in serial (slice_get a.payloads x)) (reverse (slots_on a f l)) i x at (ap (has_serial_in serial) is ∙ eq-eqb t.serial serial e))
 
   -- where it has another serial, the search goes on from the next place
-  pub serial_next : (t.serial ≡ serial → ⊥) → serial_on a l serial ≡ find (λ x. has_serial_in serial (slice_get a.payloads x)) (drop (i + 1) (slots_on a 0 l))
-  serial_next ne = rest ∙ next_at (λ x. has_serial_in serial (slice_get a.payloads x)) (slots_on a 0 l) i x at (ap (has_serial_in serial) is ∙ ne_eqb t.serial serial ne)
+  pub serial_next : (t.serial ≡ serial → ⊥) → serial_on a f l serial ≡ find (λ x. has_serial_in serial (slice_get a.payloads x)) (drop (i + 1) (reverse (slots_on a f l)))
+  serial_next ne = rest ∙ next_at (λ x. has_serial_in serial (slice_get a.payloads x)) (reverse (slots_on a f l)) i x at (ap (has_serial_in serial) is ∙ ne_eqb t.serial serial ne)
 
 -- what a search along a list finds
-find_on : (p : ℕ → Bool) (xs : List ℕ) (x : ℕ) → find p xs ≡ Some x → (has x xs ≡ true) × (p x ≡ true)
+pub find_on : (p : ℕ → Bool) (xs : List ℕ) (x : ℕ) → find p xs ≡ Some x → (has x xs ≡ true) × (p x ≡ true)
 find_on p [] x e = absurd cc
 find_on p (y ∷ ys) x e = by (p y) refl e (find_on p ys x)
   where
@@ -58,7 +58,8 @@ find_on p (y ∷ ys) x e = by (p y) refl e (find_on p ys x)
         either true c e = refl
         either false c e = e
 
-find_off : (p : ℕ → Bool) (xs : List ℕ) (x : ℕ) → find p xs ≡ None → has x xs ≡ true → p x ≡ false
+-- and where it finds none
+pub find_off : (p : ℕ → Bool) (xs : List ℕ) (x : ℕ) → find p xs ≡ None → has x xs ≡ true → p x ≡ false
 find_off p [] x e h = absurd cc
 find_off p (y ∷ ys) x e h = by (p y) refl e (find_off p ys x)
   where
@@ -75,9 +76,6 @@ live_of false true r h = refl
 live_of false false true h = refl
 live_of false false false h = elim h [ inl e ↦ e | inr k ↦ elim k [ inl e ↦ e | inr e ↦ e ] ]
 
-abbrev live_for_list : Slots → GroupLists → ℕ → ℕ → Type 0
-live_for_list a g l x = is_on a 0 l x ≡ true → is_live a g x ≡ true
-
 -- a slot on the group's list of queued tickets is on one of its lists with tickets
 pub on_queued : (a : Slots) (g : GroupLists) (x : ℕ) → is_on a 0 g.queued x ≡ true → is_live a g x ≡ true
 on_queued a g x e = live_of (is_on a 0 g.queued x) (is_on a 0 g.running x) (is_on a 0 g.settled x) (inl e)
@@ -90,21 +88,18 @@ on_running a g x e = live_of (is_on a 0 g.queued x) (is_on a 0 g.running x) (is_
 pub on_settled : (a : Slots) (g : GroupLists) (x : ℕ) → is_on a 0 g.settled x ≡ true → is_live a g x ≡ true
 on_settled a g x e = live_of (is_on a 0 g.queued x) (is_on a 0 g.running x) (is_on a 0 g.settled x) (inr (inr e))
 
--- the slot that a list with tickets has for a serial has a ticket of that serial
-pub serial_at : (a : Slots) (g : GroupLists) (l serial x : ℕ) → live_for_list a g l x → Some x ≡ serial_on a l serial → has_serial_in serial (ticket_at a g x) ≡ true
-serial_at a g l serial x live e =
-    let r = find_on (λ x. has_serial_in serial (slice_get a.payloads x)) (slots_on a 0 l) x (sym e) in
-    ap (λ b. has_serial_in serial (if b then slice_get a.payloads x else None)) (live r.0) ∙ r.1
-
--- where no list with tickets has a slot for the serial, no ticket of the group has it
-pub serial_none : (a : Slots) (g : GroupLists) (serial : ℕ) → None ≡ serial_on a g.queued serial → None ≡ serial_on a g.running serial → None ≡ serial_on a g.settled serial → (x : ℕ) → has_serial_in serial (ticket_at a g x) ≡ false
-serial_none a g serial q r s x = by (is_on a 0 g.queued x) (is_on a 0 g.running x) (is_on a 0 g.settled x) refl refl refl
+-- a slot on one of the group's lists with tickets has one
+pub on_live_list : (a : Slots) (g : GroupLists) (l x : ℕ) → is_live_list g l ≡ true → is_on a 0 l x ≡ true → is_live a g x ≡ true
+on_live_list a g l x live on = elim (cases_eq g.queued l) [
+  | inl e ↦ on_queued a g x (ap (λ m. is_on a 0 m x) e ∙ on)
+  | inr not_queued ↦ elim (cases_eq g.running l) [
+    | inl e ↦ on_running a g x (ap (λ m. is_on a 0 m x) e ∙ on)
+    | inr not_running ↦ elim (cases_eq g.settled l) [
+      | inl e ↦ on_settled a g x (ap (λ m. is_on a 0 m x) e ∙ on)
+      | inr not_settled ↦ absurd (none (eqb g.queued l) (eqb g.running l) (eqb g.settled l) (ne_eqb g.queued l not_queued) (ne_eqb g.running l not_running) (ne_eqb g.settled l not_settled) live)
+    ]
+  ]
+]
   where
-    off : (l : ℕ) → None ≡ serial_on a l serial → is_on a 0 l x ≡ true → has_serial_in serial (slice_get a.payloads x) ≡ false
-    off l e h = find_off (λ x. has_serial_in serial (slice_get a.payloads x)) (slots_on a 0 l) x (sym e) h
-
-    by : (b c d : Bool) → is_on a 0 g.queued x ≡ b → is_on a 0 g.running x ≡ c → is_on a 0 g.settled x ≡ d → has_serial_in serial (if (b || (c || d)) then slice_get a.payloads x else None) ≡ false
-    by true c d e f h = off g.queued q e
-    by false true d e f h = off g.running r f
-    by false false true e f h = off g.settled s h
-    by false false false e f h = refl
+    none : (p q r : Bool) → p ≡ false → q ≡ false → r ≡ false → (p || (q || r)) ≡ true → ⊥
+    none p q r d e f h = cc

@@ -1,6 +1,7 @@
 //! The lists of a group in the arena that holds the tickets of all groups.
 
-/// The numbers of one group's lists, which all are lists of the first family.
+/// The numbers of one group's lists in each family of the arena: the first has its tickets by state, the second by
+/// serial, and the third by cache name. Of sixteen chains it has the number of the first, on which the others follow.
 #[derive(Clone, Copy, Debug)]
 pub struct GroupLists {
     /// Slots that have no ticket.
@@ -11,4 +12,14 @@ pub struct GroupLists {
     pub running: usize,
     /// All other tickets.
     pub settled: usize,
+    /// Of the second family: sixteen chains of tickets, by serial.
+    pub serials: usize,
+    /// Of the second family: slots that have no ticket.
+    pub free1: usize,
+    /// Of the third family: sixteen chains of cached tickets, by request context and cache key.
+    pub names: usize,
+    /// Of the third family: tickets that are not cached.
+    pub uncached: usize,
+    /// Of the third family: slots that have no ticket.
+    pub free2: usize,
 }

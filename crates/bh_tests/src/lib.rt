@@ -13,6 +13,8 @@ mod audit_compare;
 #[cfg(test)]
 mod cache;
 #[cfg(test)]
+mod chains;
+#[cfg(test)]
 mod circuit;
 #[cfg(test)]
 mod conversations;

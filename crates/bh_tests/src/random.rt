@@ -67,10 +67,19 @@ fn below(rng: &mut Xoshiro256PlusPlus, limit: u64) -> u64
     rng.next_u64() % limit
 }
 
-/// A request, cached in one of two contexts or not at all.
+/// A context: each fourth time one of forty, else one of two.
+fn context(rng: &mut Xoshiro256PlusPlus) -> u64 {
+    match below(rng, 4) {
+        0 => below(rng, 40),
+        _ => below(rng, 2),
+    }
+}
+
+/// A request, cached under one of two keys in a context, or not at all.
 fn request(rng: &mut Xoshiro256PlusPlus) -> Request {
     let cache = match below(rng, 4) {
-        context @ 0..=1 => Some((context, text("key"))),
+        0 => Some((context(rng), text("key"))),
+        1 => Some((context(rng), text("other key"))),
         _ => None,
     };
     let arg = text("arg");
@@ -122,7 +131,7 @@ fn operation(rng: &mut Xoshiro256PlusPlus, serial: u64) -> Op {
         },
         _ => match below(rng, 2) {
             0 => Op::Close {
-                context: below(rng, 2),
+                context: context(rng),
             },
             _ => Op::Read,
         },

@@ -1,27 +1,26 @@
 -- A group is added.
 use Rattle.std.proofs.Common.{◌≡◌, ℕ, zero, suc, ◌+◌, ◌-◌, ◌<◌, ◌≤◌, ◌⊎◌, inl, inr, Bool, true, false, List, [], ◌∷◌, ◌++◌, map, length, get_or, replicate, Option, Some, None, refl, ◌∙◌, sym, ap, subst, arith, length-append, length-set, get_or-set_same, get_or-set_other}
 use Rattle.std.specs.Prelude.{◌||◌, eqb, slice_get, if◌then◌else◌}
-use Rattle.std.specs.List.{range_with_len, zip}
-use Rattle.std.proofs.Math.ListN.{get_or-append}
-use Rattle.std.proofs.Math.Seq.{get_or-append_right}
+use Rattle.std.specs.List.{range_with_len}
 use Rattle.std.proofs.lemmas.Bool.{cases_eq, eq-eqb, ne_eqb}
 use Rattle.std.proofs.lemmas.List.{map-append, length-replicate}
 use Rattle.std.proofs.lemmas.List.Sums.{sum_by-append, sum_by-cons}
 use Rattle.bh_base.specs.declared.ticket.Ticket.{Ticket}
-use Rattle.bh_slot_arena.specs.Lists.{put_last}
 use Rattle.bh_slot_arena.specs.Slots.{lists_in, slots_on}
 use Rattle.bh_cache.specs.declared.lists.GroupLists.{GroupLists}
 use Rattle.bh_cache.specs.Listed.{listed, put_in}
-use Rattle.bh_cache.specs.Slots.{Slots, has, is_live, is_owned, ticket_at, has_one, one, count_below, IsApart, InOrder}
+use Rattle.bh_cache.specs.Slots.{Slots, has, is_live, is_on, is_owned, ticket_at, has_one, one, count_below, IsApart, IsArena, InOrder, Once}
 use Rattle.bh_cache.proofs.Order.{count_same}
 use Rattle.bh_base.specs.Tickets.{is_queued, is_in_fallback}
 use Rattle.bh_tickets.specs.declared.group_slots.GroupSlots.{GroupSlots}
 use Rattle.bh_tickets.specs.declared.group_slots.Needless.TheVariants as needless
 use Rattle.bh_tickets.specs.GroupSlots.{IsGroupSlots, count_at, no_slot_taken, is_any, is_busy}
-use Rattle.bh_tickets.specs.Growth.{HasNewLists, IsGrown, lists_from}
+use Rattle.bh_tickets.specs.Growth.{HasMoreLists, HasNewLists, IsGrown, lists_from}
 use Rattle.bh_tickets.specs.TicketsView.{GroupTickets, no_tickets_in}
 use Rattle.bh_tickets.specs.Whole.{group_of, groups_of, view_of, slotted, slot_in, AreGroupSlots}
 use Rattle.bh_tickets.proofs.Others.{IsSame, group_same, slots_same}
+use Rattle.bh_tickets.proofs.AddedLists.{IsFamilyGrown, append_empty, family_count, family_empty, family_other, family_slots, family_there, put_first, put_second, put_third}
+use Rattle.bh_cache.specs.Chains.{AreOn, IsChained, list_by_name, list_by_serial}
 
 -- ---- lists
 
@@ -81,53 +80,66 @@ nothing_slotted at (suc n) none = ap (λ o. slot_in n o (slotted at n)) (none n)
 
 -- ---- lists more
 
-module _ (a b : Slots) (ss : List GroupSlots) (whole : AreGroupSlots a ss) (more : HasNewLists a b) where
-  -- the lists are those from before, and four empty ones after them
-  pub lists_more : lists_in b 0 ≡ lists_in a 0 ++ replicate 4 []
-  lists_more = ap (λ (z : Slots). lists_in z 0) more.is ∙ get_or-set_same a.families 0 (lists_in a 0 ++ replicate 4 []) [] whole.arena.wide
+module _ (n m k : ℕ) (a b : Slots) (ss : List GroupSlots) (whole : AreGroupSlots a ss) (more : HasNewLists n m k a b) where
+  on_first : (l : ℕ) → slots_on b 0 l ≡ slots_on a 0 l
+  on_first l = ap (λ (ls : List (List ℕ)). get_or ls l []) more.first ∙ append_empty (lists_in a 0) n l
 
-  -- the payloads of the slots are as they were
-  pub same_payloads : b.payloads ≡ a.payloads
-  same_payloads = ap (λ (z : Slots). z.payloads) more.is
+  on_second : (l : ℕ) → slots_on b 1 l ≡ slots_on a 1 l
+  on_second l = ap (λ (ls : List (List ℕ)). get_or ls l []) more.second ∙ append_empty (lists_in a 1) m l
 
-  same_limit : b.limit ≡ a.limit
-  same_limit = ap (λ (z : Slots). z.limit) more.is
+  on_third : (l : ℕ) → slots_on b 2 l ≡ slots_on a 2 l
+  on_third l = ap (λ (ls : List (List ℕ)). get_or ls l []) more.third ∙ append_empty (lists_in a 2) k l
 
-  same_more : (i : ℕ) (s : GroupSlots) → slice_get ss i ≡ Some s → IsSame s.lists a b
-  same_more i s e =
-      let there : s.lists.settled < length (lists_in a 0) = (whole.each i s e).there in
-      record {
-        slots = omega (arith, ap (λ (ps : List Ticket). length ps) same_payloads);
-        count = omega (arith, ap (λ (ls : List (List ℕ)). length ls) lists_more, length-append (lists_in a 0) (replicate 4 []));
-        lists = λ l own. ap (λ (ls : List (List ℕ)). get_or ls l []) lists_more ∙ get_or-append (lists_in a 0) (replicate 4 []) [] l (omega (arith, own.to, there));
-        payloads = λ l x own on. ap (λ (ps : List Ticket). slice_get ps x) same_payloads;
-      }
+  on_same : (l x : ℕ) → is_on b 0 l x ≡ is_on a 0 l x
+  on_same l x = ap (has x) (on_first l)
 
-  -- with four lists more, the groups are as they should be
-  pub whole_more : AreGroupSlots b ss
-  whole_more = record {
-    arena = more.arena;
-    each = λ i s e. slots_same a b s (same_more i s e) whole.arena (whole.each i s e);
-    apart = whole.apart;
-    slots = ap (λ (ps : List Ticket). length ps) same_payloads ∙ whole.slots;
+  arena_more : IsArena b 0
+  arena_more = record {
+    wide = omega (arith, whole.arena.wide, more.families);
+    apart = λ l m x p q. whole.arena.apart l m x (sym (on_same l x) ∙ p) (sym (on_same m x) ∙ q);
+    within = λ l x p. let lt : x < length a.payloads = whole.arena.within l x (sym (on_same l x) ∙ p) in omega (arith, lt, ap (λ (ps : List Ticket). length ps) more.payloads);
+    once = λ l. subst Once (sym (on_first l)) (whole.arena.once l);
   }
 
-  -- with four lists more, contracts see of the groups what they saw before
-  pub view_more : view_of b ss ≡ view_of a ss
-  view_more = λ i. record { limit = same_limit i; groups = map_same (group_of b) (group_of a) ss (λ j s e. group_same a b s (same_more j s e) whole.arena (whole.each j s e)) i }
+  same_more : (i : ℕ) (s : GroupSlots) → slice_get ss i ≡ Some s → IsSame s.lists a b
+  same_more i s e = record {
+    slots = omega (arith, ap (λ (ps : List Ticket). length ps) more.payloads);
+    count = omega (arith, ap (λ (ls : List (List ℕ)). length ls) more.first, length-append (lists_in a 0) (replicate n []));
+    lists = λ l own. on_first l;
+    payloads = λ l x own on. ap (λ (ps : List Ticket). slice_get ps x) more.payloads;
+    serials = record {
+      count = omega (arith, ap (λ (ls : List (List ℕ)). length ls) more.second, length-append (lists_in a 1) (replicate m []));
+      lists = λ l from to. on_second l;
+    };
+    names = record {
+      count = omega (arith, ap (λ (ls : List (List ℕ)). length ls) more.third, length-append (lists_in a 2) (replicate k []));
+      lists = λ l from to. on_third l;
+    };
+  }
+
+  whole_new : AreGroupSlots b ss
+  whole_new = record {
+    arena = arena_more;
+    each = λ i s e. slots_same a b s (same_more i s e) whole.arena (whole.each i s e);
+    apart = whole.apart;
+    slots = ap (λ (ps : List Ticket). length ps) more.payloads ∙ whole.slots;
+  }
+
+  view_new : view_of b ss ≡ view_of a ss
+  view_new = λ i. record { limit = more.limit i; groups = map_same (group_of b) (group_of a) ss (λ j s e. group_same a b s (same_more j s e) whole.arena (whole.each j s e)) i }
+
+-- with some empty lists more, the groups are as they should be
+pub whole_more : (a b : Slots) (ss : List GroupSlots) → AreGroupSlots a ss → HasMoreLists a b → AreGroupSlots b ss
+whole_more a b ss whole more = whole_new more.first more.second more.third a b ss whole more.lists
+
+-- with some empty lists more, contracts see of the groups what they saw before
+pub view_more : (a b : Slots) (ss : List GroupSlots) → AreGroupSlots a ss → HasMoreLists a b → view_of b ss ≡ view_of a ss
+view_more a b ss whole more = view_new more.first more.second more.third a b ss whole more.lists
 
 -- ---- and slots
 
-first_family : (fs : List (List (List ℕ))) (to : ℕ) (xs : List ℕ) → 0 < length fs → get_or (map (λ p. put_last xs p.0 p.1) (zip (to ∷ []) fs)) 0 [] ≡ put_last xs to (get_or fs 0 [])
-first_family [] to xs lt = absurd (omega (arith, lt))
-first_family (f ∷ fs) to xs lt = refl
-
-empty_list : (k i : ℕ) → get_or {A = List ℕ} (replicate {A = List ℕ} k []) i [] ≡ []
-empty_list zero i = refl
-empty_list (suc k) zero = refl
-empty_list (suc k) (suc i) = empty_list k i
-
-module _ (a m b : Slots) (ss : List GroupSlots) (g : GroupLists) (count : ℕ) (whole : AreGroupSlots a ss) (more : HasNewLists a m) (from : g ≡ lists_from (length (lists_in a 0))) (grown : IsGrown g count m b) (few : count ≤ 4096) where
+module _ (a m b : Slots) (ss : List GroupSlots) (g : GroupLists) (count : ℕ) (whole : AreGroupSlots a ss) (more : HasNewLists 4 17 18 a m) (from : g ≡ lists_from (length (lists_in a 0)) (length (lists_in a 1)) (length (lists_in a 2)))
+    (grown : IsGrown g count m b) (few : count ≤ 4096) where
   is_free : g.free ≡ length (lists_in a 0)
   is_free = ap (λ (z : GroupLists). z.free) from
 
@@ -140,26 +152,59 @@ module _ (a m b : Slots) (ss : List GroupSlots) (g : GroupLists) (count : ℕ) (
   is_settled_list : g.settled ≡ length (lists_in a 0) + 3
   is_settled_list = ap (λ (z : GroupLists). z.settled) from
 
-  lists_m : length (lists_in m 0) ≡ length (lists_in a 0) + 4
-  lists_m = ap (λ (ls : List (List ℕ)). length ls) (lists_more a m ss whole more) ∙ length-append (lists_in a 0) (replicate 4 [])
+  is_serials : g.serials ≡ length (lists_in a 1)
+  is_serials = ap (λ (z : GroupLists). z.serials) from
 
-  empty_in_m : (l : ℕ) → length (lists_in a 0) ≤ l → slots_on m 0 l ≡ []
-  empty_in_m l le = ap (λ (ls : List (List ℕ)). get_or ls l []) (lists_more a m ss whole more) ∙ get_or-append_right (lists_in a 0) (replicate 4 []) l [] le ∙ empty_list 4 (l - length (lists_in a 0))
+  is_free1 : g.free1 ≡ length (lists_in a 1) + 16
+  is_free1 = ap (λ (z : GroupLists). z.free1) from
 
-  lists_b : lists_in b 0 ≡ put_last (range_with_len (length m.payloads) count) g.free (lists_in m 0)
-  lists_b = ap (λ (z : Slots). lists_in z 0) grown.is ∙ first_family m.families g.free (range_with_len (length m.payloads) count) more.arena.wide
+  is_names : g.names ≡ length (lists_in a 2)
+  is_names = ap (λ (z : GroupLists). z.names) from
 
-  list_count : length (lists_in b 0) ≡ length (lists_in m 0)
-  list_count = ap (λ (ls : List (List ℕ)). length ls) lists_b ∙ length-set (lists_in m 0) g.free _
+  is_uncached : g.uncached ≡ length (lists_in a 2) + 16
+  is_uncached = ap (λ (z : GroupLists). z.uncached) from
 
-  other_list : (l : ℕ) → (l ≡ g.free → ⊥) → slots_on b 0 l ≡ slots_on m 0 l
-  other_list l ne = ap (λ (ls : List (List ℕ)). get_or ls l []) lists_b ∙ get_or-set_other (lists_in m 0) g.free l _ [] ne
+  is_free2 : g.free2 ≡ length (lists_in a 2) + 17
+  is_free2 = ap (λ (z : GroupLists). z.free2) from
+
+  three : 2 < length m.families
+  three = family_there m.families 2 (let k : length (lists_in m 2) ≡ length (lists_in a 2) + 18 = ap (λ (ls : List (List ℕ)). length ls) more.third ∙ length-append (lists_in a 2) (replicate 18 []) in omega (arith, k))
+
+  first_grown : IsFamilyGrown 0 4 g.free (range_with_len (length m.payloads) count) a b
+  first_grown = record {
+    between = lists_in m 0;
+    more = more.first;
+    is = ap (λ (z : Slots). lists_in z 0) grown.is ∙ put_first g.free g.free1 g.free2 (range_with_len (length m.payloads) count) m.families three;
+    from = omega (arith, is_free);
+    last = omega (arith, is_free);
+  }
+
+  second_grown : IsFamilyGrown 1 17 g.free1 (range_with_len (length m.payloads) count) a b
+  second_grown = record {
+    between = lists_in m 1;
+    more = more.second;
+    is = ap (λ (z : Slots). lists_in z 1) grown.is ∙ put_second g.free g.free1 g.free2 (range_with_len (length m.payloads) count) m.families three;
+    from = omega (arith, is_free1);
+    last = omega (arith, is_free1);
+  }
+
+  third_grown : IsFamilyGrown 2 18 g.free2 (range_with_len (length m.payloads) count) a b
+  third_grown = record {
+    between = lists_in m 2;
+    more = more.third;
+    is = ap (λ (z : Slots). lists_in z 2) grown.is ∙ put_third g.free g.free1 g.free2 (range_with_len (length m.payloads) count) m.families three;
+    from = omega (arith, is_free2);
+    last = omega (arith, is_free2);
+  }
+
+  list_count : length (lists_in b 0) ≡ length (lists_in a 0) + 4
+  list_count = family_count 0 4 g.free (range_with_len (length m.payloads) count) a b first_grown
 
   free_list : slots_on b 0 g.free ≡ range_with_len (length m.payloads) count
-  free_list = ap (λ (ls : List (List ℕ)). get_or ls g.free []) lists_b ∙ get_or-set_same (lists_in m 0) g.free _ [] (omega (arith, is_free, lists_m)) ∙ ap (λ xs. xs ++ range_with_len (length m.payloads) count) (empty_in_m g.free (omega (arith, is_free)))
+  free_list = family_slots 0 4 g.free (range_with_len (length m.payloads) count) a b first_grown
 
   empty_in_b : (l : ℕ) → length (lists_in a 0) < l → slots_on b 0 l ≡ []
-  empty_in_b l lt = other_list l (λ e. absurd (omega (arith, e, is_free, lt))) ∙ empty_in_m l (omega (arith, lt))
+  empty_in_b l lt = family_empty 0 4 g.free (range_with_len (length m.payloads) count) a b first_grown l (omega (arith, lt)) (λ e. absurd (omega (arith, e, is_free, lt)))
 
   not_live : (x : ℕ) → is_live b g x ≡ false
   not_live x = λ i. has x (empty_in_b g.queued (omega (arith, is_queued_list)) i) || (has x (empty_in_b g.running (omega (arith, is_running_list)) i) || has x (empty_in_b g.settled (omega (arith, is_settled_list)) i))
@@ -183,6 +228,34 @@ module _ (a m b : Slots) (ss : List GroupSlots) (g : GroupLists) (count : ℕ) (
   size : length b.payloads ≡ length m.payloads + count
   size = ap (λ (z : Slots). length z.payloads) grown.is ∙ length-append m.payloads (replicate count grown.blank) ∙ ap (λ n. length m.payloads + n) (length-replicate count grown.blank)
 
+  -- a slot of the new group has no ticket, and lies on the family's list of such slots
+  on_chains : (f size to : ℕ) (list_of : Option Ticket → ℕ) → list_of None ≡ to → IsFamilyGrown f size to (range_with_len (length m.payloads) count) a b → AreOn f (length (lists_in a f)) to list_of b g
+  on_chains f size to list_of free family = record {
+    placed = λ x own.
+        ap (λ o. is_on b f (list_of o) x) (none_at x) ∙ ap (λ l. is_on b f l x) free
+        ∙ ap (has x) (family_slots f size to (range_with_len (length m.payloads) count) a b family) ∙ sym (owned_is x) ∙ own;
+    owned = λ l x first last on. elim (cases_eq l to) [
+      | inl e ↦ owned_is x ∙ sym (ap (has x) (family_slots f size to (range_with_len (length m.payloads) count) a b family)) ∙ ap (λ k. is_on b f k x) (sym e) ∙ on
+      | inr ne ↦ absurd (off (sym (ap (has x) (family_empty f size to (range_with_len (length m.payloads) count) a b family l first ne)) ∙ on))
+    ];
+  }
+    where
+      off : false ≡ true → ⊥
+      off e = cc
+
+  new_chained : IsChained b g
+  new_chained = record {
+    lists = record {
+      free1 = is_free1 ∙ ap (λ n. n + 16) (sym is_serials);
+      uncached = is_uncached ∙ ap (λ n. n + 16) (sym is_names);
+      free2 = is_free2 ∙ ap (λ n. n + 17) (sym is_names);
+      serials_there = omega (arith, is_free1, family_count 1 17 g.free1 (range_with_len (length m.payloads) count) a b second_grown);
+      names_there = omega (arith, is_free2, family_count 2 18 g.free2 (range_with_len (length m.payloads) count) a b third_grown);
+    };
+    serials = subst (λ n. AreOn 1 n g.free1 (list_by_serial g) b g) (sym is_serials) (on_chains 1 17 g.free1 (list_by_serial g) refl second_grown);
+    names = subst (λ n. AreOn 2 n g.free2 (list_by_name g) b g) (sym is_names) (on_chains 2 18 g.free2 (list_by_name g) refl third_grown);
+  }
+
   no_count : (q : Ticket → Bool) → count_at b g q ≡ 0
   no_count q = count_none (λ x. has_one q (ticket_at b g x)) (length b.payloads) (λ x lt. ap (has_one q) (none_at x))
 
@@ -190,7 +263,8 @@ module _ (a m b : Slots) (ss : List GroupSlots) (g : GroupLists) (count : ℕ) (
   pub new_slots : IsGroupSlots b (no_slot_taken g count)
   new_slots = record {
     numbered = record { queued = is_queued_list ∙ ap (λ n. n + 1) (sym is_free); running = is_running_list ∙ ap (λ n. n + 2) (sym is_free); settled = is_settled_list ∙ ap (λ n. n + 3) (sym is_free) };
-    there = omega (arith, is_settled_list, list_count, lists_m);
+    there = omega (arith, is_settled_list, list_count);
+    chained = new_chained;
     arranged = record {
       distinct = λ x y t u e f k. absurd (no_ticket x t e);
       below = λ x t e. absurd (no_ticket x t e);
@@ -214,18 +288,24 @@ module _ (a m b : Slots) (ss : List GroupSlots) (g : GroupLists) (count : ℕ) (
 
   same_grown : (i : ℕ) (s : GroupSlots) → slice_get ss i ≡ Some s → IsSame s.lists a b
   same_grown i s e =
-      let there : s.lists.settled < length (lists_in a 0) = (whole.each i s e).there in
-      let before = same_more a m ss whole more i s e in
-      let same = same_payloads a m ss whole more in
+      let group = whole.each i s e in
       record {
-        slots = omega (arith, size, before.slots);
-        count = omega (arith, list_count, before.count);
-        lists = λ l own. other_list l (λ q. absurd (omega (arith, q, is_free, own.to, there))) ∙ before.lists l own;
+        slots = omega (arith, size, ap (λ (ps : List Ticket). length ps) more.payloads);
+        count = omega (arith, list_count);
+        lists = λ l own. family_other 0 4 g.free (range_with_len (length m.payloads) count) a b first_grown l (λ q. absurd (omega (arith, q, is_free, own.to, group.there)));
         payloads = λ l x own on.
             let lt : x < length a.payloads = whole.arena.within l x on in
             ap (λ (z : Slots). slice_get z.payloads x) grown.is
-            ∙ append_before m.payloads (replicate count grown.blank) x (omega (arith, lt, ap (λ (ps : List Ticket). length ps) same))
-            ∙ before.payloads l x own on;
+            ∙ append_before m.payloads (replicate count grown.blank) x (omega (arith, lt, ap (λ (ps : List Ticket). length ps) more.payloads))
+            ∙ ap (λ (ps : List Ticket). slice_get ps x) more.payloads;
+        serials = record {
+          count = omega (arith, family_count 1 17 g.free1 (range_with_len (length m.payloads) count) a b second_grown);
+          lists = λ l first last. family_other 1 17 g.free1 (range_with_len (length m.payloads) count) a b second_grown l (λ q. absurd (omega (arith, q, is_free1, last, group.chained.lists.serials_there)));
+        };
+        names = record {
+          count = omega (arith, family_count 2 18 g.free2 (range_with_len (length m.payloads) count) a b third_grown);
+          lists = λ l first last. family_other 2 18 g.free2 (range_with_len (length m.payloads) count) a b third_grown l (λ q. absurd (omega (arith, q, is_free2, last, group.chained.lists.names_there)));
+        };
       }
 
   module _ (made : GroupSlots) (is_new : made ≡ no_slot_taken g count) where
@@ -234,12 +314,24 @@ module _ (a m b : Slots) (ss : List GroupSlots) (g : GroupLists) (count : ℕ) (
 
     apart_new : (i : ℕ) (s r : GroupSlots) → slice_get ss i ≡ Some s → r ≡ made → IsApart s.lists r.lists
     apart_new i s r e k =
-        let there : s.lists.settled < length (lists_in a 0) = (whole.each i s e).there in
+        let group = whole.each i s e in
         let f : r.lists.free ≡ length (lists_in a 0) = ap (λ (z : GroupLists). z.free) (is_made r k) ∙ is_free in
-        record { apart = λ l own other. absurd (omega (arith, there, f, own.to, other.from)) }
+        let h : r.lists.serials ≡ length (lists_in a 1) = ap (λ (z : GroupLists). z.serials) (is_made r k) ∙ is_serials in
+        let n : r.lists.names ≡ length (lists_in a 2) = ap (λ (z : GroupLists). z.names) (is_made r k) ∙ is_names in
+        record {
+          apart = λ l own other. absurd (omega (arith, group.there, f, own.to, other.from));
+          serials = λ l own other. absurd (omega (arith, group.chained.lists.serials_there, h, own.1, other.0));
+          names = λ l own other. absurd (omega (arith, group.chained.lists.names_there, n, own.1, other.0));
+        }
 
     new_apart : (i : ℕ) (s r : GroupSlots) → slice_get ss i ≡ Some s → r ≡ made → IsApart r.lists s.lists
-    new_apart i s r e k = record { apart = λ l own other. (apart_new i s r e k).apart l other own }
+    new_apart i s r e k =
+        let other_way = apart_new i s r e k in
+        record {
+          apart = λ l own other. other_way.apart l other own;
+          serials = λ l own other. other_way.serials l other own;
+          names = λ l own other. other_way.names l other own;
+        }
 
     -- with the new group after them, the groups are as they should be
     pub whole_grown : AreGroupSlots b (ss ++ made ∷ [])
@@ -259,7 +351,7 @@ module _ (a m b : Slots) (ss : List GroupSlots) (g : GroupLists) (count : ℕ) (
           | inr l ↦ whole.apart i j s r k.1 l.1 ne
         ]
       ];
-      slots = omega (arith, size, ap (λ (ps : List Ticket). length ps) (same_payloads a m ss whole more), whole.slots, sum_by-append (λ (s : GroupSlots). s.slots.max) ss (made ∷ []), sum_by-cons (λ (s : GroupSlots). s.slots.max) made [], ap (λ (z : GroupSlots). z.slots.max) is_new);
+      slots = omega (arith, size, ap (λ (ps : List Ticket). length ps) more.payloads, whole.slots, sum_by-append (λ (s : GroupSlots). s.slots.max) ss (made ∷ []), sum_by-cons (λ (s : GroupSlots). s.slots.max) made [], ap (λ (z : GroupSlots). z.slots.max) is_new);
     }
 
     shown_new : group_of b made ≡ no_tickets_in count
@@ -270,7 +362,7 @@ module _ (a m b : Slots) (ss : List GroupSlots) (g : GroupLists) (count : ℕ) (
     view_grown = λ i. record { limit = same i; groups = shown i }
       where
         same : b.limit ≡ a.limit
-        same = ap (λ (z : Slots). z.limit) grown.is ∙ ap (λ (z : Slots). z.limit) more.is
+        same = ap (λ (z : Slots). z.limit) grown.is ∙ more.limit
 
         shown : groups_of b (ss ++ made ∷ []) ≡ groups_of a ss ++ no_tickets_in count ∷ []
         shown = map-append (group_of b) ss (made ∷ []) ∙ (λ i. map_same (group_of b) (group_of a) ss (λ j s e. group_same a b s (same_grown j s e) whole.arena (whole.each j s e)) i ++ shown_new i ∷ [])

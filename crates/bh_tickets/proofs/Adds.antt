@@ -14,9 +14,13 @@ use Rattle.bh_tickets.specs.GroupSlots.{IsNumbered, IsGroupSlots, CanAdd, IsAdde
 use Rattle.bh_tickets.specs.declared.group_slots.Needless.TheVariants as needless
 use Rattle.bh_cache.proofs.Order.{order_same, order_without, order_append, front_on, front_none, count_le, count_same}
 use Rattle.bh_cache.proofs.Counts.{count_point}
-use Rattle.bh_tickets.proofs.Touched.{IsTouched, touched_both, payload_other, payload_slot, at_other, at_slot, touched_arena, touched_frame, owned_same, has_without, list_to}
+use Rattle.bh_cache.proofs.Places.{get_set}
+use Rattle.bh_tickets.proofs.Touched.{IsTouched, touched_both, payload_other, payload_slot, at_other, at_slot, touched_arena, touched_frame, owned_same}
+use Rattle.bh_cache.proofs.Moves.{has_without, list_to}
 use Rattle.bh_tickets.proofs.Own.{come_arranged, come_tickets, live_for}
 use Rattle.bh_tickets.proofs.Others.{each_list, own_for}
+use Rattle.bh_tickets.proofs.Chained.{chains_placed, moved_keeps, placed_on, touched_placed}
+use Rattle.bh_cache.specs.Chains.{IsChained, IsChainFrame, with_placed}
 
 -- ---- tickets lie in live slots
 
@@ -83,7 +87,7 @@ or_second true c e = refl
 or_second false c e = e
 
 module _ (a b : Slots) (s : GroupSlots) (x : ℕ) (v : Ticket) (arena : IsArena a 0) (group : IsGroupSlots a s) (front : slice_get (slots_on a 0 s.lists.free) 0 ≡ Some x) (can : CanAdd s v)
-    (is : b ≡ with_moved 0 x (list_for s.lists v.state) (with_payload x v a)) where
+    (serials : IsArena a 1) (names : IsArena a 2) (is : b ≡ with_placed s.lists x (Some v) (with_moved 0 x (list_for s.lists v.state) (with_payload x v a))) where
   on : is_on a 0 s.lists.free x ≡ true
   on = front_on x (slots_on a 0 s.lists.free) front
 
@@ -96,8 +100,11 @@ module _ (a b : Slots) (s : GroupSlots) (x : ℕ) (v : Ticket) (arena : IsArena 
   there : list_for s.lists v.state < length (lists_in a 0)
   there = each_list (λ l. l < length (lists_in a 0)) s.lists (omega (arith, group.there, group.numbered.queued, group.numbered.settled)) (omega (arith, group.there, group.numbered.running, group.numbered.settled)) group.there v.state
 
+  before : IsTouched a (with_moved 0 x (list_for s.lists v.state) (with_payload x v a)) x (list_for s.lists v.state) v
+  before = touched_both a x (list_for s.lists v.state) v arena within there
+
   touched : IsTouched a b x (list_for s.lists v.state) v
-  touched = subst (λ (z : Slots). IsTouched a z x (list_for s.lists v.state) v) (sym is) (touched_both a x (list_for s.lists v.state) v arena within there)
+  touched = subst (λ (z : Slots). IsTouched a z x (list_for s.lists v.state) v) (sym is) (touched_placed a (with_moved 0 x (list_for s.lists v.state) (with_payload x v a)) x (list_for s.lists v.state) v s.lists (Some v) before)
 
   away : (y : ℕ) → has y (without x (slots_on a 0 s.lists.queued)) ≡ true → (y ≡ x → ⊥) × (has y (slots_on a 0 s.lists.queued) ≡ true)
   away y i = elim (cases_eq y x) [
@@ -126,7 +133,7 @@ module _ (a b : Slots) (s : GroupSlots) (x : ℕ) (v : Ticket) (arena : IsArena 
   order = elim (cases_eq s.lists.queued (list_for s.lists v.state)) [
     | inl e ↦
         let at_end : slots_on b 0 s.lists.queued ≡ without x (slots_on a 0 s.lists.queued) ++ x ∷ [] =
-        ap (λ (z : Slots). slots_on z 0 s.lists.queued) is ∙ ap (λ l. slots_on (with_moved 0 x l (with_payload x v a)) 0 s.lists.queued) (sym e) ∙ list_to (with_payload x v a) x s.lists.queued arena.wide (subst (λ l. l < length (lists_in a 0)) (sym e) there) in
+        ap (λ (z : Slots). slots_on z 0 s.lists.queued) is ∙ placed_on s.lists x (Some v) (with_moved 0 x (list_for s.lists v.state) (with_payload x v a)) s.lists.queued ∙ ap (λ l. slots_on (with_moved 0 x l (with_payload x v a)) 0 s.lists.queued) (sym e) ∙ list_to (with_payload x v a) 0 x s.lists.queued arena.wide (subst (λ l. l < length (lists_in a 0)) (sym e) there) in
         subst (InOrder b.payloads) (sym at_end) (order_append b.payloads x (without x (slots_on a 0 s.lists.queued)) rest less)
     | inr ne ↦ subst (InOrder b.payloads) (sym (touched.left s.lists.queued ne)) rest
   ]
@@ -136,6 +143,16 @@ module _ (a b : Slots) (s : GroupSlots) (x : ℕ) (v : Ticket) (arena : IsArena 
 
   else_same : (y : ℕ) → (y ≡ x → ⊥) → ticket_at b s.lists y ≡ ticket_at a s.lists y
   else_same y ne = at_other a b x (list_for s.lists v.state) v touched s.lists y ne
+
+  owned_slot : is_owned a s.lists x ≡ true
+  owned_slot = or_first (is_on a 0 s.lists.free x) (is_live a s.lists x) on
+
+  owned_list : (eqb s.lists.free (list_for s.lists v.state) || is_live_list s.lists (list_for s.lists v.state)) ≡ true
+  owned_list = or_second (eqb s.lists.free (list_for s.lists v.state)) (is_live_list s.lists (list_for s.lists v.state)) (live_for s.lists v.state)
+
+  chains : IsChained b s.lists × IsChainFrame s.lists a b
+  chains = chains_placed a (with_moved 0 x (list_for s.lists v.state) (with_payload x v a)) b s.lists x (list_for s.lists v.state) v (Some v) before (moved_keeps a x (list_for s.lists v.state) v) serials names group.chained owned_slot owned_list
+      (sym (ap (λ c. if c then Some v else None) (live_for s.lists v.state))) is
 
   recount : (q : Ticket → Bool) → count_at b s.lists q ≡ count_at a s.lists q + one (q v)
   recount q =
@@ -164,9 +181,10 @@ module _ (a b : Slots) (s : GroupSlots) (x : ℕ) (v : Ticket) (arena : IsArena 
     whole = record {
       numbered = group.numbered;
       there = omega (arith, group.there, touched.count);
+      chained = chains.0;
       arranged = come_arranged a b s.lists x s.next v group.arranged within was can.serial touched order;
       slots = ap (λ n. count_below n (is_owned b s.lists)) touched.slots
-          ∙ count_same (is_owned b s.lists) (is_owned a s.lists) (length a.payloads) (owned_same a b x (list_for s.lists v.state) v touched s.lists (or_first (is_on a 0 s.lists.free x) (is_live a s.lists x) on) (or_second (eqb s.lists.free (list_for s.lists v.state)) (is_live_list s.lists (list_for s.lists v.state)) (live_for s.lists v.state)))
+          ∙ count_same (is_owned b s.lists) (is_owned a s.lists) (length a.payloads) (owned_same a b x (list_for s.lists v.state) v touched s.lists owned_slot owned_list)
           ∙ group.slots;
       few = group.few;
       taken = omega (arith, group.taken, recount is_any);
@@ -184,6 +202,7 @@ module _ (a b : Slots) (s : GroupSlots) (x : ℕ) (v : Ticket) (arena : IsArena 
         arena = touched_arena a b x (list_for s.lists v.state) v touched arena within;
         group = subst (IsGroupSlots b) (sym made) whole;
         frame = touched_frame a b x (list_for s.lists v.state) v touched s.lists s.lists.free arena on (record { from = omega arith; to = omega (arith, group.numbered.settled) }) (own_for s.lists group.numbered v.state);
+        chains = chains.1;
         limit = touched.limit;
         lists = ap (λ (z : GroupSlots). z.lists) made;
         room = ap (λ (z : GroupSlots). z.slots.max) made;
@@ -205,7 +224,13 @@ pub to_list : (a : Slots) (s : GroupSlots) (to : ℕ) (r : TicketState) → IsGr
 to_list a s to r group is = subst (λ l. l < length (lists_in a 0)) (sym is) (each_list (λ l. l < length (lists_in a 0)) s.lists (omega (arith, group.there, group.numbered.queued, group.numbered.settled)) (omega (arith, group.there, group.numbered.running, group.numbered.settled)) group.there r)
 
 -- as the code reads it
-pub add_from : (a b : Slots) (s : GroupSlots) (x to : ℕ) (v : Ticket) → IsArena a 0 → IsGroupSlots a s → slice_get (slots_on a 0 s.lists.free) 0 ≡ Some x → CanAdd s v → to ≡ list_for s.lists v.state
-    → (s.lists.free ≢ to → b ≡ with_moved 0 x to (with_payload x v a)) → (r : GroupSlots) → r ≡ record (counted_in v s) { slots = record s.slots { taken = s.slots.taken + 1 }; next = s.next + 1 } → IsAdded a s v b r
-add_from a b s x to v arena group front can is moved r made =
-    add_is a b s x v arena group front can (moved (λ e. not_free s.lists v.state group.numbered (e ∙ is)) ∙ ap (λ l. with_moved 0 x l (with_payload x v a)) is) r made
+pub add_from : (a b : Slots) (s : GroupSlots) (x to : ℕ) (v : Ticket) → IsArena a 0 → IsGroupSlots a s → slice_get (slots_on a 0 s.lists.free) 0 ≡ Some x → CanAdd s v → IsArena a 1 → IsArena a 2 → to ≡ list_for s.lists v.state
+    → b ≡ with_placed s.lists x (Some v) (with_moved 0 x to (with_payload x v a)) → (r : GroupSlots) → r ≡ record (counted_in v s) { slots = record s.slots { taken = s.slots.taken + 1 }; next = s.next + 1 } → IsAdded a s v b r
+add_from a b s x to v arena group front can serials names is moved r made =
+    add_is a b s x v arena group front can serials names (moved ∙ ap (λ l. with_placed s.lists x (Some v) (with_moved 0 x l (with_payload x v a))) is) r made
+
+-- a slot that was written, moved and placed, as the code reads it
+pub placed_from : (a z m b : Slots) (g : GroupLists) (x to : ℕ) (v : Ticket) → x < length a.payloads → z ≡ with_payload x v a → m ≡ with_moved 0 x to z → b ≡ with_placed g x (slice_get m.payloads x) m → b ≡ with_placed g x (Some v) (with_moved 0 x to (with_payload x v a))
+placed_from a z m b g x to v lt written moved placed =
+    placed ∙ ap (λ (y : Slots). with_placed g x (slice_get y.payloads x) y) (moved ∙ ap (λ (y : Slots). with_moved 0 x to y) written)
+    ∙ ap (λ o. with_placed g x o (with_moved 0 x to (with_payload x v a))) (get_set a.payloads x x v lt ∙ ap (λ c. if c then Some v else slice_get a.payloads x) (eq-eqb x x refl))

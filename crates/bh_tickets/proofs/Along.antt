@@ -11,6 +11,8 @@ use Rattle.bh_tickets.specs.declared.group_slots.GroupSlots.{GroupSlots}
 use Rattle.bh_tickets.specs.GroupSlots.{IsGroupChange}
 use Rattle.bh_tickets.specs.Sweeps.{IsSwept}
 use Rattle.bh_tickets.proofs.Others.{frame_trans}
+use Rattle.bh_cache.proofs.Placed.{frame_trans as chain_frame_trans}
+use Rattle.bh_cache.specs.Chains.{IsChainFrame}
 use Rattle.bh_tickets.proofs.Touched.{without_at}
 
 -- ---- the list that is walked
@@ -111,6 +113,7 @@ change_trans a s b r c u first second = record {
   arena = second.arena;
   group = second.group;
   frame = frame_trans s.lists a b c first.frame (subst (λ (g : GroupLists). IsFrame g b c) first.lists second.frame);
+  chains = chain_frame_trans s.lists a b c first.chains (subst (λ (g : GroupLists). IsChainFrame g b c) first.lists second.chains);
   limit = second.limit ∙ first.limit;
   lists = second.lists ∙ first.lists;
   room = second.room ∙ first.room;

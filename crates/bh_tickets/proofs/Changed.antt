@@ -18,6 +18,30 @@ serial_kept (change.StartFallback c) t = refl
 serial_kept change.AddHolder t = refl
 serial_kept change.TimeOut t = refl
 
+-- a ticket keeps its cache name
+pub cache_kept : (c : TicketChange) (t : Ticket) → (changed_by c t).cache ≡ t.cache
+cache_kept change.StartRun t = refl
+cache_kept (change.EndRun s) t = refl
+cache_kept change.StopRun t = refl
+cache_kept change.ReleaseHolder t = refl
+cache_kept (change.AnswerHolder a) t = refl
+cache_kept (change.Answer a) t = refl
+cache_kept (change.StartFallback c) t = refl
+cache_kept change.AddHolder t = refl
+cache_kept change.TimeOut t = refl
+
+-- a ticket is cached afterwards if it was before
+pub cached_kept : (c : TicketChange) (t : Ticket) → (changed_by c t).cached ≡ t.cached
+cached_kept change.StartRun t = refl
+cached_kept (change.EndRun s) t = refl
+cached_kept change.StopRun t = refl
+cached_kept change.ReleaseHolder t = refl
+cached_kept (change.AnswerHolder a) t = refl
+cached_kept (change.Answer a) t = refl
+cached_kept (change.StartFallback c) t = refl
+cached_kept change.AddHolder t = refl
+cached_kept change.TimeOut t = refl
+
 -- a ticket waits afterwards only if it did before
 pub waits_kept : (c : TicketChange) (t : Ticket) → IsAllowed c t → is_queued (changed_by c t) ≡ true → is_queued t ≡ true
 waits_kept change.StartRun t ok e = cc

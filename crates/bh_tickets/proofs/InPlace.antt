@@ -12,7 +12,7 @@ use Rattle.bh_tickets.specs.declared.group_slots.GroupSlots.{GroupSlots}
 use Rattle.bh_tickets.specs.declared.group_slots.Needless.{Needless}
 use Rattle.bh_tickets.specs.Changes.{IsAllowed, changed_by}
 use Rattle.bh_tickets.specs.GroupSlots.{CanBe, IsGroupSlots, IsPut, counted_in, counted_out, noted}
-use Rattle.bh_tickets.proofs.Changed.{serial_kept, waits_kept}
+use Rattle.bh_tickets.proofs.Changed.{cache_kept, cached_kept, serial_kept, waits_kept}
 use Rattle.bh_tickets.proofs.Puts.{put_from, was_is, within_slots}
 use Rattle.bh_cache.proofs.Places.{get_set}
 
@@ -45,7 +45,7 @@ module _ (a : Slots) (s : GroupSlots) (x : ℕ) (change : TicketChange) (can : C
         let w : was ≡ t = some_same was t (sym here_is ∙ e) in
         subst (λ (u : Ticket). IsPut a s x (changed_by change u) b r) w
         (put_from a b s x was v arena group
-        (record { was = was; here = here_is; serial = serial_kept change was; waits = waits_kept change was (subst (IsAllowed change) allowed_was can.allowed) })
+        (record { was = was; here = here_is; serial = serial_kept change was; cache = cache_kept change was; cached = cached_kept change was; waits = waits_kept change was (subst (IsAllowed change) allowed_was can.allowed) })
         read from to f (g ∙ ap (λ (u : Ticket). list_for s.lists u.state) read_is)
         (λ q. same q ∙ ap (λ (u : Ticket). with_payload x u a) now_is)
         (λ q. moved q ∙ ap (λ (u : Ticket). with_moved 0 x to (with_payload x u a)) now_is)

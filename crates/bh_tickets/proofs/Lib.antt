@@ -1,5 +1,6 @@
 pub mod Changed
 pub mod Touched
+pub mod Chained
 pub mod Own
 pub mod Others
 pub mod Puts
@@ -11,6 +12,7 @@ pub mod Times
 pub mod Along
 pub mod TimedAll
 pub mod ReleasedAll
+pub mod AddedLists
 pub mod AddedGroup
 pub mod Exists
 pub mod Uncached

@@ -14,6 +14,8 @@ use Rattle.bh_slot_arena.specs.Slots.{lists_in, slots_on}
 use Rattle.bh_cache.specs.Slots.{Slots, has, is_on, is_live, is_owned, ticket_at, tickets_of, list_for, serial_in, InOrder, count_below, IsOwn, IsApart, IsFrame, IsArena, has_one, one}
 use Rattle.bh_tickets.specs.GroupSlots.{IsNumbered, IsArranged, IsGroupSlots, count_at, is_any, is_busy}
 use Rattle.bh_cache.proofs.Order.{order_same, count_same}
+use Rattle.bh_cache.specs.Chains.{IsChainFrame}
+use Rattle.bh_tickets.proofs.Chained.{KeepsOwn, chains_kept, names_apart, serials_apart}
 
 -- what holds of the three lists holds of that for a state
 pub each_list : (P : ℕ → Type 0) (g : GroupLists) → P g.queued → P g.running → P g.settled → (s : TicketState) → P (list_for g s)
@@ -46,14 +48,18 @@ pub record IsSame (g : GroupLists) (a b : Slots) : Type 0 where
   pub count : length (lists_in a 0) ≤ length (lists_in b 0)
   pub lists : (l : ℕ) → IsOwn g l → slots_on b 0 l ≡ slots_on a 0 l
   pub payloads : (l x : ℕ) → IsOwn g l → is_on a 0 l x ≡ true → slice_get b.payloads x ≡ slice_get a.payloads x
+  pub serials : KeepsOwn 1 g.serials g.free1 a b
+  pub names : KeepsOwn 2 g.names g.free2 a b
 
 -- as for each group but the one that changed
-pub frame_same : (g h : GroupLists) (a b : Slots) → IsFrame g a b → IsApart g h → IsSame h a b
-frame_same g h a b frame apart = record {
+pub frame_same : (g h : GroupLists) (a b : Slots) → IsFrame g a b → IsChainFrame g a b → IsApart g h → IsSame h a b
+frame_same g h a b frame chains apart = record {
   slots = omega (arith, frame.slots);
   count = omega (arith, frame.count);
   lists = λ l own. frame.lists l (λ other. apart.apart l other own);
   payloads = λ l x own on. frame.payloads l x (λ other. apart.apart l other own) on;
+  serials = serials_apart g h a b chains apart;
+  names = names_apart g h a b chains apart;
 }
 
 -- numbers of which none passes count for nothing
@@ -156,6 +162,7 @@ module _ (a b : Slots) (h : GroupSlots) (same : IsSame h.lists a b) (arena : IsA
     numbered = group.numbered;
     there = omega (arith, group.there, same.count);
     arranged = arranged_same;
+    chained = chains_kept a b h.lists same.serials same.names owned_alike at_same group.chained;
     slots = count_same (is_owned b h.lists) (is_owned a h.lists) (length b.payloads) owned_alike ∙ count_past (is_owned a h.lists) (length a.payloads) (length b.payloads) same.slots owned_past ∙ group.slots;
     few = group.few;
     taken = group.taken ∙ sym (count_alike is_any);

@@ -21,6 +21,9 @@ use Rattle.bh_tickets.proofs.Touched.{IsTouched, touched_both, touched_set, payl
 use Rattle.bh_cache.proofs.Places.{get_within}
 use Rattle.bh_tickets.proofs.Own.{changed_arranged, changed_tickets, live_for}
 use Rattle.bh_tickets.proofs.Others.{own_for}
+use Rattle.bh_tickets.proofs.Chained.{KeepsChains, chains_touched, moved_keeps}
+use Rattle.bh_cache.proofs.Placed.{frame_same}
+use Rattle.bh_cache.specs.Chains.{IsChained}
 
 -- a ticket of the group lies in a slot of the group
 pub held_at : (a : Slots) (g : GroupLists) (x : ℕ) (t : Ticket) → ticket_at a g x ≡ Some t → (is_live a g x ≡ true) × (slice_get a.payloads x ≡ Some t)
@@ -171,6 +174,12 @@ module _ (a b : Slots) (s : GroupSlots) (x : ℕ) (t v : Ticket) (arena : IsAren
     | inr ne ↦ subst (λ (z : Slots). IsTouched a z x (list_for s.lists v.state) v) (sym (moved ne)) (touched_both a x (list_for s.lists v.state) v arena (within_slots a s.lists x t here) (to_there v.state))
   ]
 
+  keeps : KeepsChains a b
+  keeps = elim (cases_eq (list_for s.lists t.state) (list_for s.lists v.state)) [
+    | inl e ↦ subst (KeepsChains a) (sym (same e)) (record { families = refl; serials = refl; names = refl })
+    | inr ne ↦ subst (KeepsChains a) (sym (moved ne)) (moved_keeps a x (list_for s.lists v.state) v)
+  ]
+
   serial_same : (y : ℕ) → serial_in (slice_get b.payloads y) ≡ serial_in (slice_get a.payloads y)
   serial_same y = elim (cases_eq y x) [
     | inl e ↦ ap (λ z. serial_in (slice_get b.payloads z)) e ∙ ap serial_in (payload_slot a b x (list_for s.lists v.state) v touched) ∙ serial ∙ sym (ap serial_in (held_at a s.lists x t here).1) ∙ ap (λ z. serial_in (slice_get a.payloads z)) (sym e)
@@ -206,9 +215,19 @@ module _ (a b : Slots) (s : GroupSlots) (x : ℕ) (t v : Ticket) (arena : IsAren
       let m : count_at b s.lists q ≡ count_below (length a.payloads) (λ y. has_one q (ticket_at b s.lists y)) = ap (λ n. count_below n (λ y. has_one q (ticket_at b s.lists y))) touched.slots in
       omega (arith, k, l, m, count_point (λ y. has_one q (ticket_at a s.lists y)) (λ y. has_one q (ticket_at b s.lists y)) (length a.payloads) x (within_slots a s.lists x t here) (λ y ne. ap (has_one q) (else_same y ne)))
 
+  owned_slot : is_owned a s.lists x ≡ true
+  owned_slot = or_right (is_on a 0 s.lists.free x) (is_live a s.lists x) (held_at a s.lists x t here).0
+
+  owned_list : (eqb s.lists.free (list_for s.lists v.state) || is_live_list s.lists (list_for s.lists v.state)) ≡ true
+  owned_list = or_right (eqb s.lists.free (list_for s.lists v.state)) (is_live_list s.lists (list_for s.lists v.state)) (live_for s.lists v.state)
+
+  chained : IsChained b s.lists
+  chained = chains_touched a b s.lists x (list_for s.lists v.state) t v touched keeps group.chained owned_slot owned_list here now_here serial
+      (can.cache ∙ ap (λ (u : Ticket). u.cache) was) (can.cached ∙ ap (λ (u : Ticket). u.cached) was)
+
   owned_now : count_below (length b.payloads) (is_owned b s.lists) ≡ s.slots.max
   owned_now = ap (λ n. count_below n (is_owned b s.lists)) touched.slots
-      ∙ count_same (is_owned b s.lists) (is_owned a s.lists) (length a.payloads) (owned_same a b x (list_for s.lists v.state) v touched s.lists (or_right (is_on a 0 s.lists.free x) (is_live a s.lists x) (held_at a s.lists x t here).0) (or_right (eqb s.lists.free (list_for s.lists v.state)) (is_live_list s.lists (list_for s.lists v.state)) (live_for s.lists v.state)))
+      ∙ count_same (is_owned b s.lists) (is_owned a s.lists) (length a.payloads) (owned_same a b x (list_for s.lists v.state) v touched s.lists owned_slot owned_list)
       ∙ group.slots
 
   module _ (r : GroupSlots) (now : Needless) (is : r ≡ record (counted_in v (counted_out t s)) { needless = now })
@@ -240,6 +259,7 @@ module _ (a b : Slots) (s : GroupSlots) (x : ℕ) (t v : Ticket) (arena : IsAren
     made = record {
       numbered = group.numbered;
       there = omega (arith, group.there, touched.count);
+      chained = chained;
       arranged = changed_arranged a b s.lists x s.next t v group.arranged here serial touched order;
       slots = owned_now;
       few = group.few;
@@ -258,6 +278,7 @@ module _ (a b : Slots) (s : GroupSlots) (x : ℕ) (t v : Ticket) (arena : IsAren
         arena = touched_arena a b x (list_for s.lists v.state) v touched arena (within_slots a s.lists x t here);
         group = subst (IsGroupSlots b) (sym is) made;
         frame = touched_frame a b x (list_for s.lists v.state) v touched s.lists (list_for s.lists t.state) arena lies (own_for s.lists group.numbered t.state) (own_for s.lists group.numbered v.state);
+        chains = frame_same s.lists a b keeps.serials keeps.names;
         limit = touched.limit;
         lists = ap (λ (z : GroupSlots). z.lists) is;
         room = ap (λ (z : GroupSlots). z.slots.max) is;

@@ -114,6 +114,7 @@ module _ (a : Slots) (s : GroupSlots) (b : Slots) (r : GroupSlots) (group : IsGr
         numbered = g.numbered;
         there = g.there;
         arranged = g.arranged;
+        chained = g.chained;
         slots = g.slots;
         few = g.few;
         taken = g.taken;
@@ -124,6 +125,7 @@ module _ (a : Slots) (s : GroupSlots) (b : Slots) (r : GroupSlots) (group : IsGr
         noted = λ x e. absurd (never x e);
       });
       frame = change.frame;
+      chains = change.chains;
       limit = change.limit;
       lists = change.lists;
       room = change.room;
@@ -163,7 +165,7 @@ pub released_one : (a : Slots) (s : GroupSlots) (slot : ℕ) (b : Slots) (r : Gr
 released_one a s slot b r group one released = released_is a s b r group change released.next (λ y. released.tickets y ∙ at y (eqb y slot) refl)
   where
     change : IsGroupChange a s b r
-    change = record { arena = released.change.arena; group = released.change.group; frame = released.change.frame; limit = released.change.limit; lists = released.change.lists; room = released.change.room }
+    change = record { arena = released.change.arena; group = released.change.group; frame = released.change.frame; chains = released.change.chains; limit = released.change.limit; lists = released.change.lists; room = released.change.room }
 
     other : (y : ℕ) (t : Ticket) → eqb y slot ≡ false → ticket_at a s.lists y ≡ Some t → is_kept t ≡ true
     other y t ne e = keeps_unless (is_kept t) (λ k.

@@ -8,7 +8,7 @@ use Rattle.bh_index_lists.specs.Lists.{without}
 use Rattle.bh_tickets.specs.declared.group_slots.GroupSlots.{GroupSlots}
 use Rattle.bh_tickets.specs.declared.group_slots.Needless.TheVariants as needless
 use Rattle.bh_slot_arena.specs.Slots.{slots_on, with_moved}
-use Rattle.bh_cache.specs.Slots.{Slots, is_on, is_live, is_owned, ticket_at, list_for, InOrder, count_below, has_one, one, IsArena}
+use Rattle.bh_cache.specs.Slots.{Slots, is_on, is_live, is_live_list, is_owned, ticket_at, list_for, InOrder, count_below, has_one, one, IsArena}
 use Rattle.bh_tickets.specs.GroupSlots.{IsGroupSlots, IsGroupChange, IsReleasedAt, if_kept, may_go, count_at, counted_out, is_any, is_busy}
 use Rattle.bh_cache.proofs.Order.{order_without, count_same}
 use Rattle.bh_cache.proofs.Counts.{count_point}
@@ -16,6 +16,9 @@ use Rattle.bh_tickets.proofs.Touched.{IsTouched, touched_moved, at_other, at_slo
 use Rattle.bh_tickets.proofs.Own.{gone_arranged, not_live_free}
 use Rattle.bh_tickets.proofs.Others.{own_for, frame_refl}
 use Rattle.bh_tickets.proofs.Puts.{held_at, within_slots}
+use Rattle.bh_tickets.proofs.Chained.{chains_placed, freed_keeps, touched_placed}
+use Rattle.bh_cache.proofs.Placed.{frame_refl as chain_frame_refl}
+use Rattle.bh_cache.specs.Chains.{IsChained, IsChainFrame, with_placed}
 
 -- what is there is read
 pub there_at : (a : Slots) (s : GroupSlots) (x : ℕ) (t : Ticket) → is_some (ticket_at a s.lists x) ≡ true → Some t ≡ slice_get a.payloads x → ticket_at a s.lists x ≡ Some t
@@ -35,7 +38,7 @@ there_within a s x some = by (ticket_at a s.lists x) refl some
 
 -- where nothing has changed, that is a change of the group too
 pub change_none : (a : Slots) (s : GroupSlots) → IsArena a 0 → IsGroupSlots a s → IsGroupChange a s a s
-change_none a s arena group = record { arena = arena; group = group; frame = frame_refl s.lists a; limit = refl; lists = refl; room = refl }
+change_none a s arena group = record { arena = arena; group = group; frame = frame_refl s.lists a; chains = chain_frame_refl s.lists a; limit = refl; lists = refl; room = refl }
 
 -- a ticket that somebody needs stays
 pub stays_at : (a : Slots) (s : GroupSlots) (x : ℕ) (t : Ticket) → IsArena a 0 → IsGroupSlots a s → ticket_at a s.lists x ≡ Some t → is_kept t ≡ true → IsReleasedAt a s x a s
@@ -58,15 +61,28 @@ or_first : (b c : Bool) → b ≡ true → (b || c) ≡ true
 or_first b c e = ap (λ d. d || c) e
 
 module _ (a b : Slots) (s : GroupSlots) (x : ℕ) (t : Ticket) (arena : IsArena a 0) (group : IsGroupSlots a s) (many : s.needless ≡ needless.Many) (here : ticket_at a s.lists x ≡ Some t) (drops : is_kept t ≡ false)
-    (is : b ≡ with_moved 0 x s.lists.free a) where
+    (serials : IsArena a 1) (names : IsArena a 2) (is : b ≡ with_placed s.lists x None (with_moved 0 x s.lists.free a)) where
   payload : slice_get a.payloads x ≡ Some t
   payload = (held_at a s.lists x t here).1
 
   within : x < length a.payloads
   within = within_slots a s.lists x t here
 
+  before : IsTouched a (with_moved 0 x s.lists.free a) x s.lists.free t
+  before = touched_moved a x s.lists.free t arena payload (omega (arith, group.there, group.numbered.settled))
+
   touched : IsTouched a b x s.lists.free t
-  touched = subst (λ (z : Slots). IsTouched a z x s.lists.free t) (sym is) (touched_moved a x s.lists.free t arena payload (omega (arith, group.there, group.numbered.settled)))
+  touched = subst (λ (z : Slots). IsTouched a z x s.lists.free t) (sym is) (touched_placed a (with_moved 0 x s.lists.free a) x s.lists.free t s.lists None before)
+
+  owned_slot : is_owned a s.lists x ≡ true
+  owned_slot = or_second (is_on a 0 s.lists.free x) (is_live a s.lists x) (held_at a s.lists x t here).0
+
+  owned_list : (eqb s.lists.free s.lists.free || is_live_list s.lists s.lists.free) ≡ true
+  owned_list = or_first (eqb s.lists.free s.lists.free) (is_live_list s.lists s.lists.free) (eq-eqb s.lists.free s.lists.free refl)
+
+  chains : IsChained b s.lists × IsChainFrame s.lists a b
+  chains = chains_placed a (with_moved 0 x s.lists.free a) b s.lists x s.lists.free t None before (freed_keeps a x s.lists.free) serials names group.chained owned_slot owned_list
+      (sym (ap (λ c. if c then Some t else None) (not_live_free s.lists group.numbered))) is
 
   gone : ticket_at b s.lists x ≡ None
   gone = at_slot a b x s.lists.free t touched s.lists ∙ ap (λ c. if c then Some t else None) (not_live_free s.lists group.numbered)
@@ -105,9 +121,10 @@ module _ (a b : Slots) (s : GroupSlots) (x : ℕ) (t : Ticket) (arena : IsArena 
     whole = record {
       numbered = group.numbered;
       there = omega (arith, group.there, touched.count);
+      chained = chains.0;
       arranged = gone_arranged a b s.lists x s.next t t group.arranged group.numbered here touched order;
       slots = ap (λ n. count_below n (is_owned b s.lists)) touched.slots
-          ∙ count_same (is_owned b s.lists) (is_owned a s.lists) (length a.payloads) (owned_same a b x s.lists.free t touched s.lists (or_second (is_on a 0 s.lists.free x) (is_live a s.lists x) (held_at a s.lists x t here).0) (or_first (eqb s.lists.free s.lists.free) _ (eq-eqb s.lists.free s.lists.free refl)))
+          ∙ count_same (is_owned b s.lists) (is_owned a s.lists) (length a.payloads) (owned_same a b x s.lists.free t touched s.lists owned_slot owned_list)
           ∙ group.slots;
       few = group.few;
       taken = omega (arith, group.taken, recount is_any);
@@ -125,6 +142,7 @@ module _ (a b : Slots) (s : GroupSlots) (x : ℕ) (t : Ticket) (arena : IsArena 
         arena = touched_arena a b x s.lists.free t touched arena within;
         group = subst (IsGroupSlots b) (sym made) whole;
         frame = touched_frame a b x s.lists.free t touched s.lists (list_for s.lists t.state) arena lies (own_for s.lists group.numbered t.state) (record { from = omega arith; to = omega (arith, group.numbered.settled) });
+        chains = chains.1;
         limit = touched.limit;
         lists = ap (λ (z : GroupSlots). z.lists) made;
         room = ap (λ (z : GroupSlots). z.slots.max) made;

@@ -55,6 +55,8 @@ module _ (a : Slots) (s : GroupSlots) (x : ℕ) (t : Ticket) (due : DueRule) (ar
     was = t;
     here = here;
     serial = refl;
+    cache = refl;
+    cached = refl;
     waits = λ e. absurd (never e);
   }
     where

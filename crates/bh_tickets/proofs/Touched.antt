@@ -9,77 +9,9 @@ use Rattle.bh_index_lists.specs.Lists.{without}
 use Rattle.bh_slot_arena.specs.Lists.{moved, put_last}
 use Rattle.bh_cache.specs.declared.lists.GroupLists.{GroupLists}
 use Rattle.bh_slot_arena.specs.Slots.{lists_in, slots_on, with_payload, with_moved}
+use Rattle.bh_cache.proofs.Moves.{has_without, list_not_to, list_to, lists_count, on_moved, without_absent}
 use Rattle.bh_cache.proofs.Places.{get_set, has_append}
 use Rattle.bh_cache.specs.Slots.{Slots, has, is_on, is_live_list, is_owned, ticket_at, Once, IsArena, IsOwn, IsFrame}
-
--- a list without a slot has each other slot that it had, and not this one
-pub has_without : (x s : ℕ) (xs : List ℕ) → has x (without s xs) ≡ (if eqb x s then false else has x xs)
-has_without x s [] = by (eqb x s)
-  where
-    by : (b : Bool) → false ≡ (if b then false else false)
-    by true = refl
-    by false = refl
-has_without x s (y ∷ ys) = elim (cases_eq y s) [
-  | inl e ↦ ap (λ b. has x (cond (not b) (y ∷ without s ys) (without s ys))) (eq-eqb y s e) ∙ has_without x s ys ∙ here e
-  | inr ne ↦ ap (λ b. has x (cond (not b) (y ∷ without s ys) (without s ys))) (ne_eqb y s ne) ∙ ap (λ b. eqb y x || b) (has_without x s ys) ∙ there ne
-]
-  where
-    here : y ≡ s → (if eqb x s then false else has x ys) ≡ (if eqb x s then false else (eqb y x || has x ys))
-    here e = grind (arith, nat_tests)
-
-    there : (y ≡ s → ⊥) → (eqb y x || (if eqb x s then false else has x ys)) ≡ (if eqb x s then false else (eqb y x || has x ys))
-    there ne = grind (arith, nat_tests)
-
--- a list without a slot that it does not have is as it was
-pub without_absent : (x : ℕ) (xs : List ℕ) → has x xs ≡ false → without x xs ≡ xs
-without_absent x [] out = refl
-without_absent x (y ∷ ys) out = elim (cases_eq y x) [
-  | inl e ↦ absurd (no (ap (λ b. b || has x ys) (sym (eq-eqb y x e)) ∙ out))
-  | inr ne ↦ ap (λ b. cond (not b) (y ∷ without x ys) (without x ys)) (ne_eqb y x ne) ∙ ap (λ zs. y ∷ zs) (without_absent x ys (ap (λ b. b || has x ys) (sym (ne_eqb y x ne)) ∙ out))
-]
-  where
-    no : true ≡ false → ⊥
-    no e = cc
-
--- ---- a slot moved to the end of a list
-
-lists_moved : (a : Slots) (x to : ℕ) → 0 < length a.families → lists_in (with_moved 0 x to a) 0 ≡ put_last (x ∷ []) to (map (without x) (lists_in a 0))
-lists_moved a x to wide = get_or-set_same a.families 0 (moved x to (lists_in a 0)) [] wide
-
-at_map : (x l : ℕ) (ls : List (List ℕ)) → get_or (map (without x) ls) l [] ≡ without x (get_or ls l [])
-at_map x l [] = refl
-at_map x zero (xs ∷ ls) = refl
-at_map x (suc l) (xs ∷ ls) = at_map x l ls
-
--- the list to which a slot is moved has it last, and before it its other slots
-pub list_to : (a : Slots) (x to : ℕ) → 0 < length a.families → to < length (lists_in a 0) → slots_on (with_moved 0 x to a) 0 to ≡ without x (slots_on a 0 to) ++ x ∷ []
-list_to a x to wide there =
-    ap (λ (ls : List (List ℕ)). get_or ls to []) (lists_moved a x to wide)
-    ∙ get_or-set_same (map (without x) (lists_in a 0)) to _ [] (omega (arith, there, length-map (lists_in a 0) (without x)))
-    ∙ ap (λ (xs : List ℕ). xs ++ x ∷ []) (at_map x to (lists_in a 0))
-
--- each other list is as it was, without the slot that is moved
-pub list_not_to : (a : Slots) (x to l : ℕ) → 0 < length a.families → (l ≡ to → ⊥) → slots_on (with_moved 0 x to a) 0 l ≡ without x (slots_on a 0 l)
-list_not_to a x to l wide ne =
-    ap (λ (ls : List (List ℕ)). get_or ls l []) (lists_moved a x to wide)
-    ∙ get_or-set_other (map (without x) (lists_in a 0)) to l _ [] ne
-    ∙ at_map x l (lists_in a 0)
-
--- there are as many lists after a move as before
-pub lists_count : (a : Slots) (x to : ℕ) → 0 < length a.families → length (lists_in (with_moved 0 x to a) 0) ≡ length (lists_in a 0)
-lists_count a x to wide = ap (λ (ls : List (List ℕ)). length ls) (lists_moved a x to wide) ∙ length-set (map (without x) (lists_in a 0)) to _ ∙ length-map (lists_in a 0) (without x)
-
--- after a move the slot is on the list to which it went and on no other, and each other slot is where it was
-pub on_moved : (a : Slots) (x to l y : ℕ) → 0 < length a.families → to < length (lists_in a 0) → is_on (with_moved 0 x to a) 0 l y ≡ (if eqb y x then eqb l to else is_on a 0 l y)
-on_moved a x to l y wide there = elim (cases_eq l to) [
-  | inl e ↦
-      ap (λ k. is_on (with_moved 0 x to a) 0 k y) e ∙ ap (has y) (list_to a x to wide there) ∙ has_append y (without x (slots_on a 0 to)) (x ∷ [])
-      ∙ ap (λ b. b || (eqb x y || false)) (has_without y x (slots_on a 0 to)) ∙ same (is_on a 0 to y) (is_on a 0 l y) (ap (λ k. is_on a 0 k y) (sym e)) (eqb l to) (eq-eqb l to e)
-  | inr ne ↦ ap (has y) (list_not_to a x to l wide ne) ∙ has_without y x (slots_on a 0 l) ∙ ap (λ b. if eqb y x then b else is_on a 0 l y) (sym (ne_eqb l to ne))
-]
-  where
-    same : (p q : Bool) → p ≡ q → (r : Bool) → r ≡ true → ((if eqb y x then false else p) || (eqb x y || false)) ≡ (if eqb y x then r else q)
-    same p q e r f = grind (arith, nat_tests)
 
 -- ---- no slot comes twice
 
@@ -144,8 +76,8 @@ pub record IsTouched (a b : Slots) (x to : ℕ) (v : Ticket) : Type 0 where
 
 once_moved : (a : Slots) (x to l : ℕ) → 0 < length a.families → to < length (lists_in a 0) → ((m : ℕ) → Once (slots_on a 0 m)) → Once (slots_on (with_moved 0 x to a) 0 l)
 once_moved a x to l wide there once = elim (cases_eq l to) [
-  | inl e ↦ subst (λ k. Once (slots_on (with_moved 0 x to a) 0 k)) (sym e) (subst Once (sym (list_to a x to wide there)) (once_append x (without x (slots_on a 0 to)) (has_without x x (slots_on a 0 to) ∙ ap (λ b. if b then false else has x (slots_on a 0 to)) (eq-eqb x x refl)) (once_without x (slots_on a 0 to) (once to))))
-  | inr ne ↦ subst Once (sym (list_not_to a x to l wide ne)) (once_without x (slots_on a 0 l) (once l))
+  | inl e ↦ subst (λ k. Once (slots_on (with_moved 0 x to a) 0 k)) (sym e) (subst Once (sym (list_to a 0 x to wide there)) (once_append x (without x (slots_on a 0 to)) (has_without x x (slots_on a 0 to) ∙ ap (λ b. if b then false else has x (slots_on a 0 to)) (eq-eqb x x refl)) (once_without x (slots_on a 0 to) (once to))))
+  | inr ne ↦ subst Once (sym (list_not_to a 0 x to wide l ne)) (once_without x (slots_on a 0 l) (once l))
 ]
 
 -- written and moved
@@ -154,10 +86,10 @@ touched_both a x to v arena within there = record {
   slots = length-set a.payloads x v;
   wide = omega (arith, arena.wide, length-set a.families 0 (moved x to (lists_in a 0)));
   limit = refl;
-  count = lists_count a x to arena.wide;
+  count = lists_count a 0 x to arena.wide;
   payload = λ y. get_set a.payloads x y v within;
-  on = λ l y. on_moved a x to l y arena.wide there;
-  left = λ l ne. list_not_to a x to l arena.wide ne;
+  on = λ l y. on_moved a 0 x to arena.wide there l y;
+  left = λ l ne. list_not_to a 0 x to arena.wide l ne;
   once = λ once l. once_moved a x to l arena.wide there once;
 }
 
@@ -173,10 +105,10 @@ touched_moved a x to v arena is there = record {
   slots = refl;
   wide = omega (arith, arena.wide, length-set a.families 0 (moved x to (lists_in a 0)));
   limit = refl;
-  count = lists_count a x to arena.wide;
+  count = lists_count a 0 x to arena.wide;
   payload = λ y. itself a.payloads x y v is;
-  on = λ l y. on_moved a x to l y arena.wide there;
-  left = λ l ne. list_not_to a x to l arena.wide ne;
+  on = λ l y. on_moved a 0 x to arena.wide there l y;
+  left = λ l ne. list_not_to a 0 x to arena.wide l ne;
   once = λ once l. once_moved a x to l arena.wide there once;
 }
 

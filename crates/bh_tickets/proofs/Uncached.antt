@@ -1,12 +1,12 @@
 -- The end of a request context.
-use Rattle.std.proofs.Common.{◌≡◌, ℕ, ◌+◌, ◌<◌, ◌⊎◌, inl, inr, Bool, true, false, List, [], ◌∷◌, length, Option, Some, None, refl, ◌∙◌, sym, ap, subst, arith}
+use Rattle.std.proofs.Common.{◌≡◌, ℕ, ◌+◌, ◌<◌, ◌⊎◌, inl, inr, Bool, true, false, List, [], ◌∷◌, length, get_or, Option, Some, None, refl, ◌∙◌, sym, ap, subst, arith}
 use Rattle.std.specs.Prelude.{◌||◌, count_by, slice_get, is_some, if◌then◌else◌}
 use Rattle.std.specs.Option.{option_map}
 use Rattle.bh_base.specs.declared.ticket.Ticket.{Ticket}
 use Rattle.bh_base.specs.Tickets.{is_cached_in, is_queued, is_in_fallback, is_kept}
 use Rattle.bh_slot_arena.specs.Slots.{lists_in, slots_on}
 use Rattle.bh_cache.specs.Cache.{IsDropped, uncached_in}
-use Rattle.bh_cache.specs.Slots.{Slots, is_on, is_live, is_owned, ticket_at, tickets_of, list_for, serial_in, InOrder, Once, count_below, has_one, IsArena, IsOwn, IsFrame}
+use Rattle.bh_cache.specs.Slots.{Slots, has, is_on, is_live, is_owned, ticket_at, tickets_of, list_for, serial_in, InOrder, Once, count_below, has_one, IsArena, IsOwn, IsFrame}
 use Rattle.bh_cache.proofs.Listed.{IsIn, in_listed, count_cons}
 use Rattle.bh_cache.proofs.Order.{order_same, count_same}
 use Rattle.bh_tickets.specs.declared.group_slots.GroupSlots.{GroupSlots}
@@ -38,23 +38,20 @@ none_counted q (u ∷ us) t e (inr h) = none_counted q us t (counted_if (q u) (c
 
 module _ (a b : Slots) (s : GroupSlots) (context n : ℕ) (arena : IsArena a 0) (group : IsGroupSlots a s) (dropped : IsDropped context s.lists a b n) where
   lists_same : lists_in b 0 ≡ lists_in a 0
-  lists_same = ap (λ (fs : List (List (List ℕ))). list_of fs) dropped.families
-    where
-      list_of : List (List (List ℕ)) → List (List ℕ)
-      list_of fs = lists_in (record a { families = fs }) 0
+  lists_same = dropped.first
 
   on_same : (l x : ℕ) → is_on b 0 l x ≡ is_on a 0 l x
-  on_same l x = ap (λ (fs : List (List (List ℕ))). is_on (record a { families = fs }) 0 l x) dropped.families
+  on_same l x = ap (λ (ls : List (List ℕ)). has x (get_or ls l [])) dropped.first
 
   slots_same_on : (l : ℕ) → slots_on b 0 l ≡ slots_on a 0 l
-  slots_same_on l = ap (λ (fs : List (List (List ℕ))). slots_on (record a { families = fs }) 0 l) dropped.families
+  slots_same_on l = ap (λ (ls : List (List ℕ)). get_or ls l []) dropped.first
 
   owned_same : (x : ℕ) → is_owned b s.lists x ≡ is_owned a s.lists x
   owned_same x = λ i. on_same s.lists.free x i || (on_same s.lists.queued x i || (on_same s.lists.running x i || on_same s.lists.settled x i))
 
   arena_kept : IsArena b 0
   arena_kept = record {
-    wide = omega (arith, arena.wide, ap (λ (fs : List (List (List ℕ))). length fs) dropped.families);
+    wide = omega (arith, arena.wide, dropped.families);
     apart = λ l m x p q. arena.apart l m x (sym (on_same l x) ∙ p) (sym (on_same m x) ∙ q);
     within = λ l x p. let lt : x < length a.payloads = arena.within l x (sym (on_same l x) ∙ p) in omega (arith, lt, dropped.slots);
     once = λ l. subst Once (sym (slots_same_on l)) (arena.once l);
@@ -160,6 +157,7 @@ module _ (a b : Slots) (s : GroupSlots) (context n : ℕ) (arena : IsArena a 0) 
     whole = record {
       numbered = group.numbered;
       there = omega (arith, group.there, ap (λ (ls : List (List ℕ)). length ls) lists_same);
+      chained = dropped.chained;
       arranged = arranged;
       slots = ap (λ m. count_below m (is_owned b s.lists)) dropped.slots ∙ count_same (is_owned b s.lists) (is_owned a s.lists) (length a.payloads) owned_same ∙ group.slots;
       few = group.few;
@@ -178,6 +176,7 @@ module _ (a b : Slots) (s : GroupSlots) (context n : ℕ) (arena : IsArena a 0) 
         arena = arena_kept;
         group = subst (IsGroupSlots b) (sym made) whole;
         frame = frame;
+        chains = dropped.frame;
         limit = dropped.limit;
         lists = ap (λ (z : GroupSlots). z.lists) made;
         room = ap (λ (z : GroupSlots). z.slots.max) made;

@@ -14,6 +14,7 @@ use Rattle.bh_cache.specs.declared.lists.GroupLists.{GroupLists}
 use Rattle.bh_tickets.specs.declared.group_slots.GroupSlots.{GroupSlots}
 use Rattle.bh_base.specs.Tickets.{is_cached_in}
 use Rattle.bh_cache.specs.Cache.{uncached_in}
+use Rattle.bh_cache.specs.Chains.{IsChained, IsChainFrame}
 use Rattle.bh_cache.specs.Listed.{now_is}
 use Rattle.bh_slot_arena.specs.Slots.{lists_in, slots_on}
 use Rattle.bh_cache.specs.Slots.{Slots, is_on, is_owned, ticket_at, tickets_of, list_for, count_below, has_one, one, InOrder, IsArena, IsFrame}
@@ -66,6 +67,7 @@ pub record IsGroupSlots (a : Slots) (s : GroupSlots) : Type 0 where
   pub numbered : IsNumbered s.lists
   pub there : s.lists.settled < length (lists_in a 0)
   pub arranged : IsArranged a s.lists s.next
+  pub chained : IsChained a s.lists
   pub slots : count_below (length a.payloads) (is_owned a s.lists) ≡ s.slots.max
   pub few : s.slots.max < 2 ^ 63
   pub taken : s.slots.taken ≡ count_at a s.lists is_any
@@ -81,6 +83,7 @@ pub record IsGroupChange (a : Slots) (s : GroupSlots) (b : Slots) (r : GroupSlot
   pub arena : IsArena b 0
   pub group : IsGroupSlots b r
   pub frame : IsFrame s.lists a b
+  pub chains : IsChainFrame s.lists a b
   pub limit : b.limit ≡ a.limit
   pub lists : r.lists ≡ s.lists
   pub room : r.slots.max ≡ s.slots.max
@@ -92,11 +95,13 @@ counted_out t s = record s { busy = s.busy - one t.busy; queued = s.queued - one
 abbrev pub counted_in : Ticket → GroupSlots → GroupSlots
 counted_in t s = record s { busy = s.busy + one t.busy; queued = s.queued + one (is_queued t); in_fallback = s.in_fallback + one (is_in_fallback t) }
 
--- the slot has a ticket of this serial, which waits if this one does
+-- the slot has a ticket of this serial and this cache name, which waits if this one does
 pub record CanPut (a : Slots) (s : GroupSlots) (x : ℕ) (v : Ticket) : Type 0 where
   pub was : Ticket
   pub here : ticket_at a s.lists x ≡ Some was
   pub serial : v.serial ≡ was.serial
+  pub cache : v.cache ≡ was.cache
+  pub cached : v.cached ≡ was.cached
   pub waits : is_queued v ≡ true → is_queued was ≡ true
 
 -- the slot has a ticket to which that may happen

@@ -1,26 +1,49 @@
 -- How the arena grows by a group.
-use Rattle.std.specs.Prelude.{◌≡◌, ℕ, ◌+◌, ◌<◌, ◌≤◌, [], ◌∷◌, length}
+use Rattle.std.specs.Prelude.{◌≡◌, ℕ, ◌+◌, ◌<◌, ◌≤◌, [], ◌∷◌, ◌++◌, length, replicate}
 use Rattle.bh_base.specs.declared.ticket.Ticket.{Ticket}
-use Rattle.bh_slot_arena.specs.Slots.{lists_in, with_new_lists, with_new_slots}
+use Rattle.bh_slot_arena.specs.Slots.{lists_in, with_new_slots}
 use Rattle.bh_cache.specs.declared.lists.GroupLists.{GroupLists}
 use Rattle.bh_cache.specs.Slots.{Slots, IsArena}
 
--- a group's lists, from a number on
-abbrev pub lists_from : ℕ → GroupLists
-lists_from n = record { free = n; queued = n + 1; running = n + 2; settled = n + 3 }
+-- a group's lists, in each family from a number on
+abbrev pub lists_from : ℕ → ℕ → ℕ → GroupLists
+lists_from n m k = record {
+  free = n;
+  queued = n + 1;
+  running = n + 2;
+  settled = n + 3;
+  serials = m;
+  free1 = m + 16;
+  names = k;
+  uncached = k + 16;
+  free2 = k + 17;
+}
 
--- four lists more
-pub record HasNewLists (a b : Slots) : Type 0 where
-  pub is : b ≡ with_new_lists 0 4 a
-  pub arena : IsArena b 0
+-- so many empty lists more in each family, and all else is as before
+pub record HasNewLists (n m k : ℕ) (a b : Slots) : Type 0 where
+  pub limit : b.limit ≡ a.limit
+  pub payloads : b.payloads ≡ a.payloads
+  pub families : length b.families ≡ length a.families
+  pub first : lists_in b 0 ≡ lists_in a 0 ++ replicate n []
+  pub second : lists_in b 1 ≡ lists_in a 1 ++ replicate m []
+  pub third : lists_in b 2 ≡ lists_in a 2 ++ replicate k []
 
--- the list is there, and so many slots more are within the limit
+-- some empty lists more, and all else is as before
+pub record HasMoreLists (a b : Slots) : Type 0 where
+  pub first : ℕ
+  pub second : ℕ
+  pub third : ℕ
+  pub lists : HasNewLists first second third a b
+
+-- the lists of free slots are there, and so many slots more are within the limit
 pub record IsReadyFor (g : GroupLists) (count : ℕ) (a : Slots) : Type 0 where
-  pub list : g.free < length (lists_in a 0)
+  pub first : g.free < length (lists_in a 0)
+  pub second : g.free1 < length (lists_in a 1)
+  pub third : g.free2 < length (lists_in a 2)
   pub within : length a.payloads + count ≤ a.limit
 
--- so many slots more, on the list of free slots
+-- so many slots more, on the lists of free slots
 pub record IsGrown (g : GroupLists) (count : ℕ) (a b : Slots) : Type 0 where
   pub blank : Ticket
-  pub is : b ≡ with_new_slots count (g.free ∷ []) blank a
+  pub is : b ≡ with_new_slots count (g.free ∷ g.free1 ∷ g.free2 ∷ []) blank a
   pub arena : IsArena b 0

@@ -10,7 +10,7 @@ use bh_base::Ticket;
 use bh_slot_arena::Arena;
 
 /// Whether a ticket of the list is due to time out.
-pub fn any_due_on(arena: &Arena<Ticket, 1>, list: usize, due: &DueRule) -> bool
+pub fn any_due_on(arena: &Arena<Ticket, 3>, list: usize, due: &DueRule) -> bool
     requires { list < length (lists_in arena.now 0) }
     ensures { result ≡ any_at (is_due_by due.now) arena.now.payloads (slots_on arena.now 0 list) }
 {

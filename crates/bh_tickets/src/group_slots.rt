@@ -12,7 +12,7 @@ use crate::changes::{TicketChange, apply};
 use crate::states::{DueRule, is_due, is_in_fallback, is_kept, is_queued};
 use bh_admit::Permits;
 use bh_base::{Serial, Ticket, TicketState};
-use bh_cache::{GroupLists, drop_context};
+use bh_cache::{GroupLists, drop_context, place, place_free};
 use bh_slot_arena::Arena;
 
 /// Which of a group's tickets may be needed no more.
@@ -118,7 +118,7 @@ fn count_in(group: &mut GroupSlots, ticket: &Ticket)
 }
 
 /// Moves a slot to the end of a list, where it lies on another.
-fn move_on(arena: &mut Arena<Ticket, 1>, slot: u32, from: usize, to: usize)
+fn move_on(arena: &mut Arena<Ticket, 3>, slot: u32, from: usize, to: usize)
     requires slot { slot < length arena.old.payloads }
     requires list { to < length (lists_in arena.old 0) }
     ensures same { from ≡ to → arena.new ≡ arena.old }
@@ -131,7 +131,7 @@ fn move_on(arena: &mut Arena<Ticket, 1>, slot: u32, from: usize, to: usize)
 
 /// The ticket in the slot changes in place, and so does what is counted of it and the list on which it lies.
 pub fn change(
-    arena: &mut Arena<Ticket, 1>,
+    arena: &mut Arena<Ticket, 3>,
     group: &mut GroupSlots,
     slot: u32,
     change: &TicketChange,
@@ -156,7 +156,7 @@ pub fn change(
 }
 
 /// A new ticket, in the first of the group's free slots.
-pub fn add(arena: &mut Arena<Ticket, 1>, group: &mut GroupSlots, ticket: &Ticket)
+pub fn add(arena: &mut Arena<Ticket, 3>, group: &mut GroupSlots, ticket: &Ticket)
     requires arena { IsArena arena.old 0 }
     requires group { IsGroupSlots arena.old group.old }
     requires ticket { CanAdd group.old ticket.now }
@@ -169,14 +169,17 @@ pub fn add(arena: &mut Arena<Ticket, 1>, group: &mut GroupSlots, ticket: &Ticket
         return;
     };
     let to = list_for(&group.lists, &ticket.state);
+    arena.partition(1);
+    arena.partition(2);
     arena.set(slot, *ticket);
     arena.move_to_back(0, slot, to);
+    place(arena, &group.lists, slot);
     count_in(group, ticket);
     group.next += 1;
 }
 
 /// The ticket in the slot goes, where nobody needs it.
-pub fn release_at(arena: &mut Arena<Ticket, 1>, group: &mut GroupSlots, slot: u32)
+pub fn release_at(arena: &mut Arena<Ticket, 3>, group: &mut GroupSlots, slot: u32)
     requires arena { IsArena arena.old 0 }
     requires group { IsGroupSlots arena.old group.old }
     requires many { group.old.needless ≡ Needless.Many }
@@ -189,11 +192,14 @@ pub fn release_at(arena: &mut Arena<Ticket, 1>, group: &mut GroupSlots, slot: u3
     }
     count_out(group, was);
     group.slots.give();
+    arena.partition(1);
+    arena.partition(2);
     arena.move_to_back(0, slot, group.lists.free);
+    place_free(arena, &group.lists, slot);
 }
 
 /// No ticket of the group is cached in the context any more; answers how many were.
-pub fn drop_cached(arena: &mut Arena<Ticket, 1>, group: &mut GroupSlots, context: u64) -> u64
+pub fn drop_cached(arena: &mut Arena<Ticket, 3>, group: &mut GroupSlots, context: u64) -> u64
     requires arena { IsArena arena.old 0 }
     requires group { IsGroupSlots arena.old group.old }
     ensures { IsUncached arena.old group.old context result arena.new group.new }
@@ -207,7 +213,7 @@ pub fn drop_cached(arena: &mut Arena<Ticket, 1>, group: &mut GroupSlots, context
 
 /// The ticket in the slot has timed out, where it is due; answers how many did.
 pub fn time_out_at(
-    arena: &mut Arena<Ticket, 1>,
+    arena: &mut Arena<Ticket, 3>,
     group: &mut GroupSlots,
     slot: u32,
     due: &DueRule,

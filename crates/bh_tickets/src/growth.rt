@@ -3,7 +3,7 @@
 ghost use Rattle.std.specs.Prelude.{◌≡◌, ◌+◌, [], ◌∷◌, length, IfOk, OnErr, OnOk};
 ghost use Rattle.bh_base.specs.declared.ticket.Ticket.{Ticket};
 ghost use Rattle.bh_slot_arena.specs.Slots.{lists_in};
-ghost use Rattle.bh_tickets.specs.Growth.{HasNewLists, IsGrown, IsReadyFor, lists_from};
+ghost use Rattle.bh_tickets.specs.Growth.{HasMoreLists, HasNewLists, IsGrown, IsReadyFor, lists_from};
 
 use bh_base::{Text, Ticket, TicketState};
 use bh_cache::GroupLists;
@@ -11,31 +11,38 @@ use bh_slot_arena::Arena;
 use std::alloc::{AllocError, Global};
 
 /// An arena without slots.
-pub fn new_arena(alloc: Global, limit: u32) -> Arena<Ticket, 1>
-    ensures { result ≡ record { limit = limit; payloads = []; families = [] ∷ [] } }
+pub fn new_arena(alloc: Global, limit: u32) -> Arena<Ticket, 3>
+    ensures { result ≡ record { limit = limit; payloads = []; families = [] ∷ [] ∷ [] ∷ [] } }
 {
     Arena::new(alloc, limit)
 }
 
-/// The lists of a new group, which are empty. Refused, nothing has changed.
-pub fn add_lists(arena: &mut Arena<Ticket, 1>) -> Result<GroupLists, AllocError>
-    ensures lists { IfOk result (λ lists. lists ≡ lists_from (length (lists_in arena.old 0))) }
-    ensures ok { OnOk result (HasNewLists arena.old arena.new) }
-    ensures err { OnErr result (arena.new ≡ arena.old) }
+/// The lists of a new group, which are empty. Refused, the arena may have some empty lists more.
+pub fn add_lists(arena: &mut Arena<Ticket, 3>) -> Result<GroupLists, AllocError>
+    ensures lists { IfOk result (λ lists. lists ≡ lists_from (length (lists_in arena.old 0)) (length (lists_in arena.old 1)) (length (lists_in arena.old 2))) }
+    ensures ok { OnOk result (HasNewLists 4 17 18 arena.old arena.new) }
+    ensures more { HasMoreLists arena.old arena.new }
 {
-    let free = arena.add_lists(0, 4)?;
     arena.partition(0);
+    let free = arena.add_lists(0, 4)?;
+    let serials = arena.add_lists(1, 17)?;
+    let names = arena.add_lists(2, 18)?;
     Ok(GroupLists {
         free,
         queued: free + 1,
         running: free + 2,
         settled: free + 3,
+        serials,
+        free1: serials + 16,
+        names,
+        uncached: names + 16,
+        free2: names + 17,
     })
 }
 
 /// So many free slots for a group. Refused, nothing has changed.
 pub fn add_slots(
-    arena: &mut Arena<Ticket, 1>,
+    arena: &mut Arena<Ticket, 3>,
     lists: &GroupLists,
     count: u32,
 ) -> Result<(), AllocError>
@@ -44,7 +51,11 @@ pub fn add_slots(
     ensures err { OnErr result (arena.new ≡ arena.old) }
 {
     if arena
-        .add_slots(count, [lists.free], blank_ticket())
+        .add_slots(
+            count,
+            [lists.free, lists.free1, lists.free2],
+            blank_ticket(),
+        )
         .is_err()
     {
         return Err(AllocError);

@@ -12,7 +12,7 @@ use bh_base::Ticket;
 use bh_slot_arena::Arena;
 
 /// Each of the group's tickets that is due has timed out. How many did.
-pub fn time_out(arena: &mut Arena<Ticket, 1>, group: &mut GroupSlots, due: &DueRule) -> u64
+pub fn time_out(arena: &mut Arena<Ticket, 3>, group: &mut GroupSlots, due: &DueRule) -> u64
     requires arena { IsArena arena.old 0 }
     requires group { IsGroupSlots arena.old group.old }
     ensures { IsTimedOut arena.old group.old due.now result arena.new group.new }
@@ -25,7 +25,7 @@ pub fn time_out(arena: &mut Arena<Ticket, 1>, group: &mut GroupSlots, due: &DueR
 }
 
 /// Each of the group's tickets that nobody needs goes. It takes no walk where at most one was noted.
-pub fn release(arena: &mut Arena<Ticket, 1>, group: &mut GroupSlots)
+pub fn release(arena: &mut Arena<Ticket, 3>, group: &mut GroupSlots)
     requires arena { IsArena arena.old 0 }
     requires group { IsGroupSlots arena.old group.old }
     ensures { IsReleased arena.old group.old arena.new group.new }
@@ -38,7 +38,7 @@ pub fn release(arena: &mut Arena<Ticket, 1>, group: &mut GroupSlots)
 }
 
 /// The ticket that was noted goes, where nobody needs it.
-fn release_one(arena: &mut Arena<Ticket, 1>, group: &mut GroupSlots, slot: u32)
+fn release_one(arena: &mut Arena<Ticket, 3>, group: &mut GroupSlots, slot: u32)
     requires arena { IsArena arena.old 0 }
     requires group { IsGroupSlots arena.old group.old }
     requires noted { group.old.needless ≡ Needless.One slot }
@@ -50,7 +50,7 @@ fn release_one(arena: &mut Arena<Ticket, 1>, group: &mut GroupSlots, slot: u32)
 }
 
 /// Each of the group's tickets that nobody needs goes, by a walk along all its lists.
-fn release_all(arena: &mut Arena<Ticket, 1>, group: &mut GroupSlots)
+fn release_all(arena: &mut Arena<Ticket, 3>, group: &mut GroupSlots)
     requires arena { IsArena arena.old 0 }
     requires group { IsGroupSlots arena.old group.old }
     requires many { group.old.needless ≡ Needless.Many }
@@ -65,7 +65,7 @@ fn release_all(arena: &mut Arena<Ticket, 1>, group: &mut GroupSlots)
 
 /// The tickets of a list have timed out, where they are due. How many did.
 fn time_out_on(
-    arena: &mut Arena<Ticket, 1>,
+    arena: &mut Arena<Ticket, 3>,
     group: &mut GroupSlots,
     list: usize,
     due: &DueRule,
@@ -91,7 +91,7 @@ fn time_out_on(
 }
 
 /// The tickets of a list go, where nobody needs them.
-fn release_on(arena: &mut Arena<Ticket, 1>, group: &mut GroupSlots, list: usize)
+fn release_on(arena: &mut Arena<Ticket, 3>, group: &mut GroupSlots, list: usize)
     requires arena { IsArena arena.old 0 }
     requires group { IsGroupSlots arena.old group.old }
     requires many { group.old.needless ≡ Needless.Many }

@@ -26,7 +26,7 @@ use std::marker::Model;
 /// The tickets of all groups, by the numbers of the groups.
 #[derive(Drop)]
 pub struct Tickets {
-    arena: Arena<Ticket, 1>,
+    arena: Arena<Ticket, 3>,
     groups: Vec<GroupSlots>,
 }
 

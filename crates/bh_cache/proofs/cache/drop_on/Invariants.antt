@@ -8,5 +8,5 @@ invariant-loop l = record {
   end : l.end ≡ length (slots_on l.initial.arena 0 l.list);
   here : l.counter ≤ length (slots_on l.initial.arena 0 l.list);
   place : l.place ≡ slice_get (slots_on l.initial.arena 0 l.list) l.counter;
-  dropped : IsDroppedFrom l.context (take l.counter (slots_on l.initial.arena 0 l.list)) l.initial.arena l.arena l.number;
+  dropped : IsDroppedFrom l.context l.lists (take l.counter (slots_on l.initial.arena 0 l.list)) l.initial.arena l.arena l.number;
 }

@@ -11,9 +11,9 @@ pub loop-preserved : goal.loop-preserved
 loop-preserved c =
     let p = is_cached_as (c.args.context, c.args.key.now) in
     let ps = c.args.arena.now.payloads in
-    let xs = slots_on c.args.arena.now 0 c.args.list in
+    let xs = slots_on c.args.arena.now 2 c.args.chain in
     let at : slice_get xs c.loop.counter ≡ Some c.in-Some.slot = sym c.loop.invariant.place ∙ c.in-Some.is in
-    let place = c.next-place.ensures c.args.list c.loop.counter at in
+    let place = c.next-place.ensures c.args.chain c.loop.counter at in
     elim c.if-has_name.branch [
       | then-has_name w ↦ record {
         end = c.loop.invariant.end;

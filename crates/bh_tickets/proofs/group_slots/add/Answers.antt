@@ -5,11 +5,11 @@ use Rattle.bh_admit.specs.Permits.{PermitCount}
 use Rattle.bh_tickets.specs.declared.group_slots.GroupSlots.{GroupSlots}
 use Rattle.bh_slot_arena.specs.Slots.{slots_on}
 use Rattle.bh_cache.proofs.Order.{front_on}
+use Rattle.bh_cache.proofs.Walks.{arena_is}
 use Rattle.bh_tickets.specs.GroupSlots.{is_busy, counted_in}
 use Rattle.bh_tickets.proofs.Puts.{one_few}
-use Rattle.bh_tickets.proofs.Adds.{count_few, not_full, add_from, to_list}
+use Rattle.bh_tickets.proofs.Adds.{count_few, not_full, add_from, placed_from, to_list}
 use Rattle.std.proofs.Common.{length-set}
-use Rattle.bh_slot_arena.specs.Slots.{with_moved}
 use Rattle.bh_tickets.proofs.group_slots.add.Goals as goal
 
 pub count_in-requires-clause-busy : goal.count_in-requires-clause-busy
@@ -35,8 +35,16 @@ move_to_back-requires c =
     let lt = c.requires.arena.within c.args.group.now.lists.free c.in-Some.slot (front_on c.in-Some.slot (slots_on c.args.arena.now 0 c.args.group.now.lists.free) (sym c.front.ensures ∙ c.in-Some.is)) in
     (omega arith, (omega arith, rw c.set.ensures (omega (arith, lt, length-set c.args.arena.now.payloads c.in-Some.slot c.args.ticket.now), to_list c.args.arena.now c.args.group.now c.list_for-to.result c.args.ticket.now.state c.requires.group c.list_for-to.ensures)))
 
+pub place-requires-clause-slot : goal.place-requires-clause-slot
+place-requires-clause-slot c =
+    let lt = c.requires.arena.within c.args.group.now.lists.free c.in-Some.slot (front_on c.in-Some.slot (slots_on c.args.arena.now 0 c.args.group.now.lists.free) (sym c.front.ensures ∙ c.in-Some.is)) in
+    rw (c.move_to_back.ensures.moved, c.set.ensures) (omega (arith, lt, length-set c.args.arena.now.payloads c.in-Some.slot c.args.ticket.now))
+
 pub returns : goal.returns
-returns c = add_from c.args.arena.now c.move_to_back.new.self c.args.group.now c.in-Some.slot c.list_for-to.result c.args.ticket.now c.requires.arena c.requires.group (sym c.front.ensures ∙ c.in-Some.is) c.requires.ticket c.list_for-to.ensures (λ _. c.move_to_back.ensures.moved ∙ ap (λ z. with_moved 0 c.in-Some.slot c.list_for-to.result z) c.set.ensures) _
+returns c = add_from c.args.arena.now c.place.new.arena c.args.group.now c.in-Some.slot c.list_for-to.result c.args.ticket.now c.requires.arena c.requires.group (sym c.front.ensures ∙ c.in-Some.is) c.requires.ticket
+    (arena_is c.args.arena.now 1 (omega (arith, c.partition.ensures.families)) c.partition.ensures.lists) (arena_is c.args.arena.now 2 (omega (arith, c.partition-2.ensures.families)) c.partition-2.ensures.lists)
+    c.list_for-to.ensures
+    (placed_from c.args.arena.now c.set.new.self c.move_to_back.new.self c.place.new.arena c.args.group.now.lists c.in-Some.slot c.list_for-to.result c.args.ticket.now (c.requires.arena.within c.args.group.now.lists.free c.in-Some.slot (front_on c.in-Some.slot (slots_on c.args.arena.now 0 c.args.group.now.lists.free) (sym c.front.ensures ∙ c.in-Some.is))) c.set.ensures c.move_to_back.ensures.moved c.place.ensures) _
     (ap (λ (s : GroupSlots). record s { next = s.next + 1 }) c.count_in.ensures
     ∙ ap (λ (p : PermitCount). record (counted_in c.args.ticket.now (record c.args.group.now { slots = p })) { next = c.args.group.now.next + 1 })
     (c.try_take.ensures.taken ∙ ap (λ b. if b then record c.args.group.now.slots { taken = c.args.group.now.slots.taken + 1 } else c.args.group.now.slots) c.if-not-try_take.false))

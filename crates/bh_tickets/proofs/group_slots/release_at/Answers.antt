@@ -1,10 +1,13 @@
-use Rattle.std.proofs.Common.{sym, ap, ◌∙◌, arith, ◌-◌}
+use Rattle.std.proofs.Common.{None, sym, ap, ◌∙◌, arith, ◌-◌}
 use Rattle.bh_base.specs.Tickets.{is_queued, is_in_fallback}
 use Rattle.bh_admit.specs.Permits.{PermitCount}
 use Rattle.bh_tickets.specs.declared.group_slots.GroupSlots.{GroupSlots}
 use Rattle.bh_slot_arena.specs.Slots.{with_moved}
+use Rattle.bh_cache.specs.Chains.{with_placed}
+use Rattle.bh_cache.specs.Slots.{Slots}
 use Rattle.bh_tickets.specs.GroupSlots.{is_busy, is_any}
 use Rattle.bh_tickets.proofs.Puts.{counted_at}
+use Rattle.bh_cache.proofs.Walks.{arena_is}
 use Rattle.bh_tickets.proofs.Releases.{there_at, there_within, stays_at, gone_from}
 use Rattle.bh_tickets.proofs.group_slots.release_at.Goals as goal
 
@@ -40,6 +43,8 @@ give-requires c =
 pub returns : goal.returns
 returns c =
     let here = there_at c.args.arena.now c.args.group.now c.args.slot c.get-was.result.now c.requires.there c.get-was.ensures in
-    gone_from c.args.arena.now c.move_to_back.new.self c.args.group.now c.args.slot c.get-was.result.now c.requires.arena c.requires.group c.requires.many here (sym c.is_kept.ensures ∙ c.if-is_kept.false)
-    (c.move_to_back.ensures.moved ∙ ap (λ l. with_moved 0 c.args.slot l c.args.arena.now) (ap (λ (s : GroupSlots). s.lists.free) c.count_out.ensures)) _
+    gone_from c.args.arena.now c.place_free.new.arena c.args.group.now c.args.slot c.get-was.result.now c.requires.arena c.requires.group c.requires.many here (sym c.is_kept.ensures ∙ c.if-is_kept.false)
+    (arena_is c.args.arena.now 1 (omega (arith, c.partition.ensures.families)) c.partition.ensures.lists) (arena_is c.args.arena.now 2 (omega (arith, c.partition-2.ensures.families)) c.partition-2.ensures.lists)
+    (c.place_free.ensures ∙ ap (λ (z : Slots). with_placed c.count_out.new.group.lists c.args.slot None z) c.move_to_back.ensures.moved
+    ∙ ap (λ (s : GroupSlots). with_placed s.lists c.args.slot None (with_moved 0 c.args.slot s.lists.free c.args.arena.now)) c.count_out.ensures) _
     (ap (λ (p : PermitCount). record c.count_out.new.group { slots = p }) c.give.ensures ∙ ap (λ (s : GroupSlots). record s { slots = record s.slots { taken = s.slots.taken - 1 } }) c.count_out.ensures)

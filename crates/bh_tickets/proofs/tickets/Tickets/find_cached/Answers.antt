@@ -1,5 +1,4 @@
 use Rattle.bh_base.specs.Tickets.{is_cached_as}
-use Rattle.bh_tickets.proofs.Finds.{lists_there}
 use Rattle.bh_tickets.proofs.Exists.{name_found, name_none}
 use Rattle.bh_tickets.proofs.Whole.{part_is}
 use Rattle.bh_tickets.proofs.tickets.Tickets.find_cached.Goals as goal
@@ -8,7 +7,7 @@ pub find-requires : goal.find-requires
 find-requires c =
     let s = c.index-entry.result.now in
     let is = part_is c.self.inside.arena c.self.inside.groups.items c.args.self.now c.args.group s c.self.view_is c.requires c.index-entry.ensures in
-    lists_there c.self.inside.arena s (c.self.invariant.each c.args.group s is)
+    (c.self.invariant.each c.args.group s is).chained
 
 pub returns-clause-found : goal.returns-clause-found
 returns-clause-found c =

@@ -1,6 +1,6 @@
 use Rattle.std.proofs.Common.{rules, arith}
 use Rattle.bh_base.specs.Tickets.{is_in_fallback}
-use Rattle.bh_tickets.proofs.Finds.{serial_found, serial_other, serial_none, serial_within, lists_there}
+use Rattle.bh_tickets.proofs.Finds.{serial_found, serial_other, serial_none, serial_within}
 use Rattle.bh_tickets.proofs.Whole.{part_is}
 use Rattle.bh_tickets.proofs.tickets.Tickets.find_in_fallback.Goals as goal
 
@@ -8,7 +8,7 @@ pub find_serial-requires : goal.find_serial-requires
 find_serial-requires c =
     let s = c.index-entry.result.now in
     let is = part_is c.self.inside.arena c.self.inside.groups.items c.args.self.now c.args.group s c.self.view_is c.requires c.index-entry.ensures in
-    lists_there c.self.inside.arena s (c.self.invariant.each c.args.group s is)
+    (c.self.invariant.each c.args.group s is).chained
 
 pub get-requires : goal.get-requires
 get-requires c =

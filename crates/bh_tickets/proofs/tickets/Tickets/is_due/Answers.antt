@@ -1,5 +1,5 @@
 use Rattle.std.proofs.Common.{◌∙◌, arith}
-use Rattle.bh_tickets.proofs.Finds.{lists_there, serial_within}
+use Rattle.bh_tickets.proofs.Finds.{serial_within}
 use Rattle.bh_tickets.proofs.Exists.{no_such, due_at}
 use Rattle.bh_tickets.proofs.Whole.{part_is}
 use Rattle.bh_tickets.proofs.tickets.Tickets.is_due.Goals as goal
@@ -8,7 +8,7 @@ pub find_serial-requires : goal.find_serial-requires
 find_serial-requires c =
     let s = c.index-entry.result.now in
     let is = part_is c.self.inside.arena c.self.inside.groups.items c.args.self.now c.args.group s c.self.view_is c.requires c.index-entry.ensures in
-    lists_there c.self.inside.arena s (c.self.invariant.each c.args.group s is)
+    (c.self.invariant.each c.args.group s is).chained
 
 pub returns-in_default : goal.returns-in_default
 returns-in_default c =

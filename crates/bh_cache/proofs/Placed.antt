@@ -1,0 +1,247 @@
+-- The chains of a group: where its slots lie, and what stays as one of them is placed.
+use Rattle.std.proofs.Common.{◌≡◌, ℕ, ◌+◌, ◌<◌, ◌≤◌, inl, inr, Bool, true, false, List, [], length, get_or, Option, Some, None, refl, ◌∙◌, sym, ap, subst, arith}
+use Rattle.std.specs.Prelude.{◌||◌, eqb, slice_get, if◌then◌else◌}
+use Rattle.std.proofs.lemmas.Bool.{cases_eq, eq-eqb, ne_eqb}
+use Rattle.std.proofs.lemmas.Bool.Decides.{nat_tests}
+use Rattle.bh_base.specs.declared.ticket.Ticket.{Ticket}
+use Rattle.bh_index_lists.specs.Lists.{without}
+use Rattle.bh_slot_arena.specs.Slots.{lists_in, slots_on, with_moved}
+use Rattle.bh_cache.specs.declared.lists.GroupLists.{GroupLists}
+use Rattle.bh_cache.specs.Chains.{AreOn, HasChains, IsChained, IsChainFrame, KeepsLists, list_by_name, list_by_serial, list_of_name, name_chain, serial_chain, with_placed}
+use Rattle.bh_cache.specs.Names.{mixed, place_of_name, place_of_serial, top_bits}
+use Rattle.bh_cache.specs.Slots.{Slots, IsArena, has, is_on, is_live, is_owned, ticket_at}
+use Rattle.bh_cache.proofs.Moves.{families_count, family_stays, list_not_to, lists_count, on_moved, without_absent}
+
+-- ---- the sixteen places
+
+pub serial_place_within : (serial : ℕ) → place_of_serial serial < 16
+unfolding place_of_serial
+serial_place_within serial = omega arith
+
+top_bits_within : (h : ℕ) → top_bits h < 16
+top_bits_within h = omega arith
+
+pub name_place_within : (name : ℕ × List ℕ) → place_of_name name < 16
+unfolding place_of_name
+name_place_within name = top_bits_within (mixed name.0 name.1)
+
+-- ---- the lists on which slots are placed
+
+module _ (a : Slots) (g : GroupLists) (chains : HasChains a g) where
+  -- a slot is placed on one of the group's lists of the second family
+  pub serial_list_within : (o : Option Ticket) → (g.serials ≤ list_by_serial g o) × (list_by_serial g o ≤ g.free1)
+  serial_list_within None = (omega (arith, chains.free1), omega arith)
+  serial_list_within (Some t) = let k = serial_place_within t.serial in (omega (arith, k), omega (arith, k, chains.free1))
+
+  -- and, where it has a ticket, not on the list of those that have none
+  pub serial_chain_not_free : (serial : ℕ) → serial_chain g serial < g.free1
+  serial_chain_not_free serial = let k = serial_place_within serial in omega (arith, k, chains.free1)
+
+  pub name_chain_not_uncached : (name : ℕ × List ℕ) → name_chain g name < g.uncached
+  name_chain_not_uncached name = let k = name_place_within name in omega (arith, k, chains.uncached)
+
+  -- a slot is placed on one of the group's lists of the third family
+  pub name_list_within : (o : Option Ticket) → (g.names ≤ list_by_name g o) × (list_by_name g o ≤ g.free2)
+  name_list_within None = (omega (arith, chains.free2), omega arith)
+  name_list_within (Some t) = by t.cached t.cache
+    where
+      by : (b : Bool) (o : Option (ℕ × List ℕ)) → (g.names ≤ (if b then list_of_name g o else g.uncached)) × ((if b then list_of_name g o else g.uncached) ≤ g.free2)
+      by false o = (omega (arith, chains.uncached), omega (arith, chains.uncached, chains.free2))
+      by true None = (omega (arith, chains.uncached), omega (arith, chains.uncached, chains.free2))
+      by true (Some name) = let k = name_place_within name in (omega (arith, k), omega (arith, k, chains.free2))
+
+-- ---- where the first family stays
+
+module _ (a b : Slots) (g : GroupLists) (same : lists_in b 0 ≡ lists_in a 0) where
+  -- the slots of the group are the same
+  pub owned_same : (x : ℕ) → is_owned b g x ≡ is_owned a g x
+  owned_same x = ap (λ (ls : List (List ℕ)). has x (get_or ls g.free []) || (has x (get_or ls g.queued []) || (has x (get_or ls g.running []) || has x (get_or ls g.settled [])))) same
+
+  -- and those that have tickets
+  pub live_same : (x : ℕ) → is_live b g x ≡ is_live a g x
+  live_same x = ap (λ (ls : List (List ℕ)). has x (get_or ls g.queued []) || (has x (get_or ls g.running []) || has x (get_or ls g.settled []))) same
+
+  -- and the ticket of a slot, where its payload is the same
+  pub ticket_same : (x : ℕ) → slice_get b.payloads x ≡ slice_get a.payloads x → ticket_at b g x ≡ ticket_at a g x
+  ticket_same x e = ap (λ d. if d then slice_get b.payloads x else None) (live_same x) ∙ ap (λ o. if is_live a g x then o else None) e
+
+-- ---- one family
+
+module _ (f first last : ℕ) (to : Option Ticket → ℕ) (a b : Slots) (g : GroupLists) (was : AreOn f first last to a g)
+    (owned : (y : ℕ) → is_owned b g y ≡ is_owned a g y) where
+  -- where one slot of the group is put on the list for what it has, and all others stay, each lies on the list for what it has
+  pub rechained : (x : ℕ) → is_owned a g x ≡ true → ((y : ℕ) → (y ≡ x → ⊥) → ticket_at b g y ≡ ticket_at a g y)
+      → ((l y : ℕ) → (y ≡ x → ⊥) → is_on b f l y ≡ is_on a f l y) → is_on b f (to (ticket_at b g x)) x ≡ true → AreOn f first last to b g
+  rechained x here others stay there = record {
+    placed = λ y own. elim (cases_eq y x) [
+      | inl e ↦ subst (λ z. is_on b f (to (ticket_at b g z)) z ≡ true) (sym e) there
+      | inr ne ↦ ap (λ o. is_on b f (to o) y) (others y ne) ∙ stay (to (ticket_at a g y)) y ne ∙ was.placed y (sym (owned y) ∙ own)
+    ];
+    owned = λ l y from til on. elim (cases_eq y x) [
+      | inl e ↦ owned y ∙ ap (is_owned a g) e ∙ here
+      | inr ne ↦ owned y ∙ was.owned l y from til (sym (stay l y ne) ∙ on)
+    ];
+  }
+
+  -- where the lists of the family are the same, and for each slot the list for what it has, each lies on it
+  pub chained_still : lists_in b f ≡ lists_in a f → ((y : ℕ) → to (ticket_at b g y) ≡ to (ticket_at a g y)) → AreOn f first last to b g
+  chained_still same lists = record {
+    placed = λ y own. ap (λ (ls : List (List ℕ)). has y (get_or ls (to (ticket_at b g y)) [])) same ∙ ap (λ l. is_on a f l y) (lists y) ∙ was.placed y (sym (owned y) ∙ own);
+    owned = λ l y from til on. owned y ∙ was.owned l y from til (sym (ap (λ (ls : List (List ℕ)). has y (get_or ls l [])) same) ∙ on);
+  }
+
+-- a move of a slot of the group among the group's lists leaves the others
+pub keeps_moved : (f first last : ℕ) (to : Option Ticket → ℕ) (a b : Slots) (g : GroupLists) (x l : ℕ) → AreOn f first last to a g → IsArena a f → f < length b.families → lists_in b f ≡ lists_in a f
+    → first ≤ to (ticket_at a g x) → to (ticket_at a g x) ≤ last → is_owned a g x ≡ true → first ≤ l → l ≤ last → KeepsLists f first last a (with_moved f x l b)
+keeps_moved f first last to a b g x l was arena wide same low high here from til = record {
+  count = lists_count b f x l wide ∙ ap (λ (ls : List (List ℕ)). length ls) same;
+  lists = λ m out.
+      list_not_to b f x l wide m (λ e. out (omega (arith, e, from), omega (arith, e, til)))
+      ∙ ap (λ (ls : List (List ℕ)). without x (get_or ls m [])) same
+      ∙ without_absent x (slots_on a f m) (away m out (is_on a f m x) refl);
+}
+  where
+    away : (m : ℕ) → ((first ≤ m) × (m ≤ last) → ⊥) → (c : Bool) → is_on a f m x ≡ c → c ≡ false
+    away m out false e = refl
+    away m out true e = let k : m ≡ to (ticket_at a g x) = arena.apart m (to (ticket_at a g x)) x e (was.placed x here) in absurd (out (omega (arith, k, low), omega (arith, k, high)))
+
+-- ---- a slot is placed
+
+-- the group's slots are the same, and the tickets of all but one; that one has still to be placed for what it has now
+pub record IsUnplaced (g : GroupLists) (x : ℕ) (a b : Slots) : Type 0 where
+  pub wide : length b.families ≡ length a.families
+  pub serials : lists_in b 1 ≡ lists_in a 1
+  pub names : lists_in b 2 ≡ lists_in a 2
+  pub owned : (y : ℕ) → is_owned b g y ≡ is_owned a g y
+  pub others : (y : ℕ) → (y ≡ x → ⊥) → ticket_at b g y ≡ ticket_at a g y
+  pub here : is_owned a g x ≡ true
+
+module _ (a : Slots) (g : GroupLists) (x : ℕ) (o : Option Ticket) where
+  serials_placed : lists_in (with_placed g x o a) 1 ≡ lists_in (with_moved 1 x (list_by_serial g o) a) 1
+  serials_placed = family_stays (with_moved 1 x (list_by_serial g o) a) 2 1 x (list_by_name g o) (λ e. absurd (omega (arith, e)))
+
+  -- the first family stays
+  pub first_placed : lists_in (with_placed g x o a) 0 ≡ lists_in a 0
+  first_placed = family_stays (with_moved 1 x (list_by_serial g o) a) 2 0 x (list_by_name g o) (λ e. absurd (omega (arith, e))) ∙ family_stays a 1 0 x (list_by_serial g o) (λ e. absurd (omega (arith, e)))
+
+  names_before : lists_in (with_moved 1 x (list_by_serial g o) a) 2 ≡ lists_in a 2
+  names_before = family_stays a 1 2 x (list_by_serial g o) (λ e. absurd (omega (arith, e)))
+
+  -- there are as many families as before
+  pub families_placed : length (with_placed g x o a).families ≡ length a.families
+  families_placed = families_count (with_moved 1 x (list_by_serial g o) a) 2 x (list_by_name g o) ∙ families_count a 1 x (list_by_serial g o)
+
+  -- in the second family the slot lies on its list and on no other, and all others lie as they did
+  pub on_serials : 2 < length a.families → HasChains a g → (l y : ℕ) → is_on (with_placed g x o a) 1 l y ≡ (if eqb y x then eqb l (list_by_serial g o) else is_on a 1 l y)
+  on_serials wide chains l y =
+      ap (λ (ls : List (List ℕ)). has y (get_or ls l [])) serials_placed
+      ∙ on_moved a 1 x (list_by_serial g o) (omega (arith, wide)) (let k = serial_list_within a g chains o in omega (arith, k.1, chains.serials_there)) l y
+
+  -- and so in the third
+  pub on_names : 2 < length a.families → HasChains a g → (l y : ℕ) → is_on (with_placed g x o a) 2 l y ≡ (if eqb y x then eqb l (list_by_name g o) else is_on a 2 l y)
+  on_names wide chains l y =
+      let m : Slots = with_moved 1 x (list_by_serial g o) a in
+      on_moved m 2 x (list_by_name g o) (omega (arith, wide, families_count a 1 x (list_by_serial g o))) (let k = name_list_within a g chains o in omega (arith, k.1, chains.names_there, ap (λ (ls : List (List ℕ)). length ls) names_before)) l y
+      ∙ ap (λ (ls : List (List ℕ)). if eqb y x then eqb l (list_by_name g o) else has y (get_or ls l [])) names_before
+
+module _ (a b : Slots) (g : GroupLists) (x : ℕ) (o : Option Ticket) (was : IsChained a g) (first : IsArena a 1) (second : IsArena a 2) (unplaced : IsUnplaced g x a b) where
+  wide : 2 < length b.families
+  wide = omega (arith, second.wide, unplaced.wide)
+
+  chains : HasChains b g
+  chains = record {
+    free1 = was.lists.free1;
+    uncached = was.lists.uncached;
+    free2 = was.lists.free2;
+    serials_there = omega (arith, was.lists.serials_there, ap (λ (ls : List (List ℕ)). length ls) unplaced.serials);
+    names_there = omega (arith, was.lists.names_there, ap (λ (ls : List (List ℕ)). length ls) unplaced.names);
+  }
+
+  -- the chains of other groups are as before
+  pub frame_placed : IsChainFrame g a (with_placed g x o b)
+  frame_placed =
+      let m : Slots = with_moved 1 x (list_by_serial g o) b in
+      let s = serial_list_within a g was.lists (ticket_at a g x) in
+      let t = serial_list_within a g was.lists o in
+      let n = name_list_within a g was.lists (ticket_at a g x) in
+      let p = name_list_within a g was.lists o in
+      let by_serial = keeps_moved 1 g.serials g.free1 (list_by_serial g) a b g x (list_by_serial g o) was.serials first (omega (arith, wide)) unplaced.serials s.0 s.1 unplaced.here t.0 t.1 in
+      let by_name = keeps_moved 2 g.names g.free2 (list_by_name g) a m g x (list_by_name g o) was.names second (omega (arith, wide, families_count b 1 x (list_by_serial g o))) (names_before b g x o ∙ unplaced.names) n.0 n.1 unplaced.here p.0 p.1 in
+      record {
+        serials = record {
+          count = ap (λ (ls : List (List ℕ)). length ls) (serials_placed b g x o) ∙ by_serial.count;
+          lists = λ l out. ap (λ (ls : List (List ℕ)). get_or ls l []) (serials_placed b g x o) ∙ by_serial.lists l out;
+        };
+        names = by_name;
+      }
+
+  -- the slots of the group are those before it was placed
+  owned_placed : (y : ℕ) → is_owned (with_placed g x o b) g y ≡ is_owned a g y
+  owned_placed y = owned_same b (with_placed g x o b) g (first_placed b g x o) y ∙ unplaced.owned y
+
+  ticket_placed : (y : ℕ) → ticket_at (with_placed g x o b) g y ≡ ticket_at b g y
+  ticket_placed y = ticket_same b (with_placed g x o b) g (first_placed b g x o) y refl
+
+  -- where the slot is placed for what it has, each slot of the group lies where it is placed
+  pub chained_placed : o ≡ ticket_at b g x → IsChained (with_placed g x o b) g
+  chained_placed is = record {
+    lists = record {
+      free1 = was.lists.free1;
+      uncached = was.lists.uncached;
+      free2 = was.lists.free2;
+      serials_there = omega (arith, was.lists.serials_there, frame_placed.serials.count);
+      names_there = omega (arith, was.lists.names_there, frame_placed.names.count);
+    };
+    serials = rechained 1 g.serials g.free1 (list_by_serial g) a (with_placed g x o b) g was.serials owned_placed x unplaced.here (λ y ne. ticket_placed y ∙ unplaced.others y ne)
+        (λ l y ne. on_serials b g x o wide chains l y ∙ ap (λ c. if c then eqb l (list_by_serial g o) else is_on b 1 l y) (ne_eqb y x ne) ∙ ap (λ (ls : List (List ℕ)). has y (get_or ls l [])) unplaced.serials)
+        (ap (λ q. is_on (with_placed g x o b) 1 (list_by_serial g q) x) (ticket_placed x ∙ sym is) ∙ on_serials b g x o wide chains (list_by_serial g o) x ∙ ap (λ c. if c then eqb (list_by_serial g o) (list_by_serial g o) else is_on b 1 (list_by_serial g o) x) (eq-eqb x x refl) ∙ eq-eqb (list_by_serial g o) (list_by_serial g o) refl);
+    names = rechained 2 g.names g.free2 (list_by_name g) a (with_placed g x o b) g was.names owned_placed x unplaced.here (λ y ne. ticket_placed y ∙ unplaced.others y ne)
+        (λ l y ne. on_names b g x o wide chains l y ∙ ap (λ c. if c then eqb l (list_by_name g o) else is_on b 2 l y) (ne_eqb y x ne) ∙ ap (λ (ls : List (List ℕ)). has y (get_or ls l [])) unplaced.names)
+        (ap (λ q. is_on (with_placed g x o b) 2 (list_by_name g q) x) (ticket_placed x ∙ sym is) ∙ on_names b g x o wide chains (list_by_name g o) x ∙ ap (λ c. if c then eqb (list_by_name g o) (list_by_name g o) else is_on b 2 (list_by_name g o) x) (eq-eqb x x refl) ∙ eq-eqb (list_by_name g o) (list_by_name g o) refl);
+  }
+
+-- ---- chains that stay
+
+-- where no slot's list changes, each slot still lies where it is placed
+pub chained_same : (a b : Slots) (g : GroupLists) → IsChained a g → lists_in b 1 ≡ lists_in a 1 → lists_in b 2 ≡ lists_in a 2 → ((y : ℕ) → is_owned b g y ≡ is_owned a g y)
+    → ((y : ℕ) → list_by_serial g (ticket_at b g y) ≡ list_by_serial g (ticket_at a g y)) → ((y : ℕ) → list_by_name g (ticket_at b g y) ≡ list_by_name g (ticket_at a g y)) → IsChained b g
+chained_same a b g was serials names owned by_serial by_name = record {
+  lists = record {
+    free1 = was.lists.free1;
+    uncached = was.lists.uncached;
+    free2 = was.lists.free2;
+    serials_there = omega (arith, was.lists.serials_there, ap (λ (ls : List (List ℕ)). length ls) serials);
+    names_there = omega (arith, was.lists.names_there, ap (λ (ls : List (List ℕ)). length ls) names);
+  };
+  serials = chained_still 1 g.serials g.free1 (list_by_serial g) a b g was.serials owned serials by_serial;
+  names = chained_still 2 g.names g.free2 (list_by_name g) a b g was.names owned names by_name;
+}
+
+keeps_same : (f first last : ℕ) (a b : Slots) → lists_in b f ≡ lists_in a f → KeepsLists f first last a b
+keeps_same f first last a b same = record {
+  count = ap (λ (ls : List (List ℕ)). length ls) same;
+  lists = λ l out. ap (λ (ls : List (List ℕ)). get_or ls l []) same;
+}
+
+keeps_both : (f first last : ℕ) (a b c : Slots) → KeepsLists f first last a b → KeepsLists f first last b c → KeepsLists f first last a c
+keeps_both f first last a b c p q = record {
+  count = q.count ∙ p.count;
+  lists = λ l out. q.lists l out ∙ p.lists l out;
+}
+
+-- where the second and the third family stay, so do the chains of other groups
+pub frame_same : (g : GroupLists) (a b : Slots) → lists_in b 1 ≡ lists_in a 1 → lists_in b 2 ≡ lists_in a 2 → IsChainFrame g a b
+frame_same g a b serials names = record {
+  serials = keeps_same 1 g.serials g.free1 a b serials;
+  names = keeps_same 2 g.names g.free2 a b names;
+}
+
+pub frame_refl : (g : GroupLists) (a : Slots) → IsChainFrame g a a
+frame_refl g a = frame_same g a a refl refl
+
+-- what stays twice stays
+pub frame_trans : (g : GroupLists) (a b c : Slots) → IsChainFrame g a b → IsChainFrame g b c → IsChainFrame g a c
+frame_trans g a b c p q = record {
+  serials = keeps_both 1 g.serials g.free1 a b c p.serials q.serials;
+  names = keeps_both 2 g.names g.free2 a b c p.names q.names;
+}

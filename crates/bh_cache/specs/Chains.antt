@@ -1,0 +1,63 @@
+-- The chains on which a group's tickets are found by serial and by cache name.
+use Rattle.std.specs.Prelude.{◌≡◌, ℕ, ◌+◌, ◌<◌, ◌≤◌, Bool, true, false, if◌then◌else◌, List, length, Option, Some, None}
+use Rattle.bh_base.specs.declared.ticket.Ticket.{Ticket}
+use Rattle.bh_slot_arena.specs.Slots.{lists_in, slots_on, with_moved}
+use Rattle.bh_cache.specs.declared.lists.GroupLists.{GroupLists}
+use Rattle.bh_cache.specs.Names.{place_of_serial, place_of_name}
+use Rattle.bh_cache.specs.Slots.{Slots, is_on, is_owned, ticket_at}
+
+-- the chain of a serial
+abbrev pub serial_chain : GroupLists → ℕ → ℕ
+serial_chain g serial = g.serials + place_of_serial serial
+
+-- the chain of a cache name
+abbrev pub name_chain : GroupLists → ℕ × List ℕ → ℕ
+name_chain g name = g.names + place_of_name name
+
+-- the list of the second family for a slot that has this ticket, or none
+abbrev pub list_by_serial : GroupLists → Option Ticket → ℕ
+list_by_serial g None = g.free1
+list_by_serial g (Some t) = serial_chain g t.serial
+
+-- the list of the third family for a ticket that is cached and was given this name, or none
+abbrev pub list_of_name : GroupLists → Option (ℕ × List ℕ) → ℕ
+list_of_name g None = g.uncached
+list_of_name g (Some name) = name_chain g name
+
+-- the list of the third family for a slot that has this ticket, or none
+abbrev pub list_by_name : GroupLists → Option Ticket → ℕ
+list_by_name g None = g.free2
+list_by_name g (Some t) = if t.cached then list_of_name g t.cache else g.uncached
+
+-- the lists of the second and the third family are there, and follow on one another
+pub record HasChains (a : Slots) (g : GroupLists) : Type 0 where
+  pub free1 : g.free1 ≡ g.serials + 16
+  pub uncached : g.uncached ≡ g.names + 16
+  pub free2 : g.free2 ≡ g.names + 17
+  pub serials_there : g.free1 < length (lists_in a 1)
+  pub names_there : g.free2 < length (lists_in a 2)
+
+-- each of the group's slots lies on the family's list for what it has, and only the group's slots lie on the group's lists
+pub record AreOn (family first last : ℕ) (to : Option Ticket → ℕ) (a : Slots) (g : GroupLists) : Type 0 where
+  pub placed : (x : ℕ) → is_owned a g x ≡ true → is_on a family (to (ticket_at a g x)) x ≡ true
+  pub owned : (l x : ℕ) → first ≤ l → l ≤ last → is_on a family l x ≡ true → is_owned a g x ≡ true
+
+-- each slot of the group lies where `place` puts it, and a free one on the free lists
+pub record IsChained (a : Slots) (g : GroupLists) : Type 0 where
+  pub lists : HasChains a g
+  pub serials : AreOn 1 g.serials g.free1 (list_by_serial g) a g
+  pub names : AreOn 2 g.names g.free2 (list_by_name g) a g
+
+-- the family has as many lists as before, and all but those from the first to the last are as before
+pub record KeepsLists (family first last : ℕ) (a b : Slots) : Type 0 where
+  pub count : length (lists_in b family) ≡ length (lists_in a family)
+  pub lists : (l : ℕ) → ((first ≤ l) × (l ≤ last) → ⊥) → slots_on b family l ≡ slots_on a family l
+
+-- the chains of other groups are as before
+pub record IsChainFrame (g : GroupLists) (a b : Slots) : Type 0 where
+  pub serials : KeepsLists 1 g.serials g.free1 a b
+  pub names : KeepsLists 2 g.names g.free2 a b
+
+-- the slot, which has this ticket or none, put last on its lists of the second and the third family
+abbrev pub with_placed : GroupLists → ℕ → Option Ticket → Slots → Slots
+with_placed g x o a = with_moved 2 x (list_by_name g o) (with_moved 1 x (list_by_serial g o) a)

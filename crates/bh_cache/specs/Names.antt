@@ -1,0 +1,19 @@
+-- How serials and cache names are spread over sixteen chains.
+use Rattle.std.specs.Prelude.{ℕ, ◌+◌, ◌*◌, ◌^◌, ◌/◌, ◌%◌, List, [], ◌∷◌}
+
+-- neighbours fall on different chains
+unfoldable pub place_of_serial : ℕ → ℕ
+place_of_serial serial = serial % 16
+
+-- each byte of a text is mixed into what came before
+abbrev pub mixed : ℕ → List ℕ → ℕ
+mixed h [] = h
+mixed h (b ∷ bs) = mixed ((h + b) % 2 ^ 64 * 1099511628211 % 2 ^ 64) bs
+
+-- the upper half of a hash folded upon the lower one, and of that, spread once more, the four highest bits
+abbrev pub top_bits : ℕ → ℕ
+top_bits h = (h + h / 2 ^ 32) % 2 ^ 64 * 11400714819323198485 % 2 ^ 64 / 2 ^ 60
+
+-- by a hash of the request context and the bytes of the key
+unfoldable pub place_of_name : ℕ × List ℕ → ℕ
+place_of_name name = top_bits (mixed name.0 name.1)

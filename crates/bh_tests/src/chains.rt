@@ -1,0 +1,137 @@
+//! Each name and each serial of a group whose slots are all taken is found as a walk over all tickets finds it.
+
+ghost use Rattle.bh_base.specs.Ranges.{IsInRange};
+
+use crate::samples::{props, step, text};
+use crate::script::assert_number;
+use bh_base::{GroupProps, Op, Reply, Request, Serial, Text};
+use bh_core::Core;
+use std::process::Abort;
+
+/// How many slots the group has, and how many names there are.
+const TICKETS: u64 = 4096;
+
+/// The name of a cached ticket.
+#[derive(Clone, Copy, Debug, PartialEq, Eq)]
+struct Name {
+    context: u64,
+    key: Text<32>,
+}
+
+/// A group whose tickets never run, and have no fallback: each collect of a ticket that is held is answered.
+fn never_running() -> GroupProps
+    ensures { IsInRange result }
+{
+    GroupProps {
+        slots: 4096,
+        force_open: true,
+        fallback_on: false,
+        ..props()
+    }
+}
+
+/// All names of so many contexts and keys.
+fn names<R: Abort + AllocGlobal>(rt: &R, contexts: u64, keys: u64) -> Vec<Name> {
+    let mut names = Vec::new(rt.alloc());
+    for context in 0..contexts {
+        for number in 0..keys {
+            let key = format!(in rt.alloc(); "key-{number}").expect(rt, "memory");
+            let key = Text::new(key.as_str()).expect(rt, "a short text");
+            names.push(Name { context, key }).expect(rt, "memory");
+        }
+    }
+    names
+}
+
+/// The serial of the name's ticket, where each name has had one from the serial `first` on, by a walk over all names.
+fn walk(names: &[Name], name: &Name, first: Serial) -> Option<Serial> {
+    let place = names.iter().position(|other| other == name)?;
+    first.checked_add(place as u64)
+}
+
+/// What the group is told for a request of the name.
+fn ask(core: &mut Core, name: &Name) -> Reply {
+    let request = Request {
+        cache: Some((name.context, name.key)),
+        arg: text("x"),
+    };
+    core.apply(step(0, 0, &Op::Submit(request)))
+}
+
+/// Asserts that a request of each name gets a ticket of its own, from the serial `first` on.
+fn assert_made<R: Abort>(rt: &R, core: &mut Core, names: &[Name], first: Serial) {
+    for name in names {
+        let made = match ask(core, name) {
+            Reply::FallbackDue { serial, .. } => Some(serial),
+            _ => None,
+        };
+        assert_eq!(rt; made, walk(names, name, first));
+    }
+}
+
+/// Asserts that a request of each name joins the ticket of the name.
+fn assert_joined<R: Abort>(rt: &R, core: &mut Core, names: &[Name], first: Serial) {
+    for name in names {
+        let joined = match ask(core, name) {
+            Reply::Joined(serial) => Some(serial),
+            _ => None,
+        };
+        assert_eq!(rt; joined, walk(names, name, first));
+    }
+}
+
+/// Asserts that each of the serials up to that of the last ticket gives an answer once, and the next one none.
+fn assert_collected<R: Abort>(rt: &R, core: &mut Core) {
+    for serial in 1..TICKETS + 1 {
+        let told = core.apply(step(0, 0, &Op::Collect { serial }));
+        assert!(rt; matches!(told, Reply::Answered(_)), "{serial}");
+    }
+    assert_no_ticket(rt, core, TICKETS + 1);
+}
+
+/// Asserts that nobody holds a ticket of those serials.
+fn assert_none_held<R: Abort>(rt: &R, core: &mut Core) {
+    for serial in 1..TICKETS + 1 {
+        assert_no_ticket(rt, core, serial);
+    }
+}
+
+fn assert_no_ticket<R: Abort>(rt: &R, core: &mut Core, serial: Serial) {
+    let told = core.apply(step(0, 0, &Op::Collect { serial }));
+    assert!(rt; told == Reply::NoTicket, "{serial}");
+}
+
+/// Ends so many contexts. The number of tickets that are cached no longer.
+fn close_all(core: &mut Core, contexts: u64) -> u64 {
+    let mut closed = 0_u64;
+    for context in 0..contexts {
+        if let Reply::Closed(count) = core.apply(step(0, 0, &Op::Close { context })) {
+            closed = closed.saturating_add(count);
+        }
+    }
+    closed
+}
+
+/// Asserts it for the names of so many contexts and keys.
+fn assert_chains<R: Abort + AllocGlobal>(rt: &R, contexts: u64, keys: u64) {
+    let names = names(rt, contexts, keys);
+    let mut core = Core::new(rt.alloc(), 4096);
+    core.register(never_running(), 1 << 40).expect(rt, "memory");
+    assert_made(rt, &mut core, names.as_slice(), 1);
+    assert_joined(rt, &mut core, names.as_slice(), 1);
+    assert_collected(rt, &mut core);
+    assert_collected(rt, &mut core);
+    // Nobody holds a ticket now, but each is cached.
+    assert_none_held(rt, &mut core);
+    assert_joined(rt, &mut core, names.as_slice(), 1);
+    assert_collected(rt, &mut core);
+    assert_number(rt, close_all(&mut core, contexts), TICKETS);
+    assert_none_held(rt, &mut core);
+    assert_made(rt, &mut core, names.as_slice(), TICKETS + 1);
+}
+
+#[test]
+fn chains_equal_walk(rt: HostRuntime) {
+    assert_chains(&rt, 1024, 4);
+    assert_chains(&rt, 4, 1024);
+}

@@ -1,0 +1,148 @@
+-- The chains of a group as one of its slots changes, and as other groups do.
+use Rattle.std.proofs.Common.{◌≡◌, ℕ, ◌<◌, ◌≤◌, inl, inr, Bool, true, false, List, [], length, get_or, Option, Some, None, refl, ◌∙◌, sym, ap, subst, arith}
+use Rattle.std.specs.Prelude.{◌||◌, eqb, if◌then◌else◌}
+use Rattle.std.proofs.lemmas.Bool.{cases_eq}
+use Rattle.bh_base.specs.declared.ticket.Ticket.{Ticket}
+use Rattle.bh_slot_arena.specs.Slots.{lists_in, slots_on, with_payload, with_moved}
+use Rattle.bh_cache.specs.declared.lists.GroupLists.{GroupLists}
+use Rattle.bh_cache.specs.Chains.{HasChains, IsChained, IsChainFrame, AreOn, KeepsLists, list_by_name, list_by_serial, list_of_name, serial_chain, with_placed}
+use Rattle.bh_cache.specs.Slots.{Slots, has, is_live_list, is_on, is_owned, ticket_at, Once, IsApart, IsArena}
+use Rattle.bh_cache.proofs.Moves.{families_count, family_stays}
+use Rattle.bh_cache.proofs.Placed.{IsUnplaced, chained_placed, chained_same, families_placed, first_placed, frame_placed, name_list_within, serial_list_within}
+use Rattle.bh_tickets.proofs.Touched.{IsTouched, at_other, at_slot, owned_same}
+
+-- ---- what a change of one family leaves of the others
+
+-- a slot that is placed stays where it is on the lists of the first family
+pub placed_on : (g : GroupLists) (x : ℕ) (o : Option Ticket) (z : Slots) (l : ℕ) → slots_on (with_placed g x o z) 0 l ≡ slots_on z 0 l
+placed_on g x o z l = ap (λ (ls : List (List ℕ)). get_or ls l []) (first_placed z g x o)
+
+-- what was touched is so once it is placed
+pub touched_placed : (a b : Slots) (x to : ℕ) (v : Ticket) (g : GroupLists) (o : Option Ticket) → IsTouched a b x to v → IsTouched a (with_placed g x o b) x to v
+touched_placed a b x to v g o touched = record {
+  slots = touched.slots;
+  wide = omega (arith, touched.wide, families_placed b g x o);
+  limit = touched.limit;
+  count = ap (λ (ls : List (List ℕ)). length ls) (first_placed b g x o) ∙ touched.count;
+  payload = touched.payload;
+  on = λ l y. ap (has y) (placed_on g x o b l) ∙ touched.on l y;
+  left = λ l ne. placed_on g x o b l ∙ touched.left l ne;
+  once = λ once l. subst Once (sym (placed_on g x o b l)) (touched.once once l);
+}
+
+-- the chains are as before
+pub record KeepsChains (a b : Slots) : Type 0 where
+  pub families : length b.families ≡ length a.families
+  pub serials : lists_in b 1 ≡ lists_in a 1
+  pub names : lists_in b 2 ≡ lists_in a 2
+
+-- a change in the first family leaves them so
+pub moved_keeps : (a : Slots) (x to : ℕ) (v : Ticket) → KeepsChains a (with_moved 0 x to (with_payload x v a))
+moved_keeps a x to v = record {
+  families = families_count (with_payload x v a) 0 x to;
+  serials = family_stays (with_payload x v a) 0 1 x to (λ e. absurd (omega (arith, e)));
+  names = family_stays (with_payload x v a) 0 2 x to (λ e. absurd (omega (arith, e)));
+}
+
+pub freed_keeps : (a : Slots) (x to : ℕ) → KeepsChains a (with_moved 0 x to a)
+freed_keeps a x to = record {
+  families = families_count a 0 x to;
+  serials = family_stays a 0 1 x to (λ e. absurd (omega (arith, e)));
+  names = family_stays a 0 2 x to (λ e. absurd (omega (arith, e)));
+}
+
+-- the lists of the chains are there where they were
+pub chains_there : (a b : Slots) (g : GroupLists) → KeepsChains a b → HasChains a g → HasChains b g
+chains_there a b g keeps has' = record {
+  free1 = has'.free1;
+  uncached = has'.uncached;
+  free2 = has'.free2;
+  serials_there = omega (arith, has'.serials_there, ap (λ (ls : List (List ℕ)). length ls) keeps.serials);
+  names_there = omega (arith, has'.names_there, ap (λ (ls : List (List ℕ)). length ls) keeps.names);
+}
+
+-- ---- one slot of the group changes
+
+-- a slot that was touched and then placed lies on its chains again
+pub chains_placed : (a c b : Slots) (g : GroupLists) (x to : ℕ) (v : Ticket) (o : Option Ticket) → IsTouched a c x to v → KeepsChains a c → IsArena a 1 → IsArena a 2 → IsChained a g
+    → is_owned a g x ≡ true → (eqb g.free to || is_live_list g to) ≡ true → o ≡ (if is_live_list g to then Some v else None) → b ≡ with_placed g x o c → IsChained b g × IsChainFrame g a b
+chains_placed a c b g x to v o touched keeps serials names chained own own_to is made =
+    subst (λ (z : Slots). IsChained z g × IsChainFrame g a z) (sym made)
+    (chained_placed a c g x o chained serials names unplaced (is ∙ sym (at_slot a c x to v touched g)), frame_placed a c g x o chained serials names unplaced)
+  where
+    unplaced : IsUnplaced g x a c
+    unplaced = record {
+      wide = keeps.families;
+      serials = keeps.serials;
+      names = keeps.names;
+      owned = owned_same a c x to v touched g own own_to;
+      others = λ y ne. at_other a c x to v touched g y ne;
+      here = own;
+    }
+
+-- a ticket that keeps its serial belongs on the same chain
+same_serial_list : (g : GroupLists) (t v : Ticket) → v.serial ≡ t.serial → list_by_serial g (Some v) ≡ list_by_serial g (Some t)
+same_serial_list g t v e = ap (serial_chain g) e
+
+-- one that keeps its name and is cached as before, too
+same_name_list : (g : GroupLists) (t v : Ticket) → v.cache ≡ t.cache → v.cached ≡ t.cached → list_by_name g (Some v) ≡ list_by_name g (Some t)
+same_name_list g t v e f = λ i. if f i then list_of_name g (e i) else g.uncached
+
+-- a slot that was touched lies on its chains still, where its ticket keeps serial and name
+pub chains_touched : (a b : Slots) (g : GroupLists) (x to : ℕ) (t v : Ticket) → IsTouched a b x to v → KeepsChains a b → IsChained a g → is_owned a g x ≡ true → (eqb g.free to || is_live_list g to) ≡ true
+    → ticket_at a g x ≡ Some t → ticket_at b g x ≡ Some v → v.serial ≡ t.serial → v.cache ≡ t.cache → v.cached ≡ t.cached → IsChained b g
+chains_touched a b g x to t v touched keeps chained own own_to was now serial cache cached =
+    chained_same a b g chained keeps.serials keeps.names (owned_same a b x to v touched g own own_to)
+    (λ y. alike (list_by_serial g) y (same_serial_list g t v serial))
+    (λ y. alike (list_by_name g) y (same_name_list g t v cache cached))
+  where
+    alike : (to_list : Option Ticket → ℕ) (y : ℕ) → to_list (Some v) ≡ to_list (Some t) → to_list (ticket_at b g y) ≡ to_list (ticket_at a g y)
+    alike to_list y e = elim (cases_eq y x) [
+      | inl q ↦ ap (λ z. to_list (ticket_at b g z)) q ∙ ap to_list now ∙ e ∙ sym (ap to_list was) ∙ sym (ap (λ z. to_list (ticket_at a g z)) q)
+      | inr ne ↦ ap to_list (at_other a b x to v touched g y ne)
+    ]
+
+-- ---- other groups change
+
+-- the lists of a family from the first to the last are as before
+pub record KeepsOwn (family first last : ℕ) (a b : Slots) : Type 0 where
+  pub count : length (lists_in a family) ≤ length (lists_in b family)
+  pub lists : (l : ℕ) → first ≤ l → l ≤ last → slots_on b family l ≡ slots_on a family l
+
+on_kept : (family first last : ℕ) (to : Option Ticket → ℕ) (a b : Slots) (g : GroupLists) → KeepsOwn family first last a b → ((o : Option Ticket) → (first ≤ to o) × (to o ≤ last))
+    → ((x : ℕ) → is_owned b g x ≡ is_owned a g x) → ((x : ℕ) → ticket_at b g x ≡ ticket_at a g x) → AreOn family first last to a g → AreOn family first last to b g
+on_kept family first last to a b g keeps within owned at are = record {
+  placed = λ x own.
+      let o : Option Ticket = ticket_at a g x in
+      ap (λ p. is_on b family (to p) x) (at x) ∙ ap (has x) (keeps.lists (to o) (within o).0 (within o).1) ∙ are.placed x (sym (owned x) ∙ own);
+  owned = λ l x from last' on. owned x ∙ are.owned l x from last' (sym (ap (has x) (keeps.lists l from last')) ∙ on);
+}
+
+-- a group's slots lie on its chains still, where these, its slots and its tickets are as before
+pub chains_kept : (a b : Slots) (g : GroupLists) → KeepsOwn 1 g.serials g.free1 a b → KeepsOwn 2 g.names g.free2 a b → ((x : ℕ) → is_owned b g x ≡ is_owned a g x) → ((x : ℕ) → ticket_at b g x ≡ ticket_at a g x) → IsChained a g → IsChained b g
+chains_kept a b g serials names owned at chained =
+    let there = chained.lists in
+    record {
+      lists = record {
+        free1 = there.free1;
+        uncached = there.uncached;
+        free2 = there.free2;
+        serials_there = omega (arith, there.serials_there, serials.count);
+        names_there = omega (arith, there.names_there, names.count);
+      };
+      serials = on_kept 1 g.serials g.free1 (list_by_serial g) a b g serials (λ o. serial_list_within a g there o) owned at chained.serials;
+      names = on_kept 2 g.names g.free2 (list_by_name g) a b g names (λ o. name_list_within a g there o) owned at chained.names;
+    }
+
+-- as for each group but the one that changed
+pub serials_apart : (g h : GroupLists) (a b : Slots) → IsChainFrame g a b → IsApart g h → KeepsOwn 1 h.serials h.free1 a b
+serials_apart g h a b frame apart = record {
+  count = omega (arith, frame.serials.count);
+  lists = λ l from to. frame.serials.lists l (λ other. apart.serials l other (from, to));
+}
+
+pub names_apart : (g h : GroupLists) (a b : Slots) → IsChainFrame g a b → IsApart g h → KeepsOwn 2 h.names h.free2 a b
+names_apart g h a b frame apart = record {
+  count = omega (arith, frame.names.count);
+  lists = λ l from to. frame.names.lists l (λ other. apart.names l other (from, to));
+}
