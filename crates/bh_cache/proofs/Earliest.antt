@@ -4,10 +4,9 @@ use Rattle.std.specs.Prelude.{◌||◌, eqb, find, nat_lt, slice_get, IfSome, if
 use Rattle.std.proofs.lemmas.Bool.{cases_eq, eq-eqb, ne_eqb}
 use Rattle.std.proofs.lemmas.Bool.Decides.{nat_tests}
 use Rattle.bh_base.specs.declared.ticket.Ticket.{Ticket}
-use Rattle.bh_slot_arena.specs.Slots.{slots_on}
 use Rattle.bh_cache.specs.declared.lists.GroupLists.{GroupLists}
 use Rattle.bh_cache.specs.Cache.{IsEarliest, earlier, earliest}
-use Rattle.bh_cache.specs.Slots.{Slots, has, has_one, is_on, is_live, serial_in, ticket_at, tickets_of}
+use Rattle.bh_cache.specs.Slots.{Slots, has, has_one, is_live, serial_in, ticket_at, tickets_of}
 use Rattle.bh_cache.proofs.Listed.{Distinct, find_least, find_none, from_listed, in_listed, rising}
 use Rattle.bh_cache.proofs.Places.{drop_at, get_within}
 

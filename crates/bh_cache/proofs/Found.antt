@@ -1,6 +1,6 @@
 -- What is found along a chain is what is found among all of the group's tickets.
-use Rattle.std.proofs.Common.{◌≡◌, ℕ, ◌≤◌, ◌<◌, inl, inr, Bool, true, false, List, [], ◌∷◌, Option, Some, None, refl, ◌∙◌, sym, ap, ap₂, subst, arith}
-use Rattle.std.specs.Prelude.{◌||◌, ◌&&◌, ◌==◌, eqb, nat_eq, reverse, slice_get, IfSome, if◌then◌else◌}
+use Rattle.std.proofs.Common.{◌≡◌, ℕ, ◌≤◌, inl, inr, Bool, true, false, List, [], ◌∷◌, Option, Some, None, refl, ◌∙◌, sym, ap, ap₂, subst, arith}
+use Rattle.std.specs.Prelude.{◌||◌, ◌&&◌, ◌==◌, nat_eq, reverse, slice_get, IfSome, if◌then◌else◌}
 use Rattle.std.specs.Cmp.Lexicographic.{pointwise}
 use Rattle.std.proofs.lemmas.Bool.{cases_eq, eq-eqb, ne_eqb}
 use Rattle.bh_base.specs.declared.ticket.Ticket.{Ticket}
@@ -9,9 +9,9 @@ use Rattle.bh_slot_arena.specs.Slots.{slots_on}
 use Rattle.bh_cache.specs.declared.lists.GroupLists.{GroupLists}
 use Rattle.bh_cache.specs.Cache.{earliest}
 use Rattle.bh_cache.specs.Chains.{AreOn, IsChained, list_by_name, list_by_serial, list_of_name, name_chain, serial_chain}
-use Rattle.bh_cache.specs.Slots.{Slots, IsArena, has_one, has_serial_in, is_on, is_live, is_owned, serial_on, ticket_at}
+use Rattle.bh_cache.specs.Slots.{Slots, IsArena, has_one, has_serial_in, is_on, is_live, serial_on, ticket_at}
 use Rattle.bh_cache.proofs.Earliest.{IsBest, best_among, earliest_best}
-use Rattle.bh_cache.proofs.Placed.{name_chain_not_uncached, name_list_within, serial_chain_not_free, serial_list_within}
+use Rattle.bh_cache.proofs.Placed.{name_chain_not_uncached, serial_chain_not_free}
 use Rattle.bh_cache.proofs.Places.{has_reverse}
 use Rattle.bh_cache.proofs.Walks.{find_off, find_on}
 

@@ -1,6 +1,6 @@
 -- A walk along a list.
 use Rattle.std.proofs.Common.{◌≡◌, ℕ, suc, ◌+◌, ◌<◌, ◌⊎◌, inl, inr, Bool, true, false, cond, List, [], ◌∷◌, length, drop, Some, None, refl, ◌∙◌, sym, ap, arith, add-one}
-use Rattle.std.specs.Prelude.{◌||◌, eqb, reverse, slice_get, find, if◌then◌else◌}
+use Rattle.std.specs.Prelude.{◌||◌, eqb, reverse, slice_get, find}
 use Rattle.std.proofs.lemmas.Bool.{cases_eq, eq-eqb, ne_eqb}
 use Rattle.bh_base.specs.declared.ticket.Ticket.{Ticket}
 use Rattle.bh_cache.specs.declared.lists.GroupLists.{GroupLists}

@@ -1,5 +1,5 @@
 -- The chains on which a group's tickets are found by serial and by cache name.
-use Rattle.std.specs.Prelude.{◌≡◌, ℕ, ◌+◌, ◌<◌, ◌≤◌, Bool, true, false, if◌then◌else◌, List, length, Option, Some, None}
+use Rattle.std.specs.Prelude.{◌≡◌, ℕ, ◌+◌, ◌<◌, ◌≤◌, true, if◌then◌else◌, List, length, Option, Some, None}
 use Rattle.bh_base.specs.declared.ticket.Ticket.{Ticket}
 use Rattle.bh_slot_arena.specs.Slots.{lists_in, slots_on, with_moved}
 use Rattle.bh_cache.specs.declared.lists.GroupLists.{GroupLists}

@@ -44,12 +44,7 @@ pub fn drop_context(arena: &mut Arena<Ticket, 3>, lists: &GroupLists, context: u
 }
 
 /// The slot of the least serial among those of the chain that are cached under the context and the key.
-fn find_on(
-    arena: &Arena<Ticket, 3>,
-    chain: usize,
-    context: u64,
-    key: &Text<32>,
-) -> Option<u32>
+fn find_on(arena: &Arena<Ticket, 3>, chain: usize, context: u64, key: &Text<32>) -> Option<u32>
     requires { chain < length (lists_in arena.now 2) }
     ensures { result ≡ earliest (is_cached_as (context, key.now)) arena.now.payloads None (slots_on arena.now 2 chain) }
 {
@@ -86,12 +81,7 @@ fn earlier(arena: &Arena<Ticket, 3>, found: Option<u32>, slot: u32) -> u32
 }
 
 /// The tickets of one of the group's lists are cached in the context no more. The number of those that were.
-fn drop_on(
-    arena: &mut Arena<Ticket, 3>,
-    lists: &GroupLists,
-    list: usize,
-    context: u64,
-) -> u64
+fn drop_on(arena: &mut Arena<Ticket, 3>, lists: &GroupLists, list: usize, context: u64) -> u64
     requires there { list < length (lists_in arena.old 0) }
     requires live { is_live_list lists.now list ≡ true }
     requires chained { IsChained arena.old lists.now }
@@ -111,12 +101,7 @@ fn drop_on(
 }
 
 /// The ticket of a slot is cached in the context no more. 1 where it was, else 0.
-fn drop_at(
-    arena: &mut Arena<Ticket, 3>,
-    lists: &GroupLists,
-    slot: u32,
-    context: u64,
-) -> u64
+fn drop_at(arena: &mut Arena<Ticket, 3>, lists: &GroupLists, slot: u32, context: u64) -> u64
     requires slot { slot < length arena.old.payloads }
     requires live { is_live arena.old lists.now slot ≡ true }
     requires chained { IsChained arena.old lists.now }

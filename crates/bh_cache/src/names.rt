@@ -17,7 +17,9 @@ pub fn place_of_name(context: u64, key: &Text<32>) -> usize
 {
     let mut hash = context;
     for byte in key.as_str().as_bytes() {
-        hash = hash.wrapping_add(u64::from(*byte)).wrapping_mul(BYTE_SPREAD);
+        hash = hash
+            .wrapping_add(u64::from(*byte))
+            .wrapping_mul(BYTE_SPREAD);
     }
     let folded = hash.wrapping_add(hash >> 32);
     (folded.wrapping_mul(TOP_SPREAD) >> 60) as usize

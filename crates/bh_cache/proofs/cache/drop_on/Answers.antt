@@ -1,6 +1,5 @@
-use Rattle.std.proofs.Common.{◌≡◌, ◌+◌, Some, slice_get, take, sym, ap, ◌∙◌, arith, true}
+use Rattle.std.proofs.Common.{◌≡◌, ◌+◌, Some, slice_get, take, sym, ap, ◌∙◌, arith}
 use Rattle.bh_slot_arena.specs.Slots.{slots_on}
-use Rattle.bh_cache.specs.Slots.{is_live}
 use Rattle.bh_cache.proofs.Dropped.{dropped_few, dropped_more, dropped_none, list_same}
 use Rattle.bh_cache.proofs.Placed.{live_same}
 use Rattle.bh_cache.proofs.Places.{has_at}

@@ -1,8 +1,7 @@
-use Rattle.std.proofs.Common.{arith, ◌≡◌, ◌∙◌, ap, ℕ, List, None}
+use Rattle.std.proofs.Common.{arith, ◌∙◌, ap, ℕ, List, None}
 use Rattle.bh_base.specs.Tickets.{is_cached_as}
 use Rattle.bh_slot_arena.specs.Slots.{slots_on}
 use Rattle.bh_cache.specs.Cache.{earliest}
-use Rattle.bh_cache.specs.Chains.{name_chain}
 use Rattle.bh_cache.specs.Slots.{IsArena}
 use Rattle.bh_cache.proofs.Earliest.{if_found, if_none}
 use Rattle.bh_cache.proofs.Found.{name_best}

@@ -1,4 +1,4 @@
-use Rattle.std.proofs.Common.{◌≡◌, ◌<◌, List, ℕ, length, Option, Some, ap, ◌∙◌, arith, rules}
+use Rattle.std.proofs.Common.{◌≡◌, List, ℕ, length, Option, Some, ap, ◌∙◌, arith, rules}
 use Rattle.bh_base.specs.declared.ticket.Ticket.{Ticket}
 use Rattle.bh_slot_arena.specs.Slots.{lists_in, with_moved}
 use Rattle.bh_cache.specs.Chains.{list_by_name, with_placed}
@@ -17,7 +17,7 @@ move_to_back-requires-2 c =
     let a = c.args.arena.now in
     let k = name_list_within a c.args.lists.now c.requires.lists (Some c.get-ticket.result.now) in
     let names : lists_in c.move_to_back.new.self 2 ≡ lists_in a 2 =
-        ap (λ (m : Slots). lists_in m 2) c.move_to_back.ensures.moved ∙ family_stays a 1 2 c.args.slot c.serial_chain-serials.result (λ e. absurd (omega (arith, e))) in
+    ap (λ (m : Slots). lists_in m 2) c.move_to_back.ensures.moved ∙ family_stays a 1 2 c.args.slot c.serial_chain-serials.result (λ e. absurd (omega (arith, e))) in
     (search rules, (search rules, (search rules, omega (arith, k.1, c.list_by_name-names.ensures, ap (λ (ls : List (List ℕ)). length ls) names, c.requires.lists.names_there))))
 
 pub returns : goal.returns

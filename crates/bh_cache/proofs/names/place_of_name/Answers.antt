@@ -1,4 +1,4 @@
-use Rattle.std.proofs.Common.{◌≡◌, ℕ, suc, ◌+◌, ◌*◌, ◌%◌, ◌^◌, ◌<◌, List, [], ◌∷◌, length, get_or, drop, ap, sym, ◌∙◌, arith, add-one, drop-cons}
+use Rattle.std.proofs.Common.{◌≡◌, ℕ, ◌+◌, ◌*◌, ◌%◌, ◌^◌, ◌<◌, List, [], length, get_or, drop, ap, sym, ◌∙◌, arith, add-one, drop-cons}
 use Rattle.bh_cache.specs.Names.{mixed, place_of_name, top_bits}
 use Rattle.bh_cache.proofs.Places.{drop_end}
 use Rattle.bh_cache.proofs.names.place_of_name.Goals as goal

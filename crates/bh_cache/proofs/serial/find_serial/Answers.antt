@@ -1,4 +1,4 @@
-use Rattle.std.proofs.Common.{arith, ◌≡◌, ◌∙◌, ap, sym}
+use Rattle.std.proofs.Common.{arith, ◌∙◌, ap, sym}
 use Rattle.bh_cache.specs.Slots.{IsArena, serial_on}
 use Rattle.bh_cache.proofs.Found.{serial_found_on, serial_none_on}
 use Rattle.bh_cache.proofs.Placed.{serial_chain_not_free}
