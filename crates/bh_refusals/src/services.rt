@@ -218,6 +218,13 @@ impl Dependency for Counting {
     }
 }
 
+fn counting() -> Counting {
+    Counting {
+        begun: AtomicU64::new(0),
+        ended: AtomicU64::new(0),
+    }
+}
+
 /// A list of the one request.
 fn list<R: Abort + AllocGlobal>(rt: &R, group: GroupId, arg: &str) -> RequestList {
     let mut requests = Vec::new(rt.alloc());
@@ -234,10 +241,7 @@ fn drive_both<R: Threads + Wait + Sync + Abort + AllocGlobal>(
     room: u64,
 ) -> Result<Driven, DriveError> {
     let lists = [list(rt, A, "x"), list(rt, B, "y")];
-    let counting = Counting {
-        begun: AtomicU64::new(0),
-        ended: AtomicU64::new(0),
-    };
+    let counting = counting();
     refuse(rt.alloc(), nth);
     let told = drive(rt, rt.alloc(), shared, &counting, &Still, Steady, &lists, room);
     assert_told(rt, nth, told.is_ok());
@@ -267,4 +271,15 @@ fn a_drive_is_whole_or_gives_up(rt: HostRuntime) {
         }
     }
     give_up(&rt);
+}
+
+#[test]
+fn a_drive_too_long_for_any_memory_gives_up(rt: HostRuntime) {
+    let shared = service(&rt);
+    let lists = [list(&rt, A, "x"), list(&rt, B, "y")];
+    let counting = counting();
+    let told = drive(&rt, rt.alloc(), &shared, &counting, &Still, Steady, &lists, TOO_MANY);
+    assert_eq!(rt; told.err(), Some(DriveError::Memory));
+    assert!(rt; shared.stopped(&rt));
+    assert_eq!(rt; counting.begun.load(Ordering::SeqCst), 0);
 }

@@ -91,22 +91,26 @@ fn finish(body: &str) -> Op
     Op::Finish { serial: 1, body }
 }
 
-fn step(group: GroupId, now: u64, op: Op) -> Step {
-    Step { group, now, op }
+fn step(group: GroupId, now: u64, op: &Op) -> Step {
+    Step {
+        group,
+        now,
+        op: *op,
+    }
 }
 
 /// The steps of the run.
 pub(crate) fn steps() -> [Step; 8] {
     let collect = Op::Collect { serial: 1 };
     [
-        step(A, 0, submit("x")),
-        step(B, 0, submit("y")),
-        step(A, 1, Op::Start),
-        step(B, 1, Op::Start),
-        step(A, 2, finish("one")),
-        step(B, 2, finish("two")),
-        step(A, 3, collect),
-        step(B, 3, collect),
+        step(A, 0, &submit("x")),
+        step(B, 0, &submit("y")),
+        step(A, 1, &Op::Start),
+        step(B, 1, &Op::Start),
+        step(A, 2, &finish("one")),
+        step(B, 2, &finish("two")),
+        step(A, 3, &collect),
+        step(B, 3, &collect),
     ]
 }
 
