@@ -1,5 +1,6 @@
 -- What is sent to a writer of JSON.
-use Rattle.std.specs.Prelude.{◌≡◌, ℕ, List, [], ◌∷◌, ◌++◌, ◌==◌, if◌then◌else◌, decimal}
+use Rattle.std.specs.Prelude.{◌≡◌, ℕ, List, [], ◌∷◌, ◌++◌, ◌==◌, if◌then◌else◌, decimal, Result, OnOk}
+use Rattle.std.specs.declared.alloc.AllocError.{AllocError}
 use Rattle.json.specs.Token.{Token, key, string, number}
 use Rattle.json.specs.Tree.{json_tokens}
 use Rattle.json.specs.Written.{Written}
@@ -8,10 +9,10 @@ use Rattle.serde_json.specs.Written.{outline}
 use Rattle.bh_lines.specs.declared.writing.Member.{Member}
 use Rattle.bh_lines.specs.declared.writing.Member.TheVariants as members
 
--- these tokens were sent behind those before
-pub record Sends (old new : Written) (sent : List Token) : Type 0 where
-  pub tokens : new.tokens ≡ old.tokens ++ sent
+-- what stood before the tokens stays, and where all went well, these tokens were sent behind those sent before
+pub record Sends (result : Result (Unit {0}) AllocError) (old new : Written) (sent : List Token) : Type 0 where
   pub before : new.before ≡ old.before
+  pub tokens : OnOk result (new.tokens ≡ old.tokens ++ sent)
 
 -- the tokens of members, in their order
 abbrev pub member_tokens : List Member → List Token

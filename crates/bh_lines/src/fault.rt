@@ -1,9 +1,9 @@
 //! The faults of a line, and the lines that answer them.
 
-ghost use Rattle.std.specs.Prelude.{◌≡◌, IfOk, string_bytes};
+ghost use Rattle.std.specs.Prelude.{◌≡◌, ◌++◌, OnErr, OnOk};
 ghost use Rattle.bh_lines.specs.FaultLine.{fault_word, fault_line};
 
-use crate::replies::error_line;
+use crate::replies::put_error;
 use std::alloc::{AllocError, Global};
 
 /// Why a line says no step: the first that holds.
@@ -22,14 +22,14 @@ pub enum Fault {
     Long,
 }
 
-/// The line that answers a faulty line, with its line feed: an object whose one member `error` has the fault's word.
-///
-/// It fails only for want of memory.
+/// Puts the line that answers a faulty line, with its line feed, behind the bytes: an object whose one member `error` has
+/// the fault's word. It fails only for want of memory, and leaves the bytes as they were then.
 #[tactic(auto, unfolding(crate::specs::FaultLine::fault_line))]
-pub fn fault_line(alloc: Global, fault: Fault) -> Result<String, AllocError>
-    ensures { IfOk result (λ s. string_bytes s ≡ fault_line fault) }
+pub fn put_fault(alloc: Global, bytes: &mut Vec<u8>, fault: Fault) -> Result<(), AllocError>
+    ensures ok { OnOk result (bytes.new.items ≡ bytes.old.items ++ fault_line fault) }
+    ensures err { OnErr result (bytes.new.items ≡ bytes.old.items) }
 {
-    error_line(alloc, fault_word(fault))
+    put_error(alloc, bytes, fault_word(fault))
 }
 
 /// The word of a fault.

@@ -11,8 +11,8 @@ pub mod replies;
 pub mod step_line;
 mod writing;
 
-pub use fault::{Fault, fault_line};
+pub use fault::{Fault, put_fault};
 pub use front::{FrontLine, end_line, front_line};
 pub use lines::{last_line, next_line};
 pub use port_error::PortError;
-pub use replies::{error_line, json_line, reply_line};
+pub use replies::{json_line, put_error, put_reply};

@@ -1,6 +1,6 @@
 //! Replies, each printed as a line of compact JSON with its members in the order of their names.
 
-ghost use Rattle.std.specs.Prelude.{◌≡◌, ◌++◌, ◌∷◌, [], false, map, length, IfOk, OnOk, string_bytes};
+ghost use Rattle.std.specs.Prelude.{◌≡◌, ◌≤◌, ◌++◌, ◌∷◌, [], false, map, length, take, IfOk, IsOk, OnErr, OnOk, string_bytes};
 ghost use Rattle.json.specs.Print.{print};
 ghost use Rattle.serde_json.specs.View.{view};
 ghost use Rattle.serde_json.specs.Written.{has_float};
@@ -15,39 +15,55 @@ use bh_base::{Answer, Cause, CircuitState, Counts, FallbackFault, Metrics, Reply
 use json::Writer;
 use serde_json::Value;
 use std::alloc::{AllocError, Global};
+use std::mem;
 
-/// So many bytes are asked for a line at first.
-const LINE_ROOM: usize = 128;
-
-/// The line of a reply, with its line feed. It fails only for want of memory.
+/// Puts the line of a reply, with its line feed, behind the bytes. It fails only for want of memory, and leaves the bytes
+/// as they were then.
 #[tactic(auto, unfolding(crate::specs::ReplyLine::reply_line))]
-pub fn reply_line(alloc: Global, reply: &Reply) -> Result<String, AllocError>
-    ensures { IfOk result (λ s. string_bytes s ≡ reply_line reply.now) }
+pub fn put_reply(alloc: Global, bytes: &mut Vec<u8>, reply: &Reply) -> Result<(), AllocError>
+    ensures ok { OnOk result (bytes.new.items ≡ bytes.old.items ++ reply_line reply.now) }
+    ensures err { OnErr result (bytes.new.items ≡ bytes.old.items) }
 {
-    let mut writer = Writer::new(Vec::with_capacity(alloc, LINE_ROOM)?);
-    write_reply(&mut writer, reply)?;
-    into_line(writer)
+    let start = bytes.len();
+    let mut writer = Writer::new(mem::replace(bytes, Vec::new(alloc)));
+    let written = write_reply(&mut writer, reply);
+    *bytes = writer.into_inner();
+    end_line(bytes, start, written)
 }
 
-/// The line that says why nothing was done, with its line feed: an object whose one member `error` is the text. It fails
-/// only for want of memory.
-pub fn error_line(alloc: Global, why: &str) -> Result<String, AllocError>
-    ensures { IfOk result (λ s. string_bytes s ≡ json_line (error_data why.now)) }
+/// Puts the line that says why nothing was done, with its line feed, behind the bytes: an object whose one member `error`
+/// is the text. It fails only for want of memory, and leaves the bytes as they were then.
+pub fn put_error(alloc: Global, bytes: &mut Vec<u8>, why: &str) -> Result<(), AllocError>
+    ensures ok { OnOk result (bytes.new.items ≡ bytes.old.items ++ json_line (error_data why.now)) }
+    ensures err { OnErr result (bytes.new.items ≡ bytes.old.items) }
 {
-    let mut writer = Writer::new(Vec::with_capacity(alloc, LINE_ROOM)?);
+    let start = bytes.len();
+    let mut writer = Writer::new(mem::replace(bytes, Vec::new(alloc)));
     let members = [Member::Text("error", why)];
-    write_object(&mut writer, &members)?;
-    into_line(writer)
+    let written = write_object(&mut writer, &members);
+    *bytes = writer.into_inner();
+    end_line(bytes, start, written)
 }
 
-/// What the writer printed, and a line feed.
-fn into_line(writer: Writer) -> Result<String, AllocError>
-    requires { writer.before ≡ [] }
-    ensures { IfOk result (λ s. string_bytes s ≡ (writer.before ++ print writer.tokens) ++ 10 ∷ []) }
+/// Puts a line feed behind the bytes where the line was written, and takes what was written of it off them where not.
+fn end_line(
+    bytes: &mut Vec<u8>,
+    start: usize,
+    written: Result<(), AllocError>,
+) -> Result<(), AllocError>
+    requires { start ≤ length bytes.old.items }
+    ensures ok { OnOk result (bytes.new.items ≡ bytes.old.items ++ 10 ∷ []) }
+    ensures written { OnOk result (IsOk written) }
+    ensures err { OnErr result (bytes.new.items ≡ take start bytes.old.items) }
 {
-    let mut line = unsafe { String::from_utf8_unchecked(writer.into_inner()) };
-    line.push('\n')?;
-    Ok(line)
+    let ended = match written {
+        Ok(()) => bytes.push(b'\n').map_err(AllocError::from),
+        Err(error) => Err(error),
+    };
+    if ended.is_err() {
+        bytes.truncate(start);
+    }
+    ended
 }
 
 /// The compact text of a value with no float, and a line feed. It fails only for want of memory.
@@ -62,7 +78,7 @@ pub fn json_line(alloc: Global, value: &Value) -> Result<String, AllocError>
 
 /// The object of a reply.
 fn write_reply(writer: &mut Writer, reply: &Reply) -> Result<(), AllocError>
-    ensures { OnOk result (Sends writer.old writer.new (data_tokens (reply_data reply.now))) }
+    ensures { Sends result writer.old writer.new (data_tokens (reply_data reply.now)) }
 {
     match reply {
         Reply::Queued(serial) => write_numbered(writer, "queued", *serial),
@@ -90,7 +106,7 @@ fn write_reply(writer: &mut Writer, reply: &Reply) -> Result<(), AllocError>
 
 /// A reply that is its name alone.
 fn write_named(writer: &mut Writer, name: &str) -> Result<(), AllocError>
-    ensures { OnOk result (Sends writer.old writer.new (data_tokens (named name.now))) }
+    ensures { Sends result writer.old writer.new (data_tokens (named name.now)) }
 {
     let members = [Member::Text("reply", name)];
     write_object(writer, &members)
@@ -98,7 +114,7 @@ fn write_named(writer: &mut Writer, name: &str) -> Result<(), AllocError>
 
 /// A reply of a name and a ticket.
 fn write_numbered(writer: &mut Writer, name: &str, ticket: u64) -> Result<(), AllocError>
-    ensures { OnOk result (Sends writer.old writer.new (data_tokens (numbered name.now ticket))) }
+    ensures { Sends result writer.old writer.new (data_tokens (numbered name.now ticket)) }
 {
     let members = [
         Member::Text("reply", name),
@@ -109,7 +125,7 @@ fn write_numbered(writer: &mut Writer, name: &str, ticket: u64) -> Result<(), Al
 
 /// A ticket that needs a fallback.
 fn write_fallback_due(writer: &mut Writer, ticket: u64, cause: Cause) -> Result<(), AllocError>
-    ensures { OnOk result (Sends writer.old writer.new (data_tokens (fallback_due_data ticket cause))) }
+    ensures { Sends result writer.old writer.new (data_tokens (fallback_due_data ticket cause)) }
 {
     let members = [
         Member::Text("cause", cause_word(cause)),
@@ -121,7 +137,7 @@ fn write_fallback_due(writer: &mut Writer, ticket: u64, cause: Cause) -> Result<
 
 /// A run that a worker is to do.
 fn write_assigned(writer: &mut Writer, ticket: u64, arg: &str) -> Result<(), AllocError>
-    ensures { OnOk result (Sends writer.old writer.new (data_tokens (assigned_data ticket arg.now))) }
+    ensures { Sends result writer.old writer.new (data_tokens (assigned_data ticket arg.now)) }
 {
     let members = [
         Member::Text("arg", arg),
@@ -133,7 +149,7 @@ fn write_assigned(writer: &mut Writer, ticket: u64, arg: &str) -> Result<(), All
 
 /// How many tickets timed out.
 fn write_expired(writer: &mut Writer, count: u64) -> Result<(), AllocError>
-    ensures { OnOk result (Sends writer.old writer.new (data_tokens (expired_data count))) }
+    ensures { Sends result writer.old writer.new (data_tokens (expired_data count)) }
 {
     let members = [
         Member::Number("count", count),
@@ -144,7 +160,7 @@ fn write_expired(writer: &mut Writer, count: u64) -> Result<(), AllocError>
 
 /// A fallback that the holder is to run.
 fn write_run_fallback(writer: &mut Writer, cause: Cause) -> Result<(), AllocError>
-    ensures { OnOk result (Sends writer.old writer.new (data_tokens (run_fallback_data cause))) }
+    ensures { Sends result writer.old writer.new (data_tokens (run_fallback_data cause)) }
 {
     let members = [
         Member::Text("cause", cause_word(cause)),
@@ -155,7 +171,7 @@ fn write_run_fallback(writer: &mut Writer, cause: Cause) -> Result<(), AllocErro
 
 /// How many tickets are cached no longer.
 fn write_closed(writer: &mut Writer, count: u64) -> Result<(), AllocError>
-    ensures { OnOk result (Sends writer.old writer.new (data_tokens (closed_data count))) }
+    ensures { Sends result writer.old writer.new (data_tokens (closed_data count)) }
 {
     let members = [
         Member::Number("released", count),
@@ -166,7 +182,7 @@ fn write_closed(writer: &mut Writer, count: u64) -> Result<(), AllocError>
 
 /// The answer to a request.
 fn write_answer(writer: &mut Writer, answer: &Answer) -> Result<(), AllocError>
-    ensures { OnOk result (Sends writer.old writer.new (data_tokens (answer_data answer.now))) }
+    ensures { Sends result writer.old writer.new (data_tokens (answer_data answer.now)) }
 {
     match answer {
         Answer::Value(body) => write_value(writer, body.as_str()),
@@ -182,7 +198,7 @@ fn write_answer(writer: &mut Writer, answer: &Answer) -> Result<(), AllocError>
 
 /// The value of a run.
 fn write_value(writer: &mut Writer, body: &str) -> Result<(), AllocError>
-    ensures { OnOk result (Sends writer.old writer.new (data_tokens (value_data body.now))) }
+    ensures { Sends result writer.old writer.new (data_tokens (value_data body.now)) }
 {
     let members = [Member::Text("body", body), Member::Text("reply", "value")];
     write_object(writer, &members)
@@ -190,7 +206,7 @@ fn write_value(writer: &mut Writer, body: &str) -> Result<(), AllocError>
 
 /// The value of a fallback.
 fn write_fallback_value(writer: &mut Writer, cause: Cause, body: &str) -> Result<(), AllocError>
-    ensures { OnOk result (Sends writer.old writer.new (data_tokens (fallback_value_data cause body.now))) }
+    ensures { Sends result writer.old writer.new (data_tokens (fallback_value_data cause body.now)) }
 {
     let members = [
         Member::Text("body", body),
@@ -202,7 +218,7 @@ fn write_fallback_value(writer: &mut Writer, cause: Cause, body: &str) -> Result
 
 /// A request with no value.
 fn write_error(writer: &mut Writer, cause: Cause, fallback: FallbackFault) -> Result<(), AllocError>
-    ensures { OnOk result (Sends writer.old writer.new (data_tokens (error_answer_data cause fallback))) }
+    ensures { Sends result writer.old writer.new (data_tokens (error_answer_data cause fallback)) }
 {
     let members = [
         Member::Text("cause", cause_word(cause)),
@@ -214,7 +230,7 @@ fn write_error(writer: &mut Writer, cause: Cause, fallback: FallbackFault) -> Re
 
 /// The metrics of a group.
 fn write_metrics(writer: &mut Writer, metrics: &Metrics) -> Result<(), AllocError>
-    ensures { OnOk result (Sends writer.old writer.new (data_tokens (metrics_data metrics.now))) }
+    ensures { Sends result writer.old writer.new (data_tokens (metrics_data metrics.now)) }
 {
     let before = [
         Member::Number("busy", metrics.busy),
@@ -255,7 +271,7 @@ const KIND_NAMES: [&str; 13] = [
 
 /// Each kind of event that there was, and how often.
 fn write_events(writer: &mut Writer, counts: &Counts) -> Result<(), AllocError>
-    ensures { OnOk result (Sends writer.old writer.new (data_tokens (events_data counts.now))) }
+    ensures { Sends result writer.old writer.new (data_tokens (events_data counts.now)) }
 {
     let listed = [
         counts.bad_request,
@@ -280,7 +296,7 @@ fn write_events(writer: &mut Writer, counts: &Counts) -> Result<(), AllocError>
 /// A member for each count under its name, unless it is 0.
 fn write_counts(writer: &mut Writer, names: &[&str], counts: &[u64]) -> Result<(), AllocError>
     requires { length names.now ≡ length counts.now }
-    ensures { OnOk result (Sends writer.old writer.new (counts_tokens (map (λ name. name.now) names.now) counts.now)) }
+    ensures { Sends result writer.old writer.new (counts_tokens (map (λ name. name.now) names.now) counts.now) }
 {
     for (name, count) in names.iter().zip(counts) {
         write_count(writer, name, *count)?;
@@ -290,7 +306,7 @@ fn write_counts(writer: &mut Writer, names: &[&str], counts: &[u64]) -> Result<(
 
 /// The count under the name, unless it is 0.
 fn write_count(writer: &mut Writer, name: &str, count: u64) -> Result<(), AllocError>
-    ensures { OnOk result (Sends writer.old writer.new (counts_tokens (name.now ∷ []) (count ∷ []))) }
+    ensures { Sends result writer.old writer.new (counts_tokens (name.now ∷ []) (count ∷ [])) }
 {
     if count > 0 {
         write_number(writer, name, count)

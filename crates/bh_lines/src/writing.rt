@@ -16,7 +16,7 @@ pub enum Member<'a> {
 
 /// An object of the members, in their order.
 pub fn write_object(writer: &mut Writer, members: &[Member<'_>]) -> Result<(), AllocError>
-    ensures { OnOk result (Sends writer.old writer.new (begin_object ∷ (member_tokens members.now ++ end_object ∷ []))) }
+    ensures { Sends result writer.old writer.new (begin_object ∷ (member_tokens members.now ++ end_object ∷ [])) }
 {
     begin_object(writer)?;
     write_members(writer, members)?;
@@ -25,28 +25,28 @@ pub fn write_object(writer: &mut Writer, members: &[Member<'_>]) -> Result<(), A
 
 /// The opening bracket of an object.
 pub fn begin_object(writer: &mut Writer) -> Result<(), AllocError>
-    ensures { OnOk result (Sends writer.old writer.new (begin_object ∷ [])) }
+    ensures { Sends result writer.old writer.new (begin_object ∷ []) }
 {
     writer.begin_object()
 }
 
 /// The closing bracket of an object.
 pub fn end_object(writer: &mut Writer) -> Result<(), AllocError>
-    ensures { OnOk result (Sends writer.old writer.new (end_object ∷ [])) }
+    ensures { Sends result writer.old writer.new (end_object ∷ []) }
 {
     writer.end_object()
 }
 
 /// The name of a member whose value is written next.
 pub fn write_key(writer: &mut Writer, name: &str) -> Result<(), AllocError>
-    ensures { OnOk result (Sends writer.old writer.new (key name.now ∷ [])) }
+    ensures { Sends result writer.old writer.new (key name.now ∷ []) }
 {
     writer.key(name)
 }
 
 /// The members of an object that has begun.
 pub fn write_members(writer: &mut Writer, members: &[Member<'_>]) -> Result<(), AllocError>
-    ensures { OnOk result (Sends writer.old writer.new (member_tokens members.now)) }
+    ensures { Sends result writer.old writer.new (member_tokens members.now) }
 {
     for member in members {
         write_member(writer, *member)?;
@@ -56,7 +56,7 @@ pub fn write_members(writer: &mut Writer, members: &[Member<'_>]) -> Result<(), 
 
 /// A member: its name, and its value.
 fn write_member(writer: &mut Writer, member: Member<'_>) -> Result<(), AllocError>
-    ensures { OnOk result (Sends writer.old writer.new (member_tokens (member.entry ∷ []))) }
+    ensures { Sends result writer.old writer.new (member_tokens (member.entry ∷ [])) }
 {
     match member {
         Member::Text(name, text) => write_text(writer, name, text),
@@ -66,7 +66,7 @@ fn write_member(writer: &mut Writer, member: Member<'_>) -> Result<(), AllocErro
 
 /// A member that is a text.
 fn write_text(writer: &mut Writer, name: &str, text: &str) -> Result<(), AllocError>
-    ensures { OnOk result (Sends writer.old writer.new (key name.now ∷ string text.now ∷ [])) }
+    ensures { Sends result writer.old writer.new (key name.now ∷ string text.now ∷ []) }
 {
     writer.key(name)?;
     writer.string(text)
@@ -74,7 +74,7 @@ fn write_text(writer: &mut Writer, name: &str, text: &str) -> Result<(), AllocEr
 
 /// A member that is a number.
 pub fn write_number(writer: &mut Writer, name: &str, n: u64) -> Result<(), AllocError>
-    ensures { OnOk result (Sends writer.old writer.new (key name.now ∷ number (decimal n) ∷ [])) }
+    ensures { Sends result writer.old writer.new (key name.now ∷ number (decimal n) ∷ []) }
 {
     writer.key(name)?;
     writer.u64(n)

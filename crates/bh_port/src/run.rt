@@ -15,7 +15,7 @@ ghost use Rattle.bh_port.specs.Script.{GroupsShow, AnswersLine, ScriptAnswered, 
 use crate::steps::line_step;
 use bh_base::Step;
 use bh_core::Core;
-use bh_lines::{Fault, PortError, fault_line, last_line, next_line, reply_line};
+use bh_lines::{Fault, PortError, last_line, next_line, put_fault, put_reply};
 use bh_props::Settings;
 use bh_streams::{WatchedWriter, write};
 use bytes::BytesMut;
@@ -135,9 +135,7 @@ impl Run {
         ensures left { self.new.buffer ≡ self.old.buffer }
     {
         let reply = self.core.apply(step);
-        let line = reply_line(self.alloc, &reply)?;
-        self.out.extend_from_slice(line.as_str().as_bytes())?;
-        Ok(())
+        put_reply(self.alloc, &mut self.out, &reply)
     }
 
     /// Puts the line of a fault behind what is to be written.
@@ -147,8 +145,6 @@ impl Run {
         ensures kept { OnErr result (self.new.out.items ≡ self.old.out.items) }
         ensures left { self.new.buffer ≡ self.old.buffer }
     {
-        let line = fault_line(self.alloc, fault)?;
-        self.out.extend_from_slice(line.as_str().as_bytes())?;
-        Ok(())
+        put_fault(self.alloc, &mut self.out, fault)
     }
 }

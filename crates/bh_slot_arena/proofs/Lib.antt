@@ -4,3 +4,4 @@ pub mod Grown
 pub mod Parted
 pub mod Lasts
 pub mod Families
+pub mod Backward

@@ -1,6 +1,6 @@
 //! Slots with a payload each, on lists of several families.
 
-ghost use Rattle.std.specs.Prelude.{◌≡◌, ℕ, ◌+◌, ◌<◌, ◌≤◌, ◌↔◌, ◌≢◌, ◌^◌, [], ◌++◌, Contains, length, nat_le, replicate, slice_get, slice_index, vec_len, vec_capacity, IfOk, OnOk, OnErr, Err, Some};
+ghost use Rattle.std.specs.Prelude.{◌≡◌, ℕ, ◌+◌, ◌<◌, ◌≤◌, ◌↔◌, ◌≢◌, ◌^◌, [], ◌++◌, Contains, length, nat_le, replicate, reverse, slice_get, slice_index, vec_len, vec_capacity, IfOk, OnOk, OnErr, Err, Some};
 ghost use Rattle.bh_slot_arena.specs.Lists.{IsPartition};
 ghost use Rattle.bh_slot_arena.specs.Slots.{lists_in, slots_on, with_moved, with_new_lists, with_new_slots, with_payload};
 ghost use Rattle.bh_slot_arena.specs.Family.{AddsSlots, CanAddSlots, but_room, family_at, no_lists};
@@ -138,6 +138,24 @@ impl<T: Copy, const K: usize> Arena<T, K> {
         ensures { (l k : ℕ) → slice_get (slots_on self.now family l) k ≡ Some slot → result ≡ slice_get (slots_on self.now family l) (k + 1) }
     {
         self.families[family].next(slot)
+    }
+
+    /// The last slot of a list; None where the list is empty.
+    pub fn back(&self, family: usize, list: usize) -> Option<u32>
+        requires family { family < K }
+        requires list { list < length (lists_in self.now family) }
+        ensures { result ≡ slice_get (reverse (slots_on self.now family list)) 0 }
+    {
+        self.families[family].back(list)
+    }
+
+    /// The slot before a slot in its list of a family; None before the first.
+    pub fn previous(&self, family: usize, slot: u32) -> Option<u32>
+        requires family { family < K }
+        requires slot { slot < length self.now.payloads }
+        ensures { (l k : ℕ) → slice_get (reverse (slots_on self.now family l)) k ≡ Some slot → result ≡ slice_get (reverse (slots_on self.now family l)) (k + 1) }
+    {
+        self.families[family].previous(slot)
     }
 
     /// How many slots a list has.

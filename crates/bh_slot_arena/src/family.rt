@@ -1,6 +1,6 @@
 //! One family of lists over the slots.
 
-ghost use Rattle.std.specs.Prelude.{◌≡◌, ℕ, ◌+◌, ◌<◌, ◌≤◌, ◌^◌, List, [], ◌∷◌, ◌++◌, length, map, replicate, slice_get, IfOk, OnOk, OnErr, Some, vec_len, vec_capacity};
+ghost use Rattle.std.specs.Prelude.{◌≡◌, ℕ, ◌+◌, ◌<◌, ◌≤◌, ◌^◌, List, [], ◌∷◌, ◌++◌, length, map, replicate, reverse, slice_get, IfOk, OnOk, OnErr, Some, vec_len, vec_capacity};
 ghost use Rattle.std.specs.List.{range_with_len};
 ghost use Rattle.bh_index_lists.specs.Lists.{list_of, no_list, without};
 ghost use Rattle.bh_slot_arena.specs.Lists.{IsPartition, list_at, moved, put_last};
@@ -113,6 +113,22 @@ impl Family {
         ensures { (l k : ℕ) → slice_get (list_at self.now.lists l) k ≡ Some slot → result ≡ slice_get (list_at self.now.lists l) (k + 1) }
     {
         self.links[slot as usize].next
+    }
+
+    /// The last slot of a list.
+    pub fn back(&self, list: usize) -> Option<u32>
+        requires { list < length self.now.lists }
+        ensures { result ≡ slice_get (reverse (list_at self.now.lists list)) 0 }
+    {
+        self.heads[list].last
+    }
+
+    /// The slot before a slot in its list.
+    pub fn previous(&self, slot: u32) -> Option<u32>
+        requires { slot < self.now.slots }
+        ensures { (l k : ℕ) → slice_get (reverse (list_at self.now.lists l)) k ≡ Some slot → result ≡ slice_get (reverse (list_at self.now.lists l)) (k + 1) }
+    {
+        self.links[slot as usize].prev
     }
 
     /// How many slots a list has.

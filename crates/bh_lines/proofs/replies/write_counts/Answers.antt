@@ -11,4 +11,4 @@ returns c =
       | inl names ↦ inl names.1.0
       | inr counts ↦ inr counts.1.0
     ]) in
-    record { tokens = sym (append-nil l.writer.tokens) ∙ ap (λ ts. l.writer.tokens ++ ts) (sym none) ∙ l.invariant.tokens; before = l.invariant.before }
+    record { before = l.invariant.before; tokens = sym (append-nil l.writer.tokens) ∙ ap (λ ts. l.writer.tokens ++ ts) (sym none) ∙ l.invariant.tokens }

@@ -1,14 +1,18 @@
-use Rattle.std.proofs.Common.{◌∙◌, ◌++◌, ap}
+use Rattle.std.proofs.Common.{◌∙◌, ◌++◌, ap, Result, Ok, Err, OnOk}
 use Rattle.bh_lines.specs.ReplyLine.{reply_line}
 use Rattle.bh_port.proofs.OwnSteps.{agrees-after, reply_to-shown}
 use Rattle.bh_port.proofs.run.Run.answer_step.Goals as goal
 
+-- what follows where all went well
+on_ok : {T E P Q : Type 0} (r : Result T E) → OnOk r P → (P → Q) → OnOk r Q
+on_ok (Ok x) p f = f p
+on_ok (Err e) p f = tt
+
 pub returns-clause-wrote : goal.returns-clause-wrote
-returns-clause-wrote c = λ service before inside agrees.
+returns-clause-wrote c = on_ok c.put_reply.result c.put_reply.ensures.ok (λ put service before inside agrees.
     let is = reply_to-shown service _ before c.args.step _ inside agrees c.apply-reply.ensures.reply in
-    c.in_ok-extend_from_slice.ensures.items
-    ∙ ap (λ ys. c.args.self.now.out.items ++ ys) (c.as_bytes.ensures.value ∙ c.as_str.ensures.value ∙ c.in_ok-line.ensures ∙ ap reply_line is)
+    put ∙ ap (λ reply. c.args.self.now.out.items ++ reply_line reply) is)
 
 pub returns-clause-agrees : goal.returns-clause-agrees
-returns-clause-agrees c = λ service before agrees.
-    agrees-after service _ _ before c.args.step _ agrees c.apply-reply.ensures
+returns-clause-agrees c = on_ok c.put_reply.result c.put_reply.ensures.ok (λ put service before agrees.
+    agrees-after service _ _ before c.args.step _ agrees c.apply-reply.ensures)
