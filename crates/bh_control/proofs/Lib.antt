@@ -1,3 +1,4 @@
 pub mod Floatless
 pub mod Pieces
 pub mod Progress
+pub mod Holding

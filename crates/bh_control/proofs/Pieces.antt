@@ -1,10 +1,9 @@
 -- Answers to the lines of a piece, one after the other.
-use Rattle.std.proofs.Common.{◌≡◌, ℕ, false, List, [], ◌∷◌, ◌++◌, codes, Option, Some, None, Result, Ok, Err, String, string_bytes, Vec, refl, sym, ◌∙◌, subst, ap, append-nil, append_assoc, inl}
+use Rattle.std.proofs.Common.{◌≡◌, ℕ, false, List, [], ◌∷◌, ◌++◌, codes, Option, Some, None, Result, Ok, Err, Vec, refl, sym, ◌∙◌, subst, ap, append-nil, append_assoc, inl}
 use Rattle.std.specs.declared.alloc.Global.{Global}
 use Rattle.bh_lines.specs.declared.port_error.PortError.{PortError}
 use Rattle.bh_lines.specs.declared.port_error.PortError.TheVariants.{Read, Write, Line, Memory}
 use Rattle.bh_lines.specs.Lines.{stopped, cut, has_line, lines_then}
-use Rattle.bh_lines.specs.Taken.{TakesLine, IsLast}
 use Rattle.bh_lines.proofs.LinesThen.{lines_then-append, IsBehind-more}
 use Rattle.bh_lines.specs.declared.fault.Fault.{Fault}
 use Rattle.bh_lines.specs.FaultLine.{fault_line, fault_word, error_data}
@@ -18,14 +17,21 @@ use Rattle.bh_base.specs.declared.reply.Reply.TheVariants as reply
 use Rattle.bh_control.specs.declared.control_line.ControlLine.{ControlLine}
 use Rattle.bh_control.specs.declared.control_line.ControlLine.TheVariants as lines
 use Rattle.bh_control.specs.ControlLine.{control_line}
-use Rattle.bh_control.specs.AnswerLine.{Responder, Answers, IsAnswer, groups_data, groups_line, answer_line}
-use Rattle.bh_control.specs.Pieces.{AnswersEach, AnsweredUpTo, Refused, Each, EachLast, UnlessEmpty, Fed}
+use Rattle.bh_control.specs.AnswerLine.{Responder, Answers, IsAnswer, IsPut, groups_data, groups_line, answer_line}
+use Rattle.bh_control.specs.Taken.{TakesAsked, IsLastAsked}
+use Rattle.bh_control.specs.Pieces.{AnswersEach, AnsweredUpTo, AnsweredLast, Refused, Each, UnlessEmpty, Fed}
 
 -- the lines in front of `all` were answered behind `before`, up to `rest`
 abbrev pub SoFar : Responder → List ℕ → List ℕ → List ℕ → List ℕ → Type 0
 SoFar who all before rest after = (out : List ℕ) × (after ≡ before ++ out) × AnsweredUpTo who all rest out
 
-answers-more : (who : Responder) (ls : List (List ℕ)) (l out one : List ℕ) → AnswersEach who ls out → Answers who l one → AnswersEach who (ls ++ l ∷ []) (out ++ one)
+-- what a line is answered is what its question is answered
+pub answers-asked : (who : Responder) (bytes : List ℕ) (asked : Result ControlLine Fault) (one : List ℕ) → asked ≡ control_line who.names bytes → IsAnswer who asked one → Answers who bytes one
+unfolding Answers
+answers-asked who bytes asked one is h = subst (λ (a : Result ControlLine Fault). IsAnswer who a one) is h
+
+-- one line more, and its answer
+pub answers-more : (who : Responder) (ls : List (List ℕ)) (l out one : List ℕ) → AnswersEach who ls out → Answers who l one → AnswersEach who (ls ++ l ∷ []) (out ++ one)
 answers-more who [] l out one h m = (one, [], m, refl, ap (λ ys. ys ++ one) h ∙ sym (append-nil one))
 answers-more who (k ∷ ls) l out one h m =
     (h.0, h.1 ++ one, h.2, answers-more who ls l h.1 one h.3 m, ap (λ ys. ys ++ one) h.4 ∙ append_assoc h.0 h.1 one)
@@ -35,26 +41,34 @@ pub so_far-none : (who : Responder) (all before : List ℕ) → SoFar who all be
 so_far-none who all before = ([], sym (append-nil before), record { lines = []; each = refl; cut_is = λ more. refl; behind = inl refl })
 
 -- one line more was taken and answered
-pub so_far-one : (who : Responder) (all before mid after new later bytes one : List ℕ) (found : Option (String Global)) (s : String Global)
-    → SoFar who all before mid after → found ≡ Some s → TakesLine mid (Ok found) new → bytes ≡ string_bytes s → Answers who bytes one → later ≡ after ++ one
+pub so_far-one : (who : Responder) (all before mid after new later one : List ℕ) (found : Option (Result ControlLine Fault)) (asked : Result ControlLine Fault)
+    → SoFar who all before mid after → found ≡ Some asked → TakesAsked who.names mid (Ok found) new → IsAnswer who asked one → later ≡ after ++ one
     → SoFar who all before new later
-so_far-one who all before mid after new later bytes one found s so is taken same m e =
-    let took : TakesLine mid (Ok (Some s)) new = subst (λ (o : Option (String Global)). TakesLine mid (Ok o) new) is taken in
-    let m2 : Answers who (string_bytes s) one = subst (λ (ys : List ℕ). Answers who ys one) same m in
-    let ls : List (List ℕ) = so.2.lines in (
+so_far-one who all before mid after new later one found asked so is taken answered e =
+    let took : TakesAsked who.names mid (Ok (Some asked)) new = subst (λ (o : Option (Result ControlLine Fault)). TakesAsked who.names mid (Ok o) new) is taken in
+    let ls : List (List ℕ) = so.2.lines in
+    let bytes : List ℕ = took.0 in (
       so.0 ++ one,
       e ∙ ap (λ ys. ys ++ one) so.1 ∙ append_assoc before so.0 one,
       record {
-        lines = ls ++ string_bytes s ∷ [];
-        each = answers-more who ls (string_bytes s) so.0 one so.2.each m2;
-        cut_is = λ more. so.2.cut_is more ∙ ap (λ c. lines_then ls c) (took.1 more) ∙ sym (lines_then-append ls (string_bytes s ∷ []) (cut (new ++ more)));
-        behind = IsBehind-more all mid new so.2.behind took.2;
+        lines = ls ++ bytes ∷ [];
+        each = answers-more who ls bytes so.0 one so.2.each (answers-asked who bytes asked one took.1 answered);
+        cut_is = λ more. so.2.cut_is more ∙ ap (λ c. lines_then ls c) (took.3 more) ∙ sym (lines_then-append ls (bytes ∷ []) (cut (new ++ more)));
+        behind = IsBehind-more all mid new so.2.behind took.4;
       },
     )
 
+-- the same where the answer was put into a buffer by itself
+pub so_far-put : (who : Responder) (all before mid after new later none put : List ℕ) (found : Option (Result ControlLine Fault)) (asked : Result ControlLine Fault)
+    → SoFar who all before mid after → found ≡ Some asked → TakesAsked who.names mid (Ok found) new → none ≡ [] → IsPut (IsAnswer who asked) none put → later ≡ after ++ put
+    → SoFar who all before new later
+so_far-put who all before mid after new later none put found asked so is taken empty answered e =
+    let alone : put ≡ answered.0 = answered.2 ∙ ap (λ ys. ys ++ answered.0) empty in
+    so_far-one who all before mid after new later answered.0 found asked so is taken answered.1 (e ∙ ap (λ ys. after ++ ys) alone)
+
 -- the next line is refused
 pub so_far-refused : (who : Responder) (all before mid after new : List ℕ) (e : PortError)
-    → SoFar who all before mid after → TakesLine mid (Err e) new → Each who all before (Err e) new after
+    → SoFar who all before mid after → TakesAsked who.names mid (Err e) new → Each who all before (Err e) new after
 so_far-refused who all before mid after new Line so taken =
     (so.0, so.1, record { lines = so.2.lines; each = so.2.each; cut_is = λ more. so.2.cut_is more ∙ ap (λ c. lines_then so.2.lines c) (taken more) })
 so_far-refused who all before mid after new Memory so taken = tt
@@ -62,10 +76,10 @@ so_far-refused who all before mid after new Read so taken = taken
 so_far-refused who all before mid after new Write so taken = taken
 
 -- no further line has ended
-pub so_far-waits : (who : Responder) (all before mid after new : List ℕ) (found : Option (String Global))
-    → SoFar who all before mid after → found ≡ None → TakesLine mid (Ok found) new → Each who all before (Ok tt) new after
+pub so_far-waits : (who : Responder) (all before mid after new : List ℕ) (found : Option (Result ControlLine Fault))
+    → SoFar who all before mid after → found ≡ None → TakesAsked who.names mid (Ok found) new → Each who all before (Ok tt) new after
 so_far-waits who all before mid after new found so is taken =
-    let waits : TakesLine mid (Ok None) new = subst (λ (o : Option (String Global)). TakesLine mid (Ok o) new) is taken in
+    let waits : TakesAsked who.names mid (Ok None) new = subst (λ (o : Option (Result ControlLine Fault)). TakesAsked who.names mid (Ok o) new) is taken in
     let same : SoFar who all before new after = subst (λ (ys : List ℕ). SoFar who all before ys after) (sym waits.1) so in
     (same.0, same.1, same.2, subst (λ (ys : List ℕ). has_line ys ≡ false) (sym waits.1) waits.0)
 
@@ -149,17 +163,17 @@ fed-refused who all whole before rest after fault answers result was is-line non
     from-refused who all after answers result (subst (λ (ys : List ℕ). Refused who ys answers.items) is refused) h
 
 -- the last line was taken and answered
-pub last-found : (who : Responder) (rest before after bytes one : List ℕ) (found : Option (String Global)) (s : String Global)
-    → found ≡ Some s → IsLast rest (Ok found) → bytes ≡ string_bytes s → Answers who bytes one → after ≡ before ++ one
-    → EachLast who rest before (Ok tt) after
-last-found who rest before after bytes one found s is last same answered e =
-    let ends : IsLast rest (Ok (Some s)) = subst (λ (o : Option (String Global)). IsLast rest (Ok o)) is last in
-    let one' : Answers who (string_bytes s) one = subst (λ (ys : List ℕ). Answers who ys one) same answered in
-    (one, e, record { lines = string_bytes s ∷ []; each = (one, [], one', refl, sym (append-nil one)); cut_is = ends })
+pub last-found : (who : Responder) (rest before after : List ℕ) (found : Option (Result ControlLine Fault)) (asked : Result ControlLine Fault)
+    → found ≡ Some asked → IsLastAsked who.names rest (Ok found) → IsPut (IsAnswer who asked) before after
+    → (out : List ℕ) × (after ≡ before ++ out) × AnsweredLast who rest out
+last-found who rest before after found asked is last put =
+    let ends : IsLastAsked who.names rest (Ok (Some asked)) = subst (λ (o : Option (Result ControlLine Fault)). IsLastAsked who.names rest (Ok o)) is last in
+    let one : Answers who ends.0 put.0 = answers-asked who ends.0 asked put.0 ends.1 put.1 in
+    (put.0, put.2, record { lines = ends.0 ∷ []; each = (put.0, [], one, refl, sym (append-nil put.0)); cut_is = ends.2 })
 
 -- there is no last line
-pub last-none : (who : Responder) (rest before : List ℕ) (found : Option (String Global))
-    → found ≡ None → IsLast rest (Ok found) → EachLast who rest before (Ok tt) before
+pub last-none : (who : Responder) (rest before : List ℕ) (found : Option (Result ControlLine Fault))
+    → found ≡ None → IsLastAsked who.names rest (Ok found) → (out : List ℕ) × (before ≡ before ++ out) × AnsweredLast who rest out
 last-none who rest before found is last =
-    let ends : IsLast rest (Ok None) = subst (λ (o : Option (String Global)). IsLast rest (Ok o)) is last in
+    let ends : IsLastAsked who.names rest (Ok None) = subst (λ (o : Option (Result ControlLine Fault)). IsLastAsked who.names rest (Ok o)) is last in
     ([], sym (append-nil before), record { lines = []; each = refl; cut_is = ends })

@@ -2,7 +2,6 @@
 use Rattle.std.proofs.Common.{◌≡◌, ℕ, false, List, [], ◌∷◌, ◌++◌, Option, Some, None, Result, Ok, Err, IfSome, Vec, refl, sym, ◌∙◌, subst, ap, append-nil, append_assoc}
 use Rattle.std.proofs.KnownBytes.{Appends-trans, Appends-nil}
 use Rattle.std.specs.Io.KnownBytes.{Keeps, Appends, Consumes, IsAtEnd}
-use Rattle.std.specs.declared.alloc.Global.{Global}
 use Rattle.bh_lines.specs.declared.port_error.PortError.{PortError}
 use Rattle.bh_lines.specs.declared.port_error.PortError.TheVariants.{Read, Write, Line, Memory}
 use Rattle.bh_lines.specs.Lines.{Cut, stopped, cut, has_line, lines_then}
@@ -10,9 +9,8 @@ use Rattle.bh_control.specs.AnswerLine.{Responder}
 use Rattle.bh_streams.specs.Watched.{WritesFront}
 use Rattle.bh_lines.proofs.LinesThen.{lines_then-append}
 use Rattle.bh_streams.proofs.Fronts.{front-after}
-use Rattle.bh_control.specs.ConversationView.{ConversationView}
-use Rattle.bh_control.specs.Pieces.{AnswersEach, Fed}
-use Rattle.bh_control.specs.Session.{Wrote, WroteFront, SessionOutcome, HasAnswered, GoesOn, BreaksOff, PieceOutcome, LastOutcome}
+use Rattle.bh_control.specs.Pieces.{AnswersEach}
+use Rattle.bh_control.specs.Session.{Wrote, WroteFront, SessionOutcome, HasAnswered, WroteUpTo, PieceOutcome, LastOutcome}
 
 -- what was written for `all` while `left` and what is kept are left of it
 pub record Underway (all left : List ℕ) (who : Responder) (w0 w1 : Option (List ℕ)) (kept : List ℕ) : Type 0 where
@@ -33,7 +31,8 @@ Progress (Some all) (Some left) who w0 w1 rest = Underway all left who w0 w1 res
 wrote-all : (all left : List ℕ) (who : Responder) (w0 w1 : Option (List ℕ)) (kept : List ℕ) → Underway all left who w0 w1 kept → Wrote who w0 w1 (cut all) (cut (kept ++ left))
 wrote-all all left who w0 w1 kept p = record { lines = p.lines; out = p.out; each = p.each; wrote = p.wrote; cut_is = ap cut p.all_is ∙ p.cut_is left }
 
-each-append : (who : Responder) (ks ls : List (List ℕ)) (o p : List ℕ) → AnswersEach who ks o → AnswersEach who ls p → AnswersEach who (ks ++ ls) (o ++ p)
+-- answers to some lines, and to those behind them
+pub each-append : (who : Responder) (ks ls : List (List ℕ)) (o p : List ℕ) → AnswersEach who ks o → AnswersEach who ls p → AnswersEach who (ks ++ ls) (o ++ p)
 each-append who [] ls o p h k = subst (λ (ys : List ℕ). AnswersEach who ls ys) (ap (λ ys. ys ++ p) (sym h)) k
 each-append who (b ∷ ks) ls o p h k =
     (h.0, h.1 ++ p, h.2, each-append who ks ls h.1 p h.3 k, ap (λ ys. ys ++ p) h.4 ∙ append_assoc h.0 h.1 p)
@@ -74,39 +73,45 @@ joined : (rest piece left : List ℕ) (xs : List ℕ) → xs ≡ piece ++ left �
 joined rest piece left xs e = ap (λ ys. rest ++ ys) e ∙ sym (append_assoc rest piece left)
 
 -- a piece more was read, and the lines that it ended were answered
-pub progress-piece : (all now next w0 w1 w2 : Option (List ℕ)) (who : Responder) (rest piece : List ℕ) (conversation : ConversationView)
-    → Progress all now who w0 w1 rest → Consumes now next piece → GoesOn who w1 w2 (rest ++ piece) conversation → Progress all next who w0 w2 conversation.rest
-progress-piece None now next w0 w1 w2 who rest piece conversation p r g = tt
-progress-piece (Some all) None next w0 w1 w2 who rest piece conversation p r g = absurd p
-progress-piece (Some all) (Some left) None w0 w1 w2 who rest piece conversation p r g = absurd r
-progress-piece (Some all) (Some left) (Some after) w0 w1 w2 who rest piece conversation p r g =
-    let ls : List (List ℕ) = g.answered.lines in
-    let then : (more : List ℕ) → cut (rest ++ (piece ++ more)) ≡ lines_then ls (cut (conversation.rest ++ more)) =
-    λ more. ap cut (sym (append_assoc rest piece more)) ∙ g.answered.cut_is more in record {
+pub progress-piece : (all now next w0 w1 w2 : Option (List ℕ)) (who : Responder) (rest piece kept : List ℕ)
+    → Progress all now who w0 w1 rest → Consumes now next piece → WroteUpTo who w1 w2 (rest ++ piece) (λ more. cut (kept ++ more)) → Progress all next who w0 w2 kept
+progress-piece None now next w0 w1 w2 who rest piece kept p r g = tt
+progress-piece (Some all) None next w0 w1 w2 who rest piece kept p r g = absurd p
+progress-piece (Some all) (Some left) None w0 w1 w2 who rest piece kept p r g = absurd r
+progress-piece (Some all) (Some left) (Some after) w0 w1 w2 who rest piece kept p r g =
+    let ls : List (List ℕ) = g.lines in
+    let then : (more : List ℕ) → cut (rest ++ (piece ++ more)) ≡ lines_then ls (cut (kept ++ more)) =
+    λ more. ap cut (sym (append_assoc rest piece more)) ∙ g.cut_is more in record {
       read = p.read ++ piece;
       lines = p.lines ++ ls;
       out = p.out ++ g.out;
       all_is = p.all_is ∙ (ap (λ ys. p.read ++ ys) r ∙ sym (append_assoc p.read piece after));
-      each = each-append who p.lines ls p.out g.out p.each g.answered.each;
+      each = each-append who p.lines ls p.out g.out p.each g.each;
       wrote = Appends-trans w0 w1 w2 p.out g.out p.wrote g.wrote;
       cut_is = λ more.
           ap cut (append_assoc p.read piece more) ∙ p.cut_is (piece ++ more)
-          ∙ (ap (λ c. lines_then p.lines c) (then more) ∙ sym (lines_then-append p.lines ls (cut (conversation.rest ++ more))));
+          ∙ (ap (λ c. lines_then p.lines c) (then more) ∙ sym (lines_then-append p.lines ls (cut (kept ++ more))));
     }
 
--- a piece after which the conversation does not go on
-pub progress-stops : (all now next w0 w1 w2 : Option (List ℕ)) (who : Responder) (rest piece : List ℕ) (conversation : ConversationView) (e : PortError)
-    → Progress all now who w0 w1 rest → Consumes now next piece → PieceOutcome who w1 w2 (rest ++ piece) (Err e) conversation
+-- a piece whose lines were answered up to where the session stops
+wrote-stops : (all left after : List ℕ) (w0 w1 w2 : Option (List ℕ)) (who : Responder) (rest piece : List ℕ) (next : List ℕ → Cut)
+    → Underway all left who w0 w1 rest → left ≡ piece ++ after → WroteUpTo who w1 w2 (rest ++ piece) next → Wrote who w0 w2 (cut all) (next after)
+wrote-stops all left after w0 w1 w2 who rest piece next p r g =
+    wrote-more who w0 w1 w2 _ _ _ g.lines g.out (wrote-all all left who w0 w1 rest p) g.each g.wrote
+    (ap cut (joined rest piece after left r) ∙ g.cut_is after)
+
+-- a piece after which the session does not go on
+pub progress-stops : (all now next w0 w1 w2 : Option (List ℕ)) (who : Responder) (rest piece kept : List ℕ) (e : PortError)
+    → Progress all now who w0 w1 rest → Consumes now next piece → PieceOutcome who w1 w2 (rest ++ piece) (Err e) kept
     → IfSome all (λ input. SessionOutcome who w0 w2 (cut input) (Err e))
-progress-stops None now next w0 w1 w2 who rest piece conversation e p r g = tt
-progress-stops (Some all) None next w0 w1 w2 who rest piece conversation e p r g = absurd p
-progress-stops (Some all) (Some left) None w0 w1 w2 who rest piece conversation e p r g = absurd r
-progress-stops (Some all) (Some left) (Some after) w0 w1 w2 who rest piece conversation Line p r g =
-    wrote-more who w0 w1 w2 _ _ _ g.refused.lines g.out (wrote-all all left who w0 w1 rest p) g.refused.each g.wrote
-    (ap cut (joined rest piece after left r) ∙ g.refused.cut_is after)
-progress-stops (Some all) (Some left) (Some after) w0 w1 w2 who rest piece conversation Memory p r g = record { rest = cut (rest ++ left); some = wrote-same who w0 w1 w2 _ _ (wrote-all all left who w0 w1 rest p) g }
-progress-stops (Some all) (Some left) (Some after) w0 w1 w2 who rest piece conversation Read p r g = absurd g
-progress-stops (Some all) (Some left) (Some after) w0 w1 w2 who rest piece conversation Write p r g =
+progress-stops None now next w0 w1 w2 who rest piece kept e p r g = tt
+progress-stops (Some all) None next w0 w1 w2 who rest piece kept e p r g = absurd p
+progress-stops (Some all) (Some left) None w0 w1 w2 who rest piece kept e p r g = absurd r
+progress-stops (Some all) (Some left) (Some after) w0 w1 w2 who rest piece kept Line p r g = wrote-stops all left after w0 w1 w2 who rest piece _ p r g
+progress-stops (Some all) (Some left) (Some after) w0 w1 w2 who rest piece kept Memory p r g =
+    record { rest = g.0 after; some = wrote-stops all left after w0 w1 w2 who rest piece g.0 p r g.1 }
+progress-stops (Some all) (Some left) (Some after) w0 w1 w2 who rest piece kept Read p r g = absurd g
+progress-stops (Some all) (Some left) (Some after) w0 w1 w2 who rest piece kept Write p r g =
     wrote-front who w0 w1 w2 _ _ _ g.lines g.out (wrote-all all left who w0 w1 rest p) g.each g.front
     (ap cut (joined rest piece after left r) ∙ (g.cut_is after).1)
 
@@ -136,6 +141,17 @@ progress-ends (Some all) (Some left) (Some after) w0 w1 w2 who rest piece result
     let nothing : left ≡ [] = r ∙ (ap (λ ys. ys ++ after) none ∙ e) in
     at-end (Some all) (Some left) w0 w1 w2 who rest result p nothing g
 
+-- memory is refused before a line of what was read is answered
+pub progress-refused : (all now w0 w1 : Option (List ℕ)) (who : Responder) (rest : List ℕ) → Progress all now who w0 w1 rest → IfSome all (λ input. SessionOutcome who w0 w1 (cut input) (Err Memory))
+progress-refused None now w0 w1 who rest p = tt
+progress-refused (Some all) None w0 w1 who rest p = absurd p
+progress-refused (Some all) (Some left) w0 w1 who rest p = record { rest = cut (rest ++ left); some = wrote-all all left who w0 w1 rest p }
+
+-- the same of an error that is want of memory
+pub memory-refused : (all w0 w1 : Option (List ℕ)) (who : Responder) (e : PortError) → e ≡ Memory
+    → IfSome all (λ input. SessionOutcome who w0 w1 (cut input) (Err Memory)) → IfSome all (λ input. SessionOutcome who w0 w1 (cut input) (Err e))
+memory-refused all w0 w1 who e is h = subst (λ (k : PortError). IfSome all (λ input. SessionOutcome who w0 w1 (cut input) (Err k))) (sym is) h
+
 -- a reader that fails
 pub progress-fails : (all now w0 w1 : Option (List ℕ)) (who : Responder) (rest : List ℕ) → Progress all now who w0 w1 rest → IfSome all (λ input. SessionOutcome who w0 w1 (cut input) (Err Read))
 progress-fails None now w0 w1 who rest p = tt
@@ -159,31 +175,3 @@ progress-answered (Some all) (Some left) (Some after) w0 w1 who rest p same none
   cut_is = p.cut_is;
   no_line = none;
 }
-
--- the answers to a piece, of which a front was written
-breaks-off : (who : Responder) (w0 w1 : Option (List ℕ)) (all rest : List ℕ) (out : Vec ℕ Global) (fault : Option PortError)
-    → Fed who all (Ok out) rest fault → WritesFront w0 w1 out.items → BreaksOff who w0 w1 all
-breaks-off who w0 w1 all rest out None fed front = record {
-  lines = fed.0.lines;
-  out = out.items;
-  each = fed.0.each;
-  front = front;
-  cut_is = λ more. (cut (rest ++ more), fed.0.cut_is more);
-}
-breaks-off who w0 w1 all rest out (Some Line) fed front = record {
-  lines = fed.lines;
-  out = out.items;
-  each = fed.each;
-  front = front;
-  cut_is = λ more. (stopped, fed.cut_is more);
-}
-breaks-off who w0 w1 all rest out (Some Memory) fed front = absurd fed
-breaks-off who w0 w1 all rest out (Some Read) fed front = absurd fed
-breaks-off who w0 w1 all rest out (Some Write) fed front = absurd fed
-
--- the answers to a piece could not be written
-pub piece-unwritten : (who : Responder) (w0 w1 : Option (List ℕ)) (all rest bytes : List ℕ) (out : Vec ℕ Global) (fault : Option PortError) (conversation : ConversationView) (e : PortError)
-    → Fed who all (Ok out) rest fault → bytes ≡ out.items → WritesFront w0 w1 bytes → e ≡ Write → PieceOutcome who w0 w1 all (Err e) conversation
-piece-unwritten who w0 w1 all rest bytes out fault conversation e fed same front is =
-    subst (λ (k : PortError). PieceOutcome who w0 w1 all (Err k) conversation) (sym is)
-    (breaks-off who w0 w1 all rest out fault fed (subst (λ (ys : List ℕ). WritesFront w0 w1 ys) same front))

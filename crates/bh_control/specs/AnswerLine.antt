@@ -1,5 +1,5 @@
 -- The lines that answer control lines.
-use Rattle.std.specs.Prelude.{◌≡◌, ℕ, List, codes, map, Result, Ok, Err}
+use Rattle.std.specs.Prelude.{◌≡◌, ℕ, List, ◌++◌, Bool, true, false, codes, map, Result, Ok, Err}
 use Rattle.serde_json.specs.Data.{Data, object, member, no_members, string, array, Items}
 use Rattle.serde_json.specs.View.{items_of}
 use Rattle.bh_base.specs.declared.step.GroupId.{GroupId}
@@ -62,3 +62,15 @@ IsAnswer who (Ok (lines.Close group context)) out = (reply : Reply) × who.may_c
 -- what a line may be answered
 unfoldable pub Answers : Responder → List ℕ → List ℕ → Type 0
 Answers who bytes out = IsAnswer who (control_line who.names bytes) out
+
+-- whether what is asked may wait: a call alone may
+abbrev pub may_wait : Result ControlLine Fault → Bool
+may_wait (Err fault) = false
+may_wait (Ok lines.Groups) = false
+may_wait (Ok (lines.Metrics group)) = false
+may_wait (Ok (lines.Call group request)) = true
+may_wait (Ok (lines.Close group context)) = false
+
+-- bytes of which this holds stand behind those before
+abbrev pub IsPut : (List ℕ → Type 0) → List ℕ → List ℕ → Type 0
+IsPut P before after = (one : List ℕ) × P one × (after ≡ before ++ one)

@@ -1,13 +1,12 @@
 -- What a session writes: a whole conversation over a reader and a writer.
-use Rattle.std.specs.Prelude.{◌≡◌, ℕ, false, List, [], ◌++◌, Option, Some, None, Result, Ok, Err}
+use Rattle.std.specs.Prelude.{◌≡◌, ◌⊎◌, ℕ, false, List, [], ◌++◌, Option, Some, None, Result, Ok, Err}
 use Rattle.std.specs.Io.KnownBytes.{Appends}
 use Rattle.bh_lines.specs.declared.port_error.PortError.{PortError}
 use Rattle.bh_lines.specs.declared.port_error.PortError.TheVariants.{Read, Write, Line, Memory}
 use Rattle.bh_lines.specs.Lines.{Cut, ended, stopped, cut, has_line, lines_then}
 use Rattle.bh_streams.specs.Watched.{WritesFront}
 use Rattle.bh_control.specs.AnswerLine.{Responder}
-use Rattle.bh_control.specs.ConversationView.{ConversationView}
-use Rattle.bh_control.specs.Pieces.{AnswersEach, AnsweredUpTo, AnsweredLast, Refused}
+use Rattle.bh_control.specs.Pieces.{AnswersEach, AnsweredLast}
 
 -- One answer to each of the first lines was written, in order, and `rest` is what follows them.
 pub record Wrote (who : Responder) (w0 w1 : Option (List ℕ)) (all rest : Cut) : Type 0 where
@@ -59,19 +58,19 @@ HasAnswered who w0 w1 None left = Unit {0}
 HasAnswered who w0 w1 (Some input) None = ⊥
 HasAnswered who w0 w1 (Some input) (Some left) = AnsweredRead who w0 w1 input left
 
--- The lines that have ended were answered, and the conversation goes on.
-pub record GoesOn (who : Responder) (w0 w1 : Option (List ℕ)) (all : List ℕ) (conversation : ConversationView) : Type 0 where
+-- Whatever bytes follow, lines of `all` have ended, each was answered and the answers were written; `next` says what
+-- stands behind these lines.
+pub record WroteUpTo (who : Responder) (w0 w1 : Option (List ℕ)) (all : List ℕ) (next : List ℕ → Cut) : Type 0 where
+  pub lines : List (List ℕ)
   pub out : List ℕ
-  pub answered : AnsweredUpTo who all conversation.rest out
+  pub each : AnswersEach who lines out
   pub wrote : Appends w0 w1 out
-  pub going : conversation.fault ≡ None
-  pub no_line : has_line conversation.rest ≡ false
+  pub cut_is : (more : List ℕ) → cut (all ++ more) ≡ lines_then lines (next more)
 
--- The lines before one that is refused were answered.
-pub record Stops (who : Responder) (w0 w1 : Option (List ℕ)) (all : List ℕ) : Type 0 where
-  pub out : List ℕ
-  pub refused : Refused who all out
-  pub wrote : Appends w0 w1 out
+-- the same, with further lines behind these, whose answers are held and not written yet
+abbrev pub HoldsUpTo : Responder → Option (List ℕ) → Option (List ℕ) → List ℕ → (List ℕ → Cut) → List ℕ → Type 0
+HoldsUpTo who w0 w1 all next held =
+    (waiting : List (List ℕ)) × AnswersEach who waiting held × WroteUpTo who w0 w1 all (λ more. lines_then waiting (next more))
 
 -- Whatever bytes follow, lines of `all` have ended, and each was answered; a front of the answers was written.
 pub record BreaksOff (who : Responder) (w0 w1 : Option (List ℕ)) (all : List ℕ) : Type 0 where
@@ -81,13 +80,25 @@ pub record BreaksOff (who : Responder) (w0 w1 : Option (List ℕ)) (all : List �
   pub front : WritesFront w0 w1 out
   pub cut_is : (more : List ℕ) → (rest : Cut) × (cut (all ++ more) ≡ lines_then lines rest)
 
--- what was written for a piece, where `all` is what was kept and the piece
-abbrev pub PieceOutcome : Responder → Option (List ℕ) → Option (List ℕ) → List ℕ → Result (Unit {0}) PortError → ConversationView → Type 0
-PieceOutcome who w0 w1 all (Ok x) conversation = GoesOn who w0 w1 all conversation
-PieceOutcome who w0 w1 all (Err Line) conversation = Stops who w0 w1 all
-PieceOutcome who w0 w1 all (Err Memory) conversation = Appends w0 w1 []
-PieceOutcome who w0 w1 all (Err Read) conversation = ⊥
-PieceOutcome who w0 w1 all (Err Write) conversation = BreaksOff who w0 w1 all
+-- all that was held was written, and nothing is held then; or nothing was written, and it is held still
+abbrev pub Moves : Option (List ℕ) → Option (List ℕ) → List ℕ → List ℕ → Type 0
+Moves w0 w1 held0 held1 = (Appends w0 w1 held0 × (held1 ≡ [])) ⊎ (Appends w0 w1 [] × (held1 ≡ held0))
+
+-- what was written and what is held for the lines in front of `all`, of which `rest` is left
+abbrev pub LinesOutcome : Responder → Option (List ℕ) → Option (List ℕ) → List ℕ → Result (Unit {0}) PortError → List ℕ → List ℕ → Type 0
+LinesOutcome who w0 w1 all (Ok x) rest held = HoldsUpTo who w0 w1 all (λ more. cut (rest ++ more)) held × (has_line rest ≡ false)
+LinesOutcome who w0 w1 all (Err Line) rest held = HoldsUpTo who w0 w1 all (λ more. stopped) held
+LinesOutcome who w0 w1 all (Err Memory) rest held = (next : List ℕ → Cut) × HoldsUpTo who w0 w1 all next held
+LinesOutcome who w0 w1 all (Err Read) rest held = ⊥
+LinesOutcome who w0 w1 all (Err Write) rest held = BreaksOff who w0 w1 all
+
+-- the same where no answer is held any more
+abbrev pub PieceOutcome : Responder → Option (List ℕ) → Option (List ℕ) → List ℕ → Result (Unit {0}) PortError → List ℕ → Type 0
+PieceOutcome who w0 w1 all (Ok x) rest = WroteUpTo who w0 w1 all (λ more. cut (rest ++ more)) × (has_line rest ≡ false)
+PieceOutcome who w0 w1 all (Err Line) rest = WroteUpTo who w0 w1 all (λ more. stopped)
+PieceOutcome who w0 w1 all (Err Memory) rest = (next : List ℕ → Cut) × WroteUpTo who w0 w1 all next
+PieceOutcome who w0 w1 all (Err Read) rest = ⊥
+PieceOutcome who w0 w1 all (Err Write) rest = BreaksOff who w0 w1 all
 
 -- what was written for the last line, or none, where `rest` was kept
 abbrev pub LastOutcome : Responder → Option (List ℕ) → Option (List ℕ) → List ℕ → Result (Unit {0}) PortError → Type 0

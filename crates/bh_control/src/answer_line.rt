@@ -1,64 +1,102 @@
 //! The lines that answer control lines.
 
-ghost use Rattle.std.specs.Prelude.{◌≡◌, length, map, ◌++◌, ◌∷◌, [], IfOk, OnOk, Ok, string_bytes};
+ghost use Rattle.std.specs.Prelude.{◌≡◌, length, map, ◌<◌, ◌++◌, ◌∷◌, [], true, Result, IfOk, OnOk, OnErr, Ok, string_bytes};
 ghost use Rattle.serde_json.specs.Data.{array, string};
 ghost use Rattle.serde_json.specs.View.{view};
 ghost use Rattle.bh_control.specs.ControlLine.{IsOfGroups};
-ghost use Rattle.bh_control.specs.AnswerLine.{responder, texts_data, groups_data, groups_line, answer_line, Answers, IsAnswer};
+ghost use Rattle.bh_base.specs.declared.reply.Answer.{Answer};
+ghost use Rattle.bh_base.specs.declared.reply.CallError.{CallError};
+ghost use Rattle.bh_control.specs.AnswerLine.{responder, texts_data, groups_data, groups_line, answer_line, may_wait, IsPut, IsAnswer};
 
 use crate::control::Control;
-use crate::control_line::ControlLine;
-use bh_base::{Answer, CallError, Reply, Text};
-use bh_lines::{error_line, fault_line, json_line, reply_line};
+use crate::control_line::{Asked, ControlLine};
+use bh_base::{Answer, CallError, GroupId, Reply, Request, Text};
+use bh_lines::{json_line, put_error, put_fault, put_reply};
 use serde_json::{Value, json};
 use std::alloc::{AllocError, Global};
 
-/// The line that answers a line.
-#[tactic(auto, unfolding(crate::specs::AnswerLine::Answers))]
-pub fn answer<C: Control>(alloc: Global, control: &mut C, line: &str) -> Result<String, AllocError>
-    ensures answer { IfOk result (λ s. Answers (responder (C.names control.old) C.may_show C.may_answer C.may_close) line.now (string_bytes s)) }
-    ensures groups { C.names control.new ≡ C.names control.old }
-{
-    match ControlLine::parse(alloc, control.groups(), line)? {
-        Ok(asked) => answer_asked(alloc, control, asked),
-        Err(fault) => fault_line(alloc, fault),
-    }
-}
-
-/// The line that answers what is asked.
-fn answer_asked<C: Control>(
+/// Answers what a line asks, or its fault: puts the line of the answer behind what is in `out`.
+///
+/// Where the line asks for a call, which may wait, nothing is in `out`: earlier answers have left.
+pub fn put_answer<C: Control>(
     alloc: Global,
     control: &mut C,
-    asked: ControlLine,
-) -> Result<String, AllocError>
-    requires { IsOfGroups (length (C.names control.old)) asked }
-    ensures answer { IfOk result (λ s. IsAnswer (responder (C.names control.old) C.may_show C.may_answer C.may_close) (Ok asked) (string_bytes s)) }
+    asked: Asked,
+    out: &mut Vec<u8>,
+) -> Result<(), AllocError>
+    requires group { IfOk asked (IsOfGroups (length (C.names control.old))) }
+    requires held { may_wait asked ≡ true → out.old.items ≡ [] }
+    ensures answer { OnOk result (IsPut (IsAnswer (responder (C.names control.old) C.may_show C.may_answer C.may_close) asked) out.old.items out.new.items) }
+    ensures kept { OnErr result (out.new.items ≡ out.old.items) }
     ensures groups { C.names control.new ≡ C.names control.old }
 {
     match asked {
-        ControlLine::Groups => groups_line(alloc, control.groups()),
+        Ok(line) => put_asked(alloc, control, line, out),
+        Err(fault) => put_fault(alloc, out, fault),
+    }
+}
+
+/// Whether what a line asks may wait.
+pub fn may_wait(asked: &Asked) -> bool
+    ensures { result ≡ may_wait asked.now }
+{
+    matches!(asked, Ok(ControlLine::Call { .. }))
+}
+
+/// Answers what is asked.
+fn put_asked<C: Control>(
+    alloc: Global,
+    control: &mut C,
+    line: ControlLine,
+    out: &mut Vec<u8>,
+) -> Result<(), AllocError>
+    requires group { IsOfGroups (length (C.names control.old)) line }
+    requires held { may_wait (Ok line) ≡ true → out.old.items ≡ [] }
+    ensures answer { OnOk result (IsPut (IsAnswer (responder (C.names control.old) C.may_show C.may_answer C.may_close) (Ok line)) out.old.items out.new.items) }
+    ensures kept { OnErr result (out.new.items ≡ out.old.items) }
+    ensures groups { C.names control.new ≡ C.names control.old }
+{
+    match line {
+        ControlLine::Groups => put_groups(alloc, control.groups(), out),
         ControlLine::Metrics { group } => {
             let reply = control.metrics(group);
-            reply_line(alloc, &reply)
+            put_reply(alloc, out, &reply)
         }
-        ControlLine::Call { group, request } => {
-            let answer = control.call(group, request);
-            answer_line(alloc, answer)
-        }
+        ControlLine::Call { group, request } => put_call(alloc, control, group, request, out),
         ControlLine::Close { group, context } => {
             let reply = control.close(group, context);
-            reply_line(alloc, &reply)
+            put_reply(alloc, out, &reply)
         }
     }
 }
 
-/// The line of the names of the groups.
+/// Asks for the answer to a request, for which a caller may have to wait. No earlier answer waits with it: `out` is empty.
+fn put_call<C: Control>(
+    alloc: Global,
+    control: &mut C,
+    group: GroupId,
+    request: Request,
+    out: &mut Vec<u8>,
+) -> Result<(), AllocError>
+    requires group { group.0 < length (C.names control.old) }
+    requires held { out.old.items ≡ [] }
+    ensures answer { OnOk result ((answer : Result Answer CallError) × C.may_answer group request answer × (out.new.items ≡ out.old.items ++ answer_line answer)) }
+    ensures kept { OnErr result (out.new.items ≡ out.old.items) }
+    ensures groups { C.names control.new ≡ C.names control.old }
+{
+    let answer = control.call(group, request);
+    put_answered(alloc, out, answer)
+}
+
+/// Puts the line of the names of the groups behind what is in `out`.
 #[tactic(auto, unfolding(crate::specs::AnswerLine::groups_line))]
-fn groups_line(alloc: Global, names: &[Text<32>]) -> Result<String, AllocError>
-    ensures { IfOk result (λ s. string_bytes s ≡ groups_line names.now) }
+fn put_groups(alloc: Global, names: &[Text<32>], out: &mut Vec<u8>) -> Result<(), AllocError>
+    ensures ok { OnOk result (out.new.items ≡ out.old.items ++ groups_line names.now) }
+    ensures err { OnErr result (out.new.items ≡ out.old.items) }
 {
     let value = groups_value(alloc, names)?;
-    json_line(alloc, &value)
+    let line = json_line(alloc, &value)?;
+    out.extend_from_slice(line.as_str().as_bytes())
 }
 
 /// The names of the groups, as a value.
@@ -89,18 +127,23 @@ fn put_text(alloc: Global, listed: &mut Vec<Value>, text: &str) -> Result<(), Al
     Ok(())
 }
 
-/// The line of the answer to a call, or of why there is none.
+/// Puts the line of the answer to a call, or of why there is none, behind what is in `out`.
 #[tactic(auto, unfolding(crate::specs::AnswerLine::answer_line))]
-fn answer_line(alloc: Global, answer: Result<Answer, CallError>) -> Result<String, AllocError>
-    ensures { IfOk result (λ s. string_bytes s ≡ answer_line answer) }
+fn put_answered(
+    alloc: Global,
+    out: &mut Vec<u8>,
+    answer: Result<Answer, CallError>,
+) -> Result<(), AllocError>
+    ensures ok { OnOk result (out.new.items ≡ out.old.items ++ answer_line answer) }
+    ensures err { OnErr result (out.new.items ≡ out.old.items) }
 {
     match answer {
-        Ok(answer) => reply_line(alloc, &Reply::Answered(answer)),
-        Err(CallError::GroupFull) => reply_line(alloc, &Reply::GroupFull),
-        Err(CallError::Worn) => reply_line(alloc, &Reply::Worn),
-        Err(CallError::PassFull) => error_line(alloc, "full"),
-        Err(CallError::Stopped) => error_line(alloc, "stopped"),
-        Err(CallError::Taken) => error_line(alloc, "taken"),
-        Err(CallError::NoGroup) => error_line(alloc, "group"),
+        Ok(answer) => put_reply(alloc, out, &Reply::Answered(answer)),
+        Err(CallError::GroupFull) => put_reply(alloc, out, &Reply::GroupFull),
+        Err(CallError::Worn) => put_reply(alloc, out, &Reply::Worn),
+        Err(CallError::PassFull) => put_error(alloc, out, "full"),
+        Err(CallError::Stopped) => put_error(alloc, out, "stopped"),
+        Err(CallError::Taken) => put_error(alloc, out, "taken"),
+        Err(CallError::NoGroup) => put_error(alloc, out, "group"),
     }
 }

@@ -1,11 +1,12 @@
 //! The service that control lines are asked of, as a trait.
 
-ghost use Rattle.std.specs.Prelude.{◌≡◌, ◌<◌, ℕ, List, length, Result};
+ghost use Rattle.std.specs.Prelude.{◌≡◌, ◌<◌, ℕ, List, length, Result, IfSome, option_map};
 ghost use Rattle.bh_base.specs.declared.step.GroupId.{GroupId};
 ghost use Rattle.bh_base.specs.declared.step.Request.{Request};
 ghost use Rattle.bh_base.specs.declared.reply.Reply.{Reply};
 ghost use Rattle.bh_base.specs.declared.reply.Answer.{Answer};
 ghost use Rattle.bh_base.specs.declared.reply.CallError.{CallError};
+ghost use Rattle.bh_lines.specs.StepLine.{group_number};
 
 use bh_base::{Answer, CallError, GroupId, Reply, Request, Text};
 
@@ -47,4 +48,27 @@ pub trait Control {
         requires { group.0 < length (names self.old) }
         ensures reply { may_close group context result }
         ensures groups { names self.new ≡ names self.old };
+
+    /// The group of the name, if there is one: the first that has it.
+    ///
+    /// This goes through the names; a control with an index of them gives a body of its own.
+    fn group(&self, name: &str) -> Option<GroupId>
+        ensures number { option_map (λ group. group.0) result ≡ group_number (names self.now) name.now }
+        ensures within { IfSome result (λ group. group.0 < length (names self.now)) }
+    {
+        group_at(self.groups(), name)
+    }
+}
+
+/// The group of the name, by its place in the list.
+fn group_at(names: &[Text<32>], name: &str) -> Option<GroupId>
+    ensures number { option_map (λ group. group.0) result ≡ group_number names.now name.now }
+    ensures within { IfSome result (λ group. group.0 < length names.now) }
+{
+    for (i, other) in names.iter().enumerate() {
+        if other.as_str() == name {
+            return Some(GroupId(i as u64));
+        }
+    }
+    None
 }

@@ -1,14 +1,17 @@
 //! Control lines: what each asks, read from a line of JSON.
 
-ghost use Rattle.std.specs.Prelude.{◌≡◌, ◌<◌, length, IfOk, IfSome};
+ghost use Rattle.std.specs.Prelude.{◌≡◌, ◌<◌, length, IfOk};
 ghost use Rattle.bh_lines.specs.Flat.{members_data};
-ghost use Rattle.bh_lines.specs.StepLine.{cache_view, group_number};
+ghost use Rattle.bh_lines.specs.StepLine.{cache_view};
 ghost use Rattle.bh_control.specs.ControlLine.{control_word, request_of, control_line_for, control_line_at, group_named, control_line, IsOfGroups};
 
+use crate::control::Control;
 use bh_base::{GroupId, Request, Text};
 use bh_lines::Fault;
+use bh_lines::flat::FlatObject;
 use bh_lines::members::{Members, value_of};
 use bh_lines::step_line::{cache_of, short_name};
+use json::Scratch;
 use std::alloc::{AllocError, Global};
 
 /// The kinds of control lines, each by its word under `op`.
@@ -33,37 +36,45 @@ pub enum ControlLine {
     Close { group: GroupId, context: u64 },
 }
 
+/// What a line asks, or the first fault that it has.
+pub type Asked = Result<ControlLine, Fault>;
+
 impl ControlLine {
-    /// What a line asks of the groups with these names, or the first fault that it has.
+    /// What a line asks of the groups of the control, or the first fault that it has.
     ///
-    /// It fails only for want of memory.
+    /// It fails only for want of memory: the scratch grows to the length of the line, and a line that is no flat object
+    /// is read as a tree.
     #[tactic(auto, unfolding(crate::specs::ControlLine::control_line))]
-    pub fn parse(
+    pub fn parse<C: Control>(
         alloc: Global,
-        names: &[Text<32>],
+        scratch: &mut Scratch,
+        control: &C,
         line: &str,
-    ) -> Result<Result<ControlLine, Fault>, AllocError>
-        ensures asked { IfOk result (λ said. said ≡ control_line names.now line.now) }
-        ensures group { IfOk result (λ said. IfOk said (IsOfGroups (length names.now))) }
+    ) -> Result<Asked, AllocError>
+        ensures asked { IfOk result (λ said. said ≡ control_line (C.names control.now) line.now) }
+        ensures group { IfOk result (λ said. IfOk said (IsOfGroups (length (C.names control.now)))) }
     {
+        if let Some(object) = FlatObject::parse(line, scratch)? {
+            return Ok(control_line_at(control, Members::Flat(&object)));
+        }
         match value_of(alloc, line)? {
-            Some(value) => Ok(control_line_at(names, Members::Tree(&value))),
+            Some(value) => Ok(control_line_at(control, Members::Tree(&value))),
             None => Ok(Err(Fault::Syntax)),
         }
     }
 }
 
 /// What the members ask.
-fn control_line_at(names: &[Text<32>], members: Members<'_>) -> Result<ControlLine, Fault>
-    ensures asked { result ≡ control_line_at names.now (members_data members.entry) }
-    ensures group { IfOk result (IsOfGroups (length names.now)) }
+fn control_line_at<C: Control>(control: &C, members: Members<'_>) -> Asked
+    ensures asked { result ≡ control_line_at (C.names control.now) (members_data members.entry) }
+    ensures group { IfOk result (IsOfGroups (length (C.names control.now))) }
 {
     let word = members.text("op").ok_or(Fault::Field)?;
     match control_word(word).ok_or(Fault::Op)? {
         ControlWord::Groups => Ok(ControlLine::Groups),
-        ControlWord::Metrics => metrics_at(names, members),
-        ControlWord::Call => call_at(names, members),
-        ControlWord::Close => close_at(names, members),
+        ControlWord::Metrics => metrics_at(control, members),
+        ControlWord::Call => call_at(control, members),
+        ControlWord::Close => close_at(control, members),
     }
 }
 
@@ -81,36 +92,36 @@ fn control_word(word: &str) -> Option<ControlWord>
 }
 
 /// What a line for metrics asks.
-fn metrics_at(names: &[Text<32>], members: Members<'_>) -> Result<ControlLine, Fault>
-    ensures asked { result ≡ control_line_for names.now ControlWord.Metrics (members_data members.entry) }
-    ensures group { IfOk result (IsOfGroups (length names.now)) }
+fn metrics_at<C: Control>(control: &C, members: Members<'_>) -> Asked
+    ensures asked { result ≡ control_line_for (C.names control.now) ControlWord.Metrics (members_data members.entry) }
+    ensures group { IfOk result (IsOfGroups (length (C.names control.now))) }
 {
     let name = members.text("group").ok_or(Fault::Field)?;
-    let group = group_named(names, name)?;
+    let group = group_named(control, name)?;
     Ok(ControlLine::Metrics { group })
 }
 
 /// What a line for a call asks.
-fn call_at(names: &[Text<32>], members: Members<'_>) -> Result<ControlLine, Fault>
-    ensures asked { result ≡ control_line_for names.now ControlWord.Call (members_data members.entry) }
-    ensures group { IfOk result (IsOfGroups (length names.now)) }
+fn call_at<C: Control>(control: &C, members: Members<'_>) -> Asked
+    ensures asked { result ≡ control_line_for (C.names control.now) ControlWord.Call (members_data members.entry) }
+    ensures group { IfOk result (IsOfGroups (length (C.names control.now))) }
 {
     let name = members.text("group").ok_or(Fault::Field)?;
     let arg = members.text("arg").ok_or(Fault::Field)?;
     let cache = cache_of(members)?;
-    let group = group_named(names, name)?;
+    let group = group_named(control, name)?;
     let request = request_of(cache, arg)?;
     Ok(ControlLine::Call { group, request })
 }
 
 /// What a line that closes a context asks.
-fn close_at(names: &[Text<32>], members: Members<'_>) -> Result<ControlLine, Fault>
-    ensures asked { result ≡ control_line_for names.now ControlWord.Close (members_data members.entry) }
-    ensures group { IfOk result (IsOfGroups (length names.now)) }
+fn close_at<C: Control>(control: &C, members: Members<'_>) -> Asked
+    ensures asked { result ≡ control_line_for (C.names control.now) ControlWord.Close (members_data members.entry) }
+    ensures group { IfOk result (IsOfGroups (length (C.names control.now))) }
 {
     let name = members.text("group").ok_or(Fault::Field)?;
     let context = members.number("context").ok_or(Fault::Field)?;
-    let group = group_named(names, name)?;
+    let group = group_named(control, name)?;
     Ok(ControlLine::Close { group, context })
 }
 
@@ -125,23 +136,9 @@ fn request_of(cache: Option<(u64, &str)>, arg: &str) -> Result<Request, Fault>
 }
 
 /// The group of the name.
-fn group_named(names: &[Text<32>], name: &str) -> Result<GroupId, Fault>
-    ensures group { result ≡ group_named names.now name.now }
-    ensures within { IfOk result (λ group. group.0 < length names.now) }
+fn group_named<C: Control>(control: &C, name: &str) -> Result<GroupId, Fault>
+    ensures group { result ≡ group_named (C.names control.now) name.now }
+    ensures within { IfOk result (λ group. group.0 < length (C.names control.now)) }
 {
-    let number = group_number(names, name).ok_or(Fault::Group)?;
-    Ok(GroupId(number))
-}
-
-/// The place of the name in the list.
-fn group_number(names: &[Text<32>], name: &str) -> Option<u64>
-    ensures number { result ≡ group_number names.now name.now }
-    ensures within { IfSome result (λ number. number < length names.now) }
-{
-    for (i, other) in names.iter().enumerate() {
-        if other.as_str() == name {
-            return Some(i as u64);
-        }
-    }
-    None
+    control.group(name).ok_or(Fault::Group)
 }

@@ -2,14 +2,14 @@
 
 ghost use Rattle.std.specs.Prelude.{◌≡◌, ◌++◌, ℕ, List, [], false, None, Some, Err, IfSome, OnOk};
 ghost use Rattle.bh_lines.specs.Lines.{has_line};
-ghost use Rattle.bh_control.specs.AnswerLine.{responder, Answers};
+ghost use Rattle.bh_control.specs.AnswerLine.{responder};
 ghost use Rattle.bh_control.specs.Pieces.{Each, EachLast, UnlessEmpty, Fed, Ended};
 
-use crate::answer_line::answer;
+use crate::answer_line::put_answer;
 use crate::control::Control;
-use bh_lines::{PortError, last_line, next_line};
-use bytes::BytesMut;
-use std::alloc::{AllocError, Global};
+use crate::received::Received;
+use bh_lines::PortError;
+use std::alloc::Global;
 use std::marker::Model;
 
 /// A stream of control lines that comes in pieces, and is answered piece by piece. It does not matter how the stream
@@ -20,7 +20,7 @@ use std::marker::Model;
 #[derive(Drop)]
 pub struct Conversation {
     alloc: Global,
-    buffer: BytesMut,
+    received: Received,
     fault: Option<PortError>,
 }
 
@@ -29,9 +29,9 @@ impl Model for Conversation {
 
     ghost Value = { ConversationView };
 
-    ghost view = { λ c. record { rest = c.buffer.items; fault = c.fault } };
+    ghost view = { λ c. record { rest = c.received; fault = c.fault } };
 
-    ghost invariant = { λ c. IsKept c.buffer.items c.fault };
+    ghost invariant = { λ c. IsKept c.received c.fault };
 }
 
 impl Conversation {
@@ -41,7 +41,7 @@ impl Conversation {
     {
         Conversation {
             alloc,
-            buffer: BytesMut::new(alloc),
+            received: Received::new(alloc),
             fault: None,
         }
     }
@@ -67,12 +67,12 @@ impl Conversation {
         if let Some(fault) = self.fault {
             return Err(fault);
         }
-        if self.buffer.extend_from_slice(piece).is_err() {
+        if self.received.push(piece).is_err() {
             self.fault = Some(PortError::Memory);
             return Err(PortError::Memory);
         }
         let mut out = Vec::new(self.alloc);
-        match answer_each(self.alloc, &mut self.buffer, control, &mut out) {
+        match answer_each(self.alloc, &mut self.received, control, &mut out) {
             Ok(()) => Ok(out),
             Err(PortError::Line) => {
                 self.fault = Some(PortError::Line);
@@ -96,12 +96,12 @@ impl Conversation {
         ensures groups { C.names control.new ≡ C.names control.old }
     {
         if let Some(fault) = self.fault {
-            self.buffer.clear();
+            self.received.clear();
             return Err(fault);
         }
         let mut out = Vec::new(self.alloc);
-        let answered = answer_last(self.alloc, &mut self.buffer, control, &mut out);
-        self.buffer.clear();
+        let answered = answer_last(self.alloc, &mut self.received, control, &mut out);
+        self.received.clear();
         match answered {
             Ok(()) => Ok(out),
             Err(fault) => {
@@ -115,15 +115,18 @@ impl Conversation {
 /// Answers each line that has ended, behind what is in `out`, and keeps the bytes that follow the last of them.
 fn answer_each<C: Control>(
     alloc: Global,
-    buffer: &mut BytesMut,
+    received: &mut Received,
     control: &mut C,
     out: &mut Vec<u8>,
 ) -> Result<(), PortError>
-    ensures each { Each (responder (C.names control.old) C.may_show C.may_answer C.may_close) buffer.old.items out.old.items result buffer.new.items out.new.items }
+    ensures each { Each (responder (C.names control.old) C.may_show C.may_answer C.may_close) received.old out.old.items result received.new out.new.items }
     ensures groups { C.names control.new ≡ C.names control.old }
 {
-    while let Some(line) = next_line(buffer)? {
-        answer_line(alloc, control, line.as_str(), out)?;
+    let mut answer = Vec::new(alloc);
+    while let Some(asked) = received.next(control)? {
+        answer.clear();
+        put_answer(alloc, control, asked, &mut answer)?;
+        out.extend_from_slice(answer.as_slice())?;
     }
     Ok(())
 }
@@ -142,32 +145,18 @@ fn unless_empty(answers: Vec<u8>) -> Result<Vec<u8>, PortError>
 /// Answers the line that no line feed ended, if there is one.
 fn answer_last<C: Control>(
     alloc: Global,
-    buffer: &mut BytesMut,
+    received: &mut Received,
     control: &mut C,
     out: &mut Vec<u8>,
 ) -> Result<(), PortError>
-    requires { has_line buffer.old.items ≡ false }
-    ensures last { EachLast (responder (C.names control.old) C.may_show C.may_answer C.may_close) buffer.old.items out.old.items result out.new.items }
+    requires line { has_line received.old ≡ false }
+    requires held { out.old.items ≡ [] }
+    ensures last { EachLast (responder (C.names control.old) C.may_show C.may_answer C.may_close) received.old out.old.items result out.new.items }
     ensures groups { C.names control.new ≡ C.names control.old }
 {
-    let Some(line) = last_line(buffer)? else {
+    let Some(asked) = received.last(control)? else {
         return Ok(());
     };
-    answer_line(alloc, control, line.as_str(), out)?;
-    Ok(())
-}
-
-/// Puts the answer to a line behind what is in `out`.
-fn answer_line<C: Control>(
-    alloc: Global,
-    control: &mut C,
-    line: &str,
-    out: &mut Vec<u8>,
-) -> Result<(), AllocError>
-    ensures answer { OnOk result ((one : List ℕ) × Answers (responder (C.names control.old) C.may_show C.may_answer C.may_close) line.now one × (out.new.items ≡ out.old.items ++ one)) }
-    ensures groups { C.names control.new ≡ C.names control.old }
-{
-    let text = answer(alloc, control, line)?;
-    out.extend_from_slice(text.as_str().as_bytes())?;
+    put_answer(alloc, control, asked, out)?;
     Ok(())
 }

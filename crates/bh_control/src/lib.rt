@@ -6,6 +6,7 @@ mod answer_line;
 pub mod control;
 pub mod control_line;
 pub mod conversation;
+mod received;
 pub mod session;
 
 pub use control::Control;

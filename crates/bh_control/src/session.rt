@@ -1,13 +1,16 @@
 //! A session: a whole conversation, from the first byte of a reader to its last, answered to a writer.
 
-ghost use Rattle.std.specs.Prelude.{◌≡◌, ◌⊎◌, ◌-◌, ◌^◌, ◌++◌, None, Err, IfSome};
-ghost use Rattle.bh_lines.specs.Lines.{cut};
-ghost use Rattle.bh_streams.specs.Watched.{reader_of, bytes_left, HasRead, OneFailed, NoneFailed, writer_of, bytes_held, OneRefused, NoneRefused};
-ghost use Rattle.bh_control.specs.AnswerLine.{responder};
-ghost use Rattle.bh_control.specs.Session.{PieceOutcome, LastOutcome, SessionOutcome, HasAnswered};
+ghost use Rattle.std.specs.Prelude.{◌≡◌, ◌⊎◌, ◌-◌, ◌^◌, ◌++◌, [], false, Err, true, IfErr, IfSome, OnErr, OnOk};
+ghost use Rattle.std.specs.Io.KnownBytes.{Appends};
+ghost use Rattle.bh_lines.specs.Lines.{cut, has_line};
+ghost use Rattle.bh_streams.specs.Watched.{reader_of, bytes_left, HasRead, OneFailed, NoneFailed, writer_of, bytes_held, OneRefused, NoneRefused, WritesFront};
+ghost use Rattle.bh_control.specs.AnswerLine.{responder, may_wait};
+ghost use Rattle.bh_control.specs.Session.{Moves, LinesOutcome, PieceOutcome, LastOutcome, SessionOutcome, HasAnswered};
 
+use crate::answer_line::{may_wait, put_answer};
 use crate::control::Control;
-use crate::conversation::Conversation;
+use crate::control_line::Asked;
+use crate::received::Received;
 use bh_lines::PortError;
 use bh_streams::{WatchedReader, WatchedWriter, write};
 use std::alloc::Global;
@@ -16,12 +19,18 @@ use std::io::{Read, Write};
 /// So many bytes are asked of the reader at a time.
 const READ_SIZE: usize = 4096;
 
+/// Once so many bytes of answers are held, they are written before the next line is answered.
+const MOST_HELD: usize = 8192;
+
 /// Answers the control lines of the reader to the writer, as they come, to the end of the input.
 ///
-/// The replies to all lines that one read brought to an end are written together. `Line` and `Memory` come as in a
-/// `Conversation`, `Line` once the lines before it are answered; `Read` where the reader fails in this call or 2^64 - 1
-/// reads were made, with each line answered whose end was read; `Write` where the writer fails in this call or takes no
-/// byte. The conversation ends at the first read or write that fails.
+/// Answers are written together, but none waits for a call: before a line asks for one, the answers to all lines before
+/// it are written. They are written too once there are many bytes of them, so that the memory which they take is bounded,
+/// and where the lines that one read brought to an end are over.
+///
+/// `Line` and `Memory` come as in a `Conversation`, once the lines before are answered; `Read` where the reader fails in
+/// this call or 2^64 - 1 reads were made, with each line answered whose end was read; `Write` where the writer fails in
+/// this call or takes no byte. The conversation ends at the first read or write that fails.
 pub fn converse<R: Read, W: Write, C: Control>(
     alloc: Global,
     reader: &mut WatchedReader<'_, R>,
@@ -41,55 +50,130 @@ pub fn converse<R: Read, W: Write, C: Control>(
         SessionOutcome (responder (C.names control.old) C.may_show C.may_answer C.may_close) (bytes_held W.contents writer.old) (bytes_held W.contents writer.new) (cut input) result) }
 {
     let mut piece = [0u8; READ_SIZE];
-    let mut conversation = Conversation::new(alloc);
+    let mut received = Received::new(alloc);
+    let mut answers = Vec::new(alloc);
     for _ in 0..u64::MAX {
         let Ok(count) = reader.read(&mut piece) else {
             return Err(PortError::Read);
         };
         if count == 0 {
-            return answer_last(&mut conversation, control, writer);
+            return answer_last(alloc, &mut received, control, &mut answers, writer);
         }
-        answer_piece(&mut conversation, &piece[..count], control, writer)?;
+        received.push(&piece[..count])?;
+        answer_piece(alloc, &mut received, control, &mut answers, writer)?;
     }
     Err(PortError::Read)
 }
 
-/// Answers the lines that a piece ends.
+/// Answers the lines that have ended. No answer is held before or after.
 fn answer_piece<W: Write, C: Control>(
-    conversation: &mut Conversation,
-    piece: &[u8],
+    alloc: Global,
+    received: &mut Received,
     control: &mut C,
+    answers: &mut Vec<u8>,
     writer: &mut WatchedWriter<'_, W>,
 ) -> Result<(), PortError>
-    requires { conversation.old.fault ≡ None }
+    requires { answers.old.items ≡ [] }
     ensures same_writer { (writer_of writer.new).ghost_name ≡ (writer_of writer.old).ghost_name }
     ensures groups { C.names control.new ≡ C.names control.old }
     ensures refused { result ≡ Err PortError.Write → OneRefused writer.old writer.new }
     ensures not_refused { (result ≡ Err PortError.Write) ⊎ NoneRefused writer.old writer.new }
+    ensures none_held { OnOk result (answers.new.items ≡ []) }
     ensures outcome { PieceOutcome (responder (C.names control.old) C.may_show C.may_answer C.may_close) (bytes_held W.contents writer.old) (bytes_held W.contents writer.new)
-        (conversation.old.rest ++ piece.now) result conversation.new }
+        received.old result received.new }
 {
-    let replies = conversation.feed(piece, control)?;
-    write(writer, replies.as_slice())?;
-    match conversation.fault() {
-        Some(fault) => Err(fault),
-        None => Ok(()),
+    match answer_lines(alloc, received, control, answers, writer) {
+        Ok(()) => write_held(answers, writer),
+        Err(PortError::Write) => Err(PortError::Write),
+        Err(fault) => {
+            write_held(answers, writer)?;
+            Err(fault)
+        }
     }
 }
 
-/// Answers the line that no line feed ended, if there is one.
-fn answer_last<W: Write, C: Control>(
-    conversation: &mut Conversation,
+/// Answers the lines that have ended; the last answers may be held then.
+fn answer_lines<W: Write, C: Control>(
+    alloc: Global,
+    received: &mut Received,
     control: &mut C,
+    answers: &mut Vec<u8>,
     writer: &mut WatchedWriter<'_, W>,
 ) -> Result<(), PortError>
-    requires { conversation.old.fault ≡ None }
+    requires { answers.old.items ≡ [] }
     ensures same_writer { (writer_of writer.new).ghost_name ≡ (writer_of writer.old).ghost_name }
     ensures groups { C.names control.new ≡ C.names control.old }
     ensures refused { result ≡ Err PortError.Write → OneRefused writer.old writer.new }
     ensures not_refused { (result ≡ Err PortError.Write) ⊎ NoneRefused writer.old writer.new }
-    ensures outcome { LastOutcome (responder (C.names control.old) C.may_show C.may_answer C.may_close) (bytes_held W.contents writer.old) (bytes_held W.contents writer.new) conversation.old.rest result }
+    ensures outcome { LinesOutcome (responder (C.names control.old) C.may_show C.may_answer C.may_close) (bytes_held W.contents writer.old) (bytes_held W.contents writer.new)
+        received.old result received.new answers.new.items }
 {
-    let replies = conversation.end(control)?;
-    write(writer, replies.as_slice())
+    while let Some(asked) = received.next(control)? {
+        write_before(&asked, answers, writer)?;
+        put_answer(alloc, control, asked, answers)?;
+    }
+    Ok(())
+}
+
+/// Answers the line that no line feed ended, if there is one. No answer is held before.
+fn answer_last<W: Write, C: Control>(
+    alloc: Global,
+    received: &mut Received,
+    control: &mut C,
+    answers: &mut Vec<u8>,
+    writer: &mut WatchedWriter<'_, W>,
+) -> Result<(), PortError>
+    requires line { has_line received.old ≡ false }
+    requires held { answers.old.items ≡ [] }
+    ensures same_writer { (writer_of writer.new).ghost_name ≡ (writer_of writer.old).ghost_name }
+    ensures groups { C.names control.new ≡ C.names control.old }
+    ensures refused { result ≡ Err PortError.Write → OneRefused writer.old writer.new }
+    ensures not_refused { (result ≡ Err PortError.Write) ⊎ NoneRefused writer.old writer.new }
+    ensures outcome { LastOutcome (responder (C.names control.old) C.may_show C.may_answer C.may_close) (bytes_held W.contents writer.old) (bytes_held W.contents writer.new) received.old result }
+{
+    let Some(asked) = received.last(control)? else {
+        return Ok(());
+    };
+    put_answer(alloc, control, asked, answers)?;
+    write_held(answers, writer)
+}
+
+/// Writes the answers that are held, where what is asked may wait or they are many: none of them waits for a call.
+fn write_before<W: Write>(
+    asked: &Asked,
+    answers: &mut Vec<u8>,
+    writer: &mut WatchedWriter<'_, W>,
+) -> Result<(), PortError>
+    ensures same_writer { (writer_of writer.new).ghost_name ≡ (writer_of writer.old).ghost_name }
+    ensures none_held { OnOk result (may_wait asked.now ≡ true → answers.new.items ≡ []) }
+    ensures ok { OnOk result (Moves (bytes_held W.contents writer.old) (bytes_held W.contents writer.new) answers.old.items answers.new.items) }
+    ensures none_refused { OnOk result (NoneRefused writer.old writer.new) }
+    ensures err { IfErr result (λ e. (e ≡ PortError.Write) × OneRefused writer.old writer.new) }
+    ensures front { OnErr result (WritesFront (bytes_held W.contents writer.old) (bytes_held W.contents writer.new) answers.old.items) }
+{
+    if may_wait(asked) {
+        return write_held(answers, writer);
+    }
+    if answers.len() >= MOST_HELD {
+        return write_held(answers, writer);
+    }
+    Ok(())
+}
+
+/// Writes the answers that are held, and holds none then; or writes a front of them, and `Write` where the writer fails
+/// or takes none.
+fn write_held<W: Write>(
+    answers: &mut Vec<u8>,
+    writer: &mut WatchedWriter<'_, W>,
+) -> Result<(), PortError>
+    ensures same_writer { (writer_of writer.new).ghost_name ≡ (writer_of writer.old).ghost_name }
+    ensures ok { OnOk result (Appends (bytes_held W.contents writer.old) (bytes_held W.contents writer.new) answers.old.items) }
+    ensures none_held { OnOk result (answers.new.items ≡ []) }
+    ensures none_refused { OnOk result (NoneRefused writer.old writer.new) }
+    ensures err { IfErr result (λ e. (e ≡ PortError.Write) × OneRefused writer.old writer.new) }
+    ensures front { WritesFront (bytes_held W.contents writer.old) (bytes_held W.contents writer.new) answers.old.items }
+{
+    write(writer, answers.as_slice())?;
+    answers.clear();
+    Ok(())
 }

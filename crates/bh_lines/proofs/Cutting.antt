@@ -239,20 +239,23 @@ has_line-answers xs h =
           omega (arith, any-below xs some, f.3)
     ] (finds xs)
 
-last-is : (xs : List ℕ) → 0 < length (without_carriage_return xs) → length xs ≤ 1024 → last_line xs ≡ (if is_utf8 (without_carriage_return xs) then line (without_carriage_return xs) ended else stopped)
+-- the last line, where its bytes are few and some are left without the carriage return
+pub last-is : (xs : List ℕ) → 0 < length (without_carriage_return xs) → length xs ≤ 1024 → last_line xs ≡ (if is_utf8 (without_carriage_return xs) then line (without_carriage_return xs) ended else stopped)
 unfolding last_line
 last-is xs h short =
     let long : 0 < length (less_return xs) = rw less_return-is h in
     let some : (length (less_return xs) == 0) ≡ false = grind (arith, nat_tests) in
     rw some (accepts xs ended short)
 
-last-empty : (xs : List ℕ) → without_carriage_return xs ≡ [] → last_line xs ≡ ended
+-- no byte is left without the carriage return, so there is no last line
+pub last-empty : (xs : List ℕ) → without_carriage_return xs ≡ [] → last_line xs ≡ ended
 unfolding last_line
 last-empty xs h =
     let none : less_return xs ≡ [] = less_return-is xs ∙ h in
     rw none refl
 
-some_bytes : (xs : List ℕ) → is_utf8 xs ≡ false → 0 < length xs
+-- what is not UTF-8 has bytes
+pub some_bytes : (xs : List ℕ) → is_utf8 xs ≡ false → 0 < length xs
 some_bytes [] h = let e : is_utf8 [] ≡ true = is_utf8-from_IsUtf8 [] IsUtf8-nil in let both : true ≡ false = sym e ∙ h in cc
 some_bytes (x ∷ xs) h = omega arith
 
@@ -298,7 +301,8 @@ last-error rest e codec left h other =
           ]
     ] (finds rest) h
 
-any-above : (xs : List ℕ) → list_any (λ b. b == 10) xs ≡ false → length xs ≤ feed xs
+-- where no byte is a line feed, none is found
+pub any-above : (xs : List ℕ) → list_any (λ b. b == 10) xs ≡ false → length xs ≤ feed xs
 any-above [] h = omega arith
 any-above (b ∷ bs) h =
     elim (b == 10) as (λ v. (v || list_any (λ x. x == 10) bs) ≡ false → suc (length bs) ≤ cond (not v) (1 + feed bs) 0) [

@@ -1,5 +1,6 @@
 pub mod Cutting
 pub mod Taking
+pub mod Fronting
 pub mod Sending
 pub mod FlatReading
 pub mod LinesThen

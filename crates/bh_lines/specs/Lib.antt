@@ -5,3 +5,4 @@ pub mod ReplyLine
 pub mod Sent
 pub mod FaultLine
 pub mod Flat
+pub mod Front

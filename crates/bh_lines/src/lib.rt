@@ -3,6 +3,7 @@
 
 pub mod fault;
 pub mod flat;
+pub mod front;
 pub mod lines;
 pub mod members;
 pub mod port_error;
@@ -11,6 +12,7 @@ pub mod step_line;
 mod writing;
 
 pub use fault::{Fault, put_fault};
+pub use front::{FrontLine, end_line, front_line};
 pub use lines::{last_line, next_line};
 pub use port_error::PortError;
 pub use replies::{json_line, put_error, put_reply};

@@ -1,20 +1,24 @@
-use Rattle.std.proofs.Common.{List, ℕ, ◌∙◌, subst}
+use Rattle.std.proofs.Common.{List, ℕ, ◌++◌, ◌≡◌, Ok, Err, ◌∙◌, subst, ap}
 use Rattle.std.proofs.lemmas.Result.{err_from_is_err_and}
-use Rattle.bh_control.specs.AnswerLine.{responder, Answers}
-use Rattle.bh_control.proofs.Pieces.{so_far-one, so_far-refused}
+use Rattle.bh_control.specs.AnswerLine.{responder, IsAnswer, IsPut}
+use Rattle.bh_control.specs.Taken.{TakesAsked}
+use Rattle.bh_control.proofs.Pieces.{so_far-put, so_far-refused, so_far-waits}
 use Rattle.bh_control.proofs.conversation.answer_each.Goals as goal
 
-pub returns-in_err-line-clause-each : goal.returns-in_err-line-clause-each
-returns-in_err-line-clause-each g c =
+pub returns-in_err-asked-clause-each : goal.returns-in_err-asked-clause-each
+returns-in_err-asked-clause-each g c =
+    let inv = c.loop-answer.invariant in
     let p = err_from_is_err_and c.from_residual.result c.from_residual.ensures.1 in
-    rw (p.1, p.2) (so_far-refused _ _ _ _ _ _ _ c.loop-line.invariant.1 c.in_err-line.ensures)
+    let taken = subst (λ (names : List (List ℕ)). TakesAsked names c.loop-answer.received (Err c.in_err-asked.field-0.0) c.next.new.self) inv.0 c.in_err-asked.ensures.taken in
+    rw (p.1, p.2) (so_far-refused _ _ _ _ _ _ _ inv.1 taken)
 
-pub loop-line-preserved : goal.loop-line-preserved
-loop-line-preserved g c =
-    let named = c.loop-line.invariant.0 in
-    let answer = c.in_ok-answer_line.ensures.answer in
-    let who = λ (names : List (List ℕ)). responder names g.C.Control.may_show g.C.Control.may_answer g.C.Control.may_close in (
-      c.answer_line.ensures.groups ∙ named,
-      so_far-one _ _ _ _ _ _ _ _ answer.0 _ _ c.loop-line.invariant.1 c.in-Some.is c.in_ok-line.ensures c.as_str.ensures.value
-          (subst (λ (names : List (List ℕ)). Answers (who names) c.as_str.result.now answer.0) named answer.1) answer.2,
+pub loop-answer-preserved : goal.loop-answer-preserved
+loop-answer-preserved g c =
+    let inv = c.loop-answer.invariant in
+    let who = λ (names : List (List ℕ)). responder names g.C.Control.may_show g.C.Control.may_answer g.C.Control.may_close in
+    let taken = subst (λ (names : List (List ℕ)). TakesAsked names c.loop-answer.received (Ok c.in_ok-asked.field-0) c.next.new.self) inv.0 c.in_ok-asked.ensures.taken in
+    let put = subst (λ (names : List (List ℕ)). IsPut (IsAnswer (who names) c.in-Some.asked) c.clear.new.self.items c.put_answer.new.out.items) inv.0 c.in_ok-put_answer.ensures.answer in (
+      c.in_ok-put_answer.ensures.groups ∙ inv.0,
+      so_far-put _ _ _ _ _ _ _ c.clear.new.self.items c.put_answer.new.out.items _ _ inv.1 c.in-Some.is taken c.clear.ensures.items put
+          (c.in_ok-extend_from_slice.ensures.items ∙ ap (λ (ys : List ℕ). c.loop-answer.out.items ++ ys) c.as_slice.ensures.value),
     )

@@ -1,0 +1,92 @@
+//! The bytes of a stream of control lines that have come, from which the lines are taken.
+
+ghost use Rattle.std.specs.Prelude.{◌≡◌, ◌++◌, [], length, false, OnOk, OnErr, IfOk, IfSome};
+ghost use Rattle.bh_lines.specs.Lines.{has_line};
+ghost use Rattle.bh_control.specs.ControlLine.{IsOfGroups};
+ghost use Rattle.bh_control.specs.Taken.{TakesAsked, IsLastAsked};
+
+use crate::control::Control;
+use crate::control_line::{Asked, ControlLine};
+use bh_lines::{PortError, end_line, front_line};
+use bytes::BytesMut;
+use json::Scratch;
+use std::alloc::{AllocError, Global};
+use std::marker::Model;
+
+/// The bytes that have come and were not taken yet. It keeps the memory that it has taken, so that lines no longer than
+/// those before are read without any.
+#[derive(Drop)]
+pub struct Received {
+    alloc: Global,
+    bytes: BytesMut,
+    scratch: Scratch,
+}
+
+impl Model for Received {
+    ghost use Rattle.std.specs.Prelude.{ℕ, List};
+
+    ghost Value = { List ℕ };
+
+    ghost view = { λ r. r.bytes.items };
+}
+
+impl Received {
+    /// Nothing has come. It takes no memory yet.
+    pub fn new(alloc: Global) -> Received
+        ensures { result ≡ [] }
+    {
+        Received {
+            alloc,
+            bytes: BytesMut::new(alloc),
+            scratch: Scratch::new(alloc),
+        }
+    }
+
+    /// Puts a piece behind what has come.
+    pub fn push(&mut self, piece: &[u8]) -> Result<(), AllocError>
+        ensures ok { OnOk result (self.new ≡ self.old ++ piece.now) }
+        ensures err { OnErr result (self.new ≡ self.old) }
+    {
+        self.bytes.extend_from_slice(piece)
+    }
+
+    /// Forgets what has come.
+    pub fn clear(&mut self)
+        ensures { self.new ≡ [] }
+    {
+        self.bytes.clear();
+    }
+
+    /// Takes the line in front, and answers what it asks of the groups of the control, or nothing where none has ended.
+    ///
+    /// `Line` comes where the line in front is of over 1,024 bytes, ended or not, or is not UTF-8; `Memory` where memory
+    /// is refused. After an error nothing is to be taken.
+    pub fn next<C: Control>(&mut self, control: &C) -> Result<Option<Asked>, PortError>
+        ensures taken { TakesAsked (C.names control.now) self.old result self.new }
+        ensures group { IfOk result (λ next. IfSome next (λ asked. IfOk asked (IsOfGroups (length (C.names control.now))))) }
+    {
+        let Some(line) = front_line(self.bytes.as_slice())? else {
+            return Ok(None);
+        };
+        let asked = ControlLine::parse(self.alloc, &mut self.scratch, control, line.text)?;
+        let taken = line.taken;
+        self.bytes.advance(taken);
+        Ok(Some(asked))
+    }
+
+    /// What the line asks that stands at the end of the input with no line feed behind it, if there is one. No line has
+    /// ended before it.
+    ///
+    /// `Line` comes where it is not UTF-8; `Memory` where memory is refused.
+    pub fn last<C: Control>(&mut self, control: &C) -> Result<Option<Asked>, PortError>
+        requires { has_line self.old ≡ false }
+        ensures last { IsLastAsked (C.names control.now) self.old result }
+        ensures group { IfOk result (λ last. IfSome last (λ asked. IfOk asked (IsOfGroups (length (C.names control.now))))) }
+    {
+        let Some(text) = end_line(self.bytes.as_slice())? else {
+            return Ok(None);
+        };
+        let asked = ControlLine::parse(self.alloc, &mut self.scratch, control, text)?;
+        Ok(Some(asked))
+    }
+}
