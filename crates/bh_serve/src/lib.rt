@@ -7,6 +7,7 @@ pub mod connection;
 pub mod control;
 pub mod echo;
 pub mod gate;
+pub mod names;
 pub mod serve;
 mod threads;
 

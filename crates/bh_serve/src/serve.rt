@@ -1,16 +1,14 @@
 //! Connections to a service, each with a thread and a conversation of its own.
 
 ghost use Rattle.std.specs.Prelude.{◌≡◌, ◌≤◌, ◌⊎◌, [], ◌∷◌, ◌++◌, length, IfOk, OnOk, false};
-ghost use Rattle.bh_port.specs.Text.{names_in};
-ghost use Rattle.bh_props.specs.Shown.{settings_view};
 ghost use Rattle.bh_serve.specs.Ending.{status_of};
 
 use crate::clock::MachineClock;
 use crate::echo::Echo;
 use crate::gate::{End, Gate, Limits};
+use crate::names::GroupNames;
 use crate::threads::Server;
 use bh_audit::{Book, Shared};
-use bh_base::Text;
 use bh_port::script::open;
 use bh_props::Settings;
 use std::alloc::{AllocError, AllocFailed, Global};
@@ -162,7 +160,7 @@ fn serve<
     output: &mut O,
     errors: &Mutex<E>,
 ) -> Result<Option<End>, AllocError> {
-    let names = names(alloc, settings)?;
+    let names = GroupNames::of(alloc, settings)?;
     let shared = service(alloc, settings)?;
     let echo = Echo::new(rt);
     let clock = MachineClock::start(rt);
@@ -170,7 +168,7 @@ fn serve<
         rt,
         alloc,
         shared: &shared,
-        names: names.as_slice(),
+        names: &names,
         echo: &echo,
         clock: &clock,
         gate,
@@ -195,23 +193,4 @@ fn service(alloc: Global, settings: &Settings) -> Result<Shared, AllocError>
         Ok(shared) => Ok(shared),
         Err((_book, error)) => Err(error),
     }
-}
-
-/// The names of the groups, each at the place that is its group's number.
-fn names(alloc: Global, settings: &Settings) -> Result<Vec<Text<32>>, AllocError>
-    ensures { IfOk result (λ names. names.items ≡ names_in (settings_view settings.now)) }
-{
-    let mut names = Vec::new(alloc);
-    for name in settings.groups.keys() {
-        put(&mut names, *name)?;
-    }
-    Ok(names)
-}
-
-/// Puts an item behind the others.
-fn put<T: Drop>(list: &mut Vec<T>, item: T) -> Result<(), AllocError>
-    ensures { OnOk result (list.new.items ≡ list.old.items ++ item ∷ []) }
-{
-    list.push(item)?;
-    Ok(())
 }

@@ -5,9 +5,10 @@ use crate::connection::{ConnectionFault, Direction, fault_of};
 use crate::control::ServiceControl;
 use crate::echo::Echo;
 use crate::gate::{End, Event, Gate};
+use crate::names::GroupNames;
 use crate::serve::ServeError;
 use bh_audit::{Pass, Shared};
-use bh_base::{GroupId, Text};
+use bh_base::GroupId;
 use bh_control::converse;
 use bh_lines::PortError;
 use bh_streams::{WatchedReader, WatchedWriter};
@@ -30,7 +31,7 @@ pub struct Server<'e, R, L, E> {
     pub rt: &'e R,
     pub alloc: Global,
     pub shared: &'e Shared,
-    pub names: &'e [Text<32>],
+    pub names: &'e GroupNames<'e>,
     pub echo: &'e Echo<'e, R>,
     pub clock: &'e MachineClock<'e, R>,
     pub gate: &'e Gate,

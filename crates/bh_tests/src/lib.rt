@@ -17,6 +17,8 @@ mod chains;
 #[cfg(test)]
 mod circuit;
 #[cfg(test)]
+mod conversation_order;
+#[cfg(test)]
 mod conversations;
 #[cfg(test)]
 mod groups;
