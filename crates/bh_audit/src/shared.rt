@@ -228,12 +228,7 @@ impl Shared {
     /// asked in one turn of the lock, at one moment that is read in it.
     ///
     /// It makes no step. A group that is worn or not registered has no ticket that is due.
-    pub fn first_due<R: Wait, C: Clock>(
-        &self,
-        rt: &R,
-        passes: &[Pass],
-        clock: &C,
-    ) -> Option<usize>
+    pub fn first_due<R: Wait, C: Clock>(&self, rt: &R, passes: &[Pass], clock: &C) -> Option<usize>
         ensures { IfSome result (λ place. place < length passes.now) }
     {
         match &self.lock {

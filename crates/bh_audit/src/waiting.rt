@@ -25,7 +25,11 @@ impl Place {
 
     /// Gives up the lock, waits for a notification, and takes the lock again. The call is counted as waiting before it
     /// gives up the lock.
-    pub(crate) fn wait<'a, R: Wait, T>(&self, rt: &R, guard: MutexGuard<'a, T>) -> MutexGuard<'a, T> {
+    pub(crate) fn wait<'a, R: Wait, T>(
+        &self,
+        rt: &R,
+        guard: MutexGuard<'a, T>,
+    ) -> MutexGuard<'a, T> {
         self.waiting.fetch_add(1, Ordering::SeqCst);
         let guard = self.changed.wait(rt, guard);
         self.waiting.fetch_sub(1, Ordering::SeqCst);
