@@ -64,6 +64,14 @@ impl Freed {
             waiting.notify(workers, callers);
         }
     }
+
+    /// Notifies them in each of these groups.
+    pub(crate) fn tell_all(self, groups: &[Waiting]) {
+        let Freed { workers, callers } = self;
+        for waiting in groups {
+            waiting.notify(workers, callers);
+        }
+    }
 }
 
 impl FreedCallers {

@@ -9,9 +9,10 @@ ghost use Rattle.bh_base.specs.Runs.{View, is_worn};
 ghost use Rattle.bh_base.specs.Seen.{view_reply};
 ghost use Rattle.bh_core.specs.Looks.{is_assigned, is_pending};
 ghost use Rattle.bh_core.specs.Step.{IsStep};
-ghost use Rattle.bh_journal.specs.Passes.{Adds, added, receipt_of};
+ghost use Rattle.std.specs.List.{position_from};
+ghost use Rattle.bh_journal.specs.Passes.{Adds, PassView, added, receipt_of};
 ghost use Rattle.bh_audit.specs.Books.{IsAudited, IsWritten};
-ghost use Rattle.bh_audit.specs.Calls.{AddsCollect, AddsExpire, AddsNext, NeedsNoWait, workers_of};
+ghost use Rattle.bh_audit.specs.Calls.{AddsCollect, AddsExpire, AddsNext, NeedsNoWait, is_due, workers_of};
 ghost use Rattle.bh_audit.specs.Waking.{IsEverybody, KeepsWakeUps, frees_by, frees_one, is_told_again};
 
 use crate::book::Book;
@@ -19,9 +20,10 @@ use crate::clock::Clock;
 use crate::freed::{Freed, FreedCallers, Notice, is_told_again};
 use crate::next::Next;
 use crate::pass::Pass;
-use bh_base::{GroupId, GroupProps, Op, Reply, Serial, Step, Strategy};
+use crate::waiting::Place;
+use bh_base::{GroupId, GroupProps, Moment, Op, Reply, Serial, Step, Strategy};
 use bh_journal::Receipt;
-use std::sync::{Condvar, Mutex, MutexGuard, Wait};
+use std::sync::{Mutex, MutexGuard, Wait};
 
 /// What the lock guards. The book is audited where `A` is 1.
 #[derive(Drop)]
@@ -187,6 +189,24 @@ impl<const A: u32> Locked<A> {
         }
     }
 
+    /// The place of the first of the passes in whose group a ticket is due at the moment; None where there is none.
+    pub(crate) fn first_due(&self, passes: &[Pass], now: Moment) -> Option<usize>
+        ensures { result ≡ position_from (λ (p : PassView). is_due self.now.book.groups p.group now) 0 passes.now }
+    {
+        let core = self.book.core();
+        passes.iter().position(|pass| core.due(pass.group(), now))
+    }
+
+    /// Sets the stop mark. Everybody goes on that waits in any group.
+    pub(crate) fn stop(&mut self) -> Freed
+        ensures stopped { self.new.stopped ≡ true }
+        ensures everybody { IsEverybody result }
+        ensures book { self.new.book ≡ self.old.book }
+    {
+        self.stopped = true;
+        Freed::everybody()
+    }
+
     /// How many workers the group wants; 0 where it is not registered.
     pub(crate) fn workers(&self, group: GroupId) -> u64
         ensures known { (v : View) → slice_get self.now.book.groups.views group.0 ≡ Some v → result ≡ workers_of v.present.props }
@@ -203,7 +223,7 @@ impl<const A: u32> Locked<A> {
 pub(crate) fn next_in<const A: u32, R: Wait, C: Clock>(
     rt: &R,
     lock: &Mutex<Locked<A>>,
-    changed: Option<&Condvar>,
+    place: Option<&Place>,
     pass: &mut Pass,
     clock: &C,
 ) -> (Next, Freed)
@@ -214,7 +234,7 @@ pub(crate) fn next_in<const A: u32, R: Wait, C: Clock>(
     for _ in rt.forever() {
         match guard.try_next(pass, clock) {
             Some(next) => return next,
-            None => guard = wait_for(rt, changed, guard),
+            None => guard = wait_at(rt, place, guard),
         }
     }
     unreachable!()
@@ -224,7 +244,7 @@ pub(crate) fn next_in<const A: u32, R: Wait, C: Clock>(
 pub(crate) fn await_in<const A: u32, R: Wait, C: Clock>(
     rt: &R,
     lock: &Mutex<Locked<A>>,
-    changed: Option<&Condvar>,
+    place: Option<&Place>,
     pass: &mut Pass,
     serial: Serial,
     clock: &C,
@@ -237,20 +257,20 @@ pub(crate) fn await_in<const A: u32, R: Wait, C: Clock>(
     for _ in rt.forever() {
         match guard.try_collect(pass, serial, clock) {
             Some(reply) => return reply,
-            None => guard = wait_for(rt, changed, guard),
+            None => guard = wait_at(rt, place, guard),
         }
     }
     unreachable!()
 }
 
-/// Waits for a change in the group. One that is not registered has none to wait for, and no call waits in it.
-fn wait_for<'a, const A: u32, R: Wait>(
+/// Waits at the place. A group that is not registered has none, and no call waits in it.
+fn wait_at<'a, const A: u32, R: Wait>(
     rt: &R,
-    changed: Option<&Condvar>,
+    place: Option<&Place>,
     guard: MutexGuard<'a, Locked<A>>,
 ) -> MutexGuard<'a, Locked<A>> {
-    match changed {
-        Some(changed) => changed.wait(rt, guard),
+    match place {
+        Some(place) => place.wait(rt, guard),
         None => guard,
     }
 }
@@ -282,9 +302,24 @@ pub(crate) fn expire_in<const A: u32, R: Wait, C: Clock>(
     lock.lock(rt).expire(pass, clock)
 }
 
-/// Sets the stop mark.
-pub(crate) fn stop_in<const A: u32, R: Wait>(rt: &R, lock: &Mutex<Locked<A>>) {
-    lock.lock(rt).stopped = true;
+/// The first of the passes in whose group a ticket is due at the moment that is read under the lock.
+pub(crate) fn first_due_in<const A: u32, R: Wait, C: Clock>(
+    rt: &R,
+    lock: &Mutex<Locked<A>>,
+    passes: &[Pass],
+    clock: &C,
+) -> Option<usize>
+    ensures { IfSome result (λ place. place < length passes.now) }
+{
+    let guard = lock.lock(rt);
+    guard.first_due(passes, clock.now())
+}
+
+/// Stops the service under the lock.
+pub(crate) fn stop_in<const A: u32, R: Wait>(rt: &R, lock: &Mutex<Locked<A>>) -> Freed
+    ensures { IsEverybody result }
+{
+    lock.lock(rt).stop()
 }
 
 /// Reads the stop mark.

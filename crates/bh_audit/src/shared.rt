@@ -1,6 +1,6 @@
 //! One service, which threads share.
 
-ghost use Rattle.std.specs.Prelude.{◌≡◌, ◌≢◌, ◌↔◌, ◌<◌, ◌≤◌, ◌&&◌, length, nat_lt, vec_len, IfOk, IfErr, OnErr, Err, true, false, if◌then◌else◌};
+ghost use Rattle.std.specs.Prelude.{◌≡◌, ◌≢◌, ◌↔◌, ◌<◌, ◌≤◌, ◌&&◌, length, nat_lt, vec_len, IfOk, IfErr, IfSome, OnErr, Err, true, false, if◌then◌else◌};
 ghost use Rattle.bh_base.specs.declared.step.Op.TheVariants as op;
 ghost use Rattle.bh_base.specs.Replies.{can_reply};
 ghost use Rattle.bh_journal.specs.Passes.{Adds, blank};
@@ -17,7 +17,8 @@ use crate::clock::Clock;
 use crate::error::AuditError;
 use crate::freed::Freed;
 use crate::locked::{
-    Locked, await_in, expire_in, groups_in, next_in, step_in, stop_in, stopped_in, workers_in,
+    Locked, await_in, expire_in, first_due_in, groups_in, next_in, step_in, stop_in, stopped_in,
+    workers_in,
 };
 use crate::next::{Next, PassError, StepError};
 use crate::pass::Pass;
@@ -223,15 +224,36 @@ impl Shared {
         Ok(expiry.0)
     }
 
+    /// The place of the first of the passes in whose group a ticket is due; None where there is none. All groups are
+    /// asked in one turn of the lock, at one moment that is read in it.
+    ///
+    /// It makes no step. A group that is worn or not registered has no ticket that is due.
+    pub fn first_due<R: Wait, C: Clock>(&self, rt: &R, passes: &[Pass], clock: &C) -> Option<usize>
+        ensures { IfSome result (λ place. place < length passes.now) }
+    {
+        match &self.lock {
+            Lock::Audited(lock) => first_due_in(rt, lock, passes, clock),
+            Lock::Plain(lock) => first_due_in(rt, lock, passes, clock),
+        }
+    }
+
+    /// How many calls wait in the group: idle workers, and callers whose ticket has no answer; 0 where it is not
+    /// registered. It takes no lock. A call that is counted has looked in vain, and a step that is made after it was
+    /// seen here finds it waiting.
+    pub fn waiting(&self, group: GroupId) -> u64 {
+        match self.waiting_at(group) {
+            Some(waiting) => waiting.count(),
+            None => 0,
+        }
+    }
+
     /// Stops the service: workers and callers that wait go on at once, and later ones do not wait.
     pub fn stop<R: Wait>(&self, rt: &R) {
-        match &self.lock {
+        let freed = match &self.lock {
             Lock::Audited(lock) => stop_in(rt, lock),
             Lock::Plain(lock) => stop_in(rt, lock),
-        }
-        for waiting in &self.waiting {
-            Freed::everybody().tell(Some(waiting));
-        }
+        };
+        freed.tell_all(self.waiting.as_slice());
     }
 
     /// Whether the service was stopped.

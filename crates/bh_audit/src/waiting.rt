@@ -1,58 +1,105 @@
 //! Where the calls of one group wait.
 
+ghost use Rattle.std.specs.Prelude.{◌≡◌, ◌%◌};
+
 use crate::freed::{FreedCallers, Notice, place_of};
 use bh_base::Serial;
-use std::sync::Condvar;
+use std::sync::atomic::{AtomicU64, Ordering};
+use std::sync::{Condvar, MutexGuard, Wait};
 
-/// The condition variables of one group: one for its idle workers, and eight for its callers, by serial.
+/// Where calls wait for one thing: a condition variable, and how many wait at it.
+#[derive(Drop)]
+pub(crate) struct Place {
+    changed: Condvar,
+    waiting: AtomicU64,
+}
+
+impl Place {
+    /// A place where nobody waits.
+    fn new() -> Place {
+        Place {
+            changed: Condvar::new(),
+            waiting: AtomicU64::new(0),
+        }
+    }
+
+    /// Gives up the lock, waits for a notification, and takes the lock again. The call is counted as waiting before it
+    /// gives up the lock.
+    pub(crate) fn wait<'a, R: Wait, T>(
+        &self,
+        rt: &R,
+        guard: MutexGuard<'a, T>,
+    ) -> MutexGuard<'a, T> {
+        self.waiting.fetch_add(1, Ordering::SeqCst);
+        let guard = self.changed.wait(rt, guard);
+        self.waiting.fetch_sub(1, Ordering::SeqCst);
+        guard
+    }
+
+    /// Notifies so many of those that wait here.
+    fn notify(&self, notice: Notice) {
+        match notice {
+            Notice::Nobody => {}
+            Notice::One => self.changed.notify_one(),
+            Notice::All => self.changed.notify_all(),
+        }
+    }
+
+    /// How many wait here.
+    fn count(&self) -> u64 {
+        self.waiting.load(Ordering::SeqCst)
+    }
+}
+
+/// The places of one group: one for its idle workers, and eight for its callers, by serial.
 #[derive(Drop)]
 pub(crate) struct Waiting {
-    workers: Condvar,
-    callers: [Condvar; 8],
+    workers: Place,
+    callers: [Place; 8],
 }
 
 impl Waiting {
-    /// The condition variables of a group in which nobody waits.
+    /// The places of a group in which nobody waits.
     pub(crate) fn new() -> Waiting {
         Waiting {
-            workers: Condvar::new(),
+            workers: Place::new(),
             callers: [
-                Condvar::new(),
-                Condvar::new(),
-                Condvar::new(),
-                Condvar::new(),
-                Condvar::new(),
-                Condvar::new(),
-                Condvar::new(),
-                Condvar::new(),
+                Place::new(),
+                Place::new(),
+                Place::new(),
+                Place::new(),
+                Place::new(),
+                Place::new(),
+                Place::new(),
+                Place::new(),
             ],
         }
     }
 
     /// Where an idle worker waits.
-    pub(crate) fn workers(&self) -> &Condvar {
+    pub(crate) fn workers(&self) -> &Place {
         &self.workers
     }
 
     /// Where a caller waits for the ticket of the serial.
-    pub(crate) fn callers_of(&self, serial: Serial) -> &Condvar {
+    pub(crate) fn callers_of(&self, serial: Serial) -> &Place {
         &self.callers[place_of(serial) as usize]
+    }
+
+    /// How many calls wait in the group.
+    pub(crate) fn count(&self) -> u64 {
+        let mut count = self.workers.count();
+        for place in self.callers.iter() {
+            count = count.saturating_add(place.count());
+        }
+        count
     }
 
     /// Notifies so many idle workers, and those callers.
     pub(crate) fn notify(&self, workers: Notice, callers: FreedCallers) {
-        notify_at(&self.workers, workers);
-        for (place, waiting) in self.callers.iter().enumerate() {
-            notify_at(waiting, callers.at(place as u64));
+        self.workers.notify(workers);
+        for (number, place) in self.callers.iter().enumerate() {
+            place.notify(callers.at(number as u64));
         }
-    }
-}
-
-/// Notifies so many of those that wait at the condition variable.
-fn notify_at(condvar: &Condvar, notice: Notice) {
-    match notice {
-        Notice::Nobody => {}
-        Notice::One => condvar.notify_one(),
-        Notice::All => condvar.notify_all(),
     }
 }

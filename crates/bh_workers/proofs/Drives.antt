@@ -41,6 +41,11 @@ pub all_push : {X : Type 0} (IsSo : X → Type 0) (xs : List X) (x : X) → AllB
 all_push IsSo [] x all so = (so, tt)
 all_push IsSo (y ∷ ys) x all so = (all.0, all_push IsSo ys x all.1 so)
 
+-- more items
+pub all_append : {X : Type 0} (IsSo : X → Type 0) (xs ys : List X) → AllByRecursion IsSo xs → AllByRecursion IsSo ys → AllByRecursion IsSo (xs ++ ys)
+all_append IsSo [] ys all more = more
+all_append IsSo (x ∷ xs) ys all more = (all.0, all_append IsSo xs ys all.1 more)
+
 -- what is so of the item at each place is so of all
 pub all_places : {X : Type 0} (IsSo : X → Type 0) (xs : List X) → ((k : ℕ) (x : X) → slice_get xs k ≡ Some x → IsSo x) → AllByRecursion IsSo xs
 all_places IsSo [] each = tt

@@ -1,5 +1,5 @@
 -- What comes back from a drive.
-use Rattle.std.specs.Prelude.{◌≡◌, ℕ, Bool, true, List, [], ◌∷◌, ◌++◌, ◌⊎◌, Result, Err, length, map, vec_items}
+use Rattle.std.specs.Prelude.{◌≡◌, ℕ, Bool, true, List, [], ◌∷◌, ◌++◌, ◌⊎◌, Result, Err, Vec, IfOk, length, map, vec_items}
 use Rattle.std.specs.List.{AllByRecursion}
 use Rattle.bh_base.specs.declared.step.GroupId.{GroupId}
 use Rattle.bh_base.specs.declared.step.FallbackEnd.{FallbackEnd}
@@ -21,6 +21,10 @@ use Rattle.bh_workers.specs.Work.{IsWork}
 -- the pass of a worker has nothing but its work
 abbrev pub IsWorkerPass : (GroupId → List ℕ → RunEnd → Type 0) → (ℕ → Type 0) → PassView → Type 0
 IsWorkerPass ends moments p = IsWork ends moments p.group p.receipts
+
+-- the passes that a worker gave back have nothing but its work
+abbrev pub IsWorked : {Z E : Type 0} → (GroupId → List ℕ → RunEnd → Type 0) → (ℕ → Type 0) → Result (Vec PassView Z) E → Type 0
+IsWorked ends moments worked = IfOk worked (λ passes. AllByRecursion (IsWorkerPass ends moments) passes.items)
 
 -- a pass of the timer has nothing but Expires
 abbrev pub IsTimerPass : (ℕ → Type 0) → PassView → Type 0

@@ -1,13 +1,14 @@
 //! A drive: all threads of a service, from the first request to the last answer.
 
 ghost use Rattle.std.specs.Prelude.{◌≡◌, ◌++◌, IfOk, map};
-ghost use Rattle.bh_workers.specs.Driving.{IsDriven};
+ghost use Rattle.std.specs.List.{AllByRecursion};
+ghost use Rattle.bh_workers.specs.Driving.{IsDriven, IsWorked, IsWorkerPass};
 ghost use Rattle.bh_workers.specs.declared.caller_threads.Called.{Called};
 
 use crate::caller_threads::{Called, start_callers};
 use crate::dependency::{Dependency, Pace};
 use crate::environment::Environment;
-use crate::service_threads::{start_timer, start_workers};
+use crate::service_threads::{Worked, start_timer, start_workers};
 use bh_audit::{Clock, Pass, PassError, Shared};
 use bh_base::{Answer, CallError, GroupId, Request};
 use std::alloc::{AllocError, AllocFailed, Global};
@@ -154,7 +155,22 @@ fn run_all<
     environment.shared.stop(rt);
     let worked = thread::join_promised(rt, workers)?;
     let timed = timer.join(rt);
-    gather(alloc, called, worked, timed)
+    gather(alloc, called, passes_of::<D, C>(alloc, worked)?, timed)
+}
+
+/// The passes of all workers. The error is that of one that could not go on.
+fn passes_of<D: Dependency, C: Clock>(
+    alloc: Global,
+    worked: Vec<Worked>,
+) -> Result<Vec<Pass>, DriveError>
+    requires { AllByRecursion (IsWorked D.ends C.moments) worked.items }
+    ensures { IfOk result (λ all. AllByRecursion (IsWorkerPass D.ends C.moments) all.items) }
+{
+    let mut all = Vec::new(alloc);
+    for passes in worked {
+        all.append(&mut passes?)?;
+    }
+    Ok(all)
 }
 
 /// What all threads gave back.

@@ -2,7 +2,7 @@
 
 ghost use Rattle.std.specs.Prelude.{◌≡◌, [], IfOk};
 ghost use Rattle.std.specs.List.{AllByRecursion};
-ghost use Rattle.bh_workers.specs.Driving.{IsTimerPass, IsWorkerPass};
+ghost use Rattle.bh_workers.specs.Driving.{IsTimerPass, IsWorked, IsWorkerPass};
 ghost use Rattle.bh_journal.specs.Passes.{PassView};
 
 use crate::dependency::{Dependency, Pace};
@@ -23,9 +23,12 @@ pub(crate) struct WorkerOf<D, C> {
     of: PhantomData<(D, C)>,
 }
 
-impl<D: Dependency, C: Clock> Promise<Pass> for WorkerOf<D, C> {
-    ghost kept_by = { λ p r. IsWorkerPass D.ends C.moments r };
+impl<D: Dependency, C: Clock> Promise<Worked> for WorkerOf<D, C> {
+    ghost kept_by = { λ p r. IsWorked D.ends C.moments r };
 }
+
+/// What a worker gives back: its passes, of which all but the last are full, or why it could not go on.
+pub(crate) type Worked = Result<Vec<Pass>, DriveError>;
 
 /// Starts the workers of all groups.
 pub(crate) fn start_workers<
@@ -39,13 +42,13 @@ pub(crate) fn start_workers<
     scope: &'s Scope<'s, &'e ()>,
     alloc: Global,
     room: u64,
-) -> Result<Vec<PromisedHandle<Pass, WorkerOf<D, C>>>, DriveError> {
+) -> Result<Vec<PromisedHandle<Worked, WorkerOf<D, C>>>, DriveError> {
     let mut handles = Vec::new(alloc);
     for number in 0..environment.shared.groups(environment.rt) {
         let group = GroupId(number);
         for _ in 0..environment.shared.workers(environment.rt, group) {
             let pass = environment.shared.pass(alloc, group, room)?;
-            handles.push(start_worker(environment, scope, pass)?)?;
+            handles.push(start_worker(environment, scope, alloc, pass)?)?;
         }
     }
     Ok(handles)
@@ -55,8 +58,9 @@ pub(crate) fn start_workers<
 fn start_worker<'s, 'e, D: Dependency + Sync, C: Clock + Sync, R: Threads + Wait + Sync>(
     environment: &'e Environment<'e, D, C, R>,
     scope: &'s Scope<'s, &'e ()>,
+    alloc: Global,
     pass: Pass,
-) -> Result<PromisedHandle<Pass, WorkerOf<D, C>>, DriveError>
+) -> Result<PromisedHandle<Worked, WorkerOf<D, C>>, DriveError>
     requires { pass.receipts ≡ [] }
 {
     let (rt, shared) = (environment.rt, environment.shared);
@@ -64,16 +68,64 @@ fn start_worker<'s, 'e, D: Dependency + Sync, C: Clock + Sync, R: Threads + Wait
     let promise: WorkerOf<D, C> = WorkerOf { of: PhantomData };
     let spawned = scope.spawn_with(
         promise,
-        move || -> Pass
+        move || -> Worked
             requires { pass.receipts ≡ [] }
-            ensures { IsWorkerPass D.ends C.moments result }
-        { work(rt, shared, pass, dependency, clock) },
+            ensures { IsWorked D.ends C.moments result }
+        { work(rt, shared, alloc, pass, dependency, clock) },
     );
     spawned.map_err(|_| DriveError::Spawn)
 }
 
-/// Works until there is a reason to end, and gives back the pass.
+/// Works until there is a reason to end. Where the worker cannot go on, it stops the service: whoever waits for a run
+/// is told so, and does not wait for ever.
 fn work<D: Dependency, C: Clock, R: Wait>(
+    rt: &R,
+    shared: &Shared,
+    alloc: Global,
+    pass: Pass,
+    dependency: &D,
+    clock: &C,
+) -> Worked
+    requires { pass.receipts ≡ [] }
+    ensures { IsWorked D.ends C.moments result }
+{
+    let worked = work_on(rt, shared, alloc, pass, dependency, clock);
+    if worked.is_err() {
+        shared.stop(rt);
+    }
+    worked
+}
+
+/// Works with one pass after another, each with the room of the first, until there is another reason to end than a full
+/// pass. The error comes where memory for a pass was refused.
+fn work_on<D: Dependency, C: Clock, R: Wait>(
+    rt: &R,
+    shared: &Shared,
+    alloc: Global,
+    mut pass: Pass,
+    dependency: &D,
+    clock: &C,
+) -> Worked
+    requires { pass.receipts ≡ [] }
+    ensures { IsWorked D.ends C.moments result }
+{
+    let room = pass.room_left();
+    let mut passes = Vec::new(alloc);
+    for _ in rt.forever() {
+        let filled = fill(rt, shared, pass, dependency, clock);
+        let group = filled.group();
+        let is_last = room < 2 || is_marked(&filled);
+        passes.push(filled)?;
+        if is_last {
+            return Ok(passes);
+        }
+        pass = shared.pass(alloc, group, room)?;
+    }
+    unreachable!()
+}
+
+/// Works until there is a reason to end, and gives back the pass.
+fn fill<D: Dependency, C: Clock, R: Wait>(
     rt: &R,
     shared: &Shared,
     mut pass: Pass,
@@ -85,6 +137,12 @@ fn work<D: Dependency, C: Clock, R: Wait>(
 {
     worker_loop(rt, shared, &mut pass, dependency, clock);
     pass
+}
+
+/// Whether the pass tells that its worker was stopped, or its group is worn or not registered.
+fn is_marked(pass: &Pass) -> bool {
+    let marks = pass.marks();
+    marks.stopped || marks.worn || marks.no_group
 }
 
 /// The promise of the timer.

@@ -1,7 +1,7 @@
 use Rattle.std.proofs.Common.{◌≡◌, ◌<◌, arith, ◌∙◌, sym, vec_len, subst, get_or, slice_get, Some}
 use Rattle.std.proofs.lemmas.Option.{slice_get_read, slice_get_within, get_or_from_slice_get}
 use Rattle.bh_journal.specs.Passes.{PassView}
-use Rattle.bh_workers.specs.Driving.{IsWorkerPass}
+use Rattle.bh_workers.specs.Driving.{IsWorked}
 use Rattle.bh_workers.proofs.Drives.{all_places, called_as, callers_from, driven_from}
 use Rattle.bh_workers.proofs.driving.run_all.Goals as goal
 
@@ -14,7 +14,7 @@ returns g c =
     let lists = c.args.lists.now in
     let called = c.in_ok-called.called in
     let worked = c.in_ok-worked.worked in
-    driven_from D F M a lists called.items worked.items c.join-timed.result.items c.gather.result c.gather.ensures.answers c.gather.ensures.passes
+    driven_from D F M a lists called.items c.in_ok-passes_of.field-0.items c.join-timed.result.items c.gather.result c.gather.ensures.answers c.gather.ensures.passes
     (callers_from D F M a lists called.items (sym called.ok.0 ∙ c.in_ok-called.ensures.len ∙ c.in_ok-callers.ensures.len)
     (λ k l r atl atr.
     let lt : k < vec_len c.in_ok-callers.callers =
@@ -26,11 +26,17 @@ returns g c =
     let is = c.in_ok-callers.ensures.each k l h atl at in
     called_as D F M h.promise.audited a h.promise.group l.group h.promise.requests.now l.requests.items
     (get_or called.items k r) r is.kind is.group is.requests (get_or_from_slice_get called.items k r r atr) kept.kept))
-    (all_places (IsWorkerPass D M) worked.items
-    (λ k p at.
-    let lt : k < vec_len c.in_ok-workers.workers =
-    (let w = slice_get_within worked.items k p at in let v = worked.ok.0 in let e = c.in_ok-worked.ensures.len in omega arith) in
-    let kept = (c.in_ok-worked.ensures.each k p lt).1 in
-    let P : PassView → Type 0 = λ x. IsWorkerPass D M x in
-    subst P (get_or_from_slice_get worked.items k p p at) kept.kept))
+    c.in_ok-passes_of.ensures
     c.join-timed.ensures
+
+pub passes_of-requires : goal.passes_of-requires
+passes_of-requires g c =
+    let D = g.D.Dependency.ends in
+    let M = g.C.Clock.moments in
+    let worked = c.in_ok-worked.worked in
+    all_places (IsWorked D M) worked.items
+    (λ k r at.
+    let lt : k < vec_len c.in_ok-workers.workers =
+    (let w = slice_get_within worked.items k r at in let v = worked.ok.0 in let e = c.in_ok-worked.ensures.len in omega arith) in
+    let kept = (c.in_ok-worked.ensures.each k r lt).1 in
+    subst (λ x. IsWorked D M x) (get_or_from_slice_get worked.items k r r at) kept.kept)
