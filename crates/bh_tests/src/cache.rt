@@ -55,13 +55,7 @@ fn a_context_ends_for_all_its_keys_and_no_other(rt: HostRuntime) {
 fn a_serial_means_a_ticket_of_its_own_group(rt: HostRuntime) {
     let mut core = two_groups(&rt);
     for serial in 1..4 {
-        assert_told(
-            &rt,
-            &mut core,
-            0,
-            &Op::Collect { serial },
-            Reply::Pending,
-        );
+        assert_told(&rt, &mut core, 0, &Op::Collect { serial }, Reply::Pending);
     }
     let (first, second) = (Op::Collect { serial: 1 }, Op::Collect { serial: 2 });
     assert_told(&rt, &mut core, 1, &first, Reply::Pending);

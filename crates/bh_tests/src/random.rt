@@ -67,19 +67,19 @@ fn below(rng: &mut Xoshiro256PlusPlus, limit: u64) -> u64
     rng.next_u64() % limit
 }
 
-/// A context: each fourth time one of forty, else one of two.
+/// A context: now and then one of forty, else one of two.
 fn context(rng: &mut Xoshiro256PlusPlus) -> u64 {
-    match below(rng, 4) {
+    match below(rng, 8) {
         0 => below(rng, 40),
         _ => below(rng, 2),
     }
 }
 
-/// A request, cached under one of two keys in a context, or not at all.
+/// A request, cached in a context under one key or, now and then, another, or not at all.
 fn request(rng: &mut Xoshiro256PlusPlus) -> Request {
-    let cache = match below(rng, 4) {
-        0 => Some((context(rng), text("key"))),
-        1 => Some((context(rng), text("other key"))),
+    let cache = match below(rng, 16) {
+        0 => Some((context(rng), text("other key"))),
+        1..=7 => Some((context(rng), text("key"))),
         _ => None,
     };
     let arg = text("arg");
