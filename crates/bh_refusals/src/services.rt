@@ -6,7 +6,7 @@ ghost use Rattle.bh_audit.specs.Books.{AreNew};
 use crate::refusing::{MANY, assert_told, give_up, refuse};
 use crate::worked::{A, B, assert_new, replies, request, steps, two_groups};
 use bh_audit::{AuditError, AuditReport, Book, Clock, Pass, PassError, Shared};
-use bh_base::{Answer, Cause, FallbackEnd, GroupId, Moment, RunEnd, Text};
+use bh_base::{Answer, Cause, FallbackEnd, GroupId, Moment, Request, RunEnd, Text};
 use bh_workers::{Dependency, DriveError, Driven, Pace, RequestList, drive};
 use std::process::Abort;
 use std::sync::Wait;
@@ -235,9 +235,9 @@ impl Dependency for Counting {
 }
 
 /// A list of the one request.
-fn list<R: Abort + AllocGlobal>(rt: &R, group: GroupId, arg: &str) -> RequestList {
+fn list<R: Abort + AllocGlobal>(rt: &R, group: GroupId, request: &Request) -> RequestList {
     let mut requests = Vec::new(rt.alloc());
-    requests.push(request(arg)).ok().expect(rt, "memory");
+    requests.push(*request).ok().expect(rt, "memory");
     RequestList { group, requests }
 }
 
@@ -249,7 +249,7 @@ fn drive_both<R: Threads + Wait + Sync + Abort + AllocGlobal>(
     nth: usize,
     room: u64,
 ) -> Result<Driven, DriveError> {
-    let lists = [list(rt, A, "x"), list(rt, B, "y")];
+    let lists = [list(rt, A, &request("x")), list(rt, B, &request("y"))];
     let counting = Counting {
         begun: AtomicU64::new(0),
         ended: AtomicU64::new(0),
