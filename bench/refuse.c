@@ -1,5 +1,6 @@
 /* Refuses one allocation of a program: built as a shared library and loaded before the C library (LD_PRELOAD), it stands
- * in the place of malloc and realloc, and of pthread_create, as a thread takes memory too.
+ * in the place of malloc and realloc, and of pthread_create, as a thread takes memory too. A block that is made smaller
+ * is no allocation.
  *
  * Which allocation it refuses is said by an order. The environment can give one, for the whole program:
  *
@@ -12,6 +13,7 @@
 #include <dlfcn.h>
 #include <errno.h>
 #include <fcntl.h>
+#include <malloc.h>
 #include <pthread.h>
 #include <stdatomic.h>
 #include <stddef.h>
@@ -64,7 +66,8 @@ void *malloc(size_t size) {
 }
 
 void *realloc(void *block, size_t size) {
-    if (is_order(size) || is_refused()) {
+    int grows = !block || size > malloc_usable_size(block);
+    if (is_order(size) || (grows && is_refused())) {
         errno = ENOMEM;
         return NULL;
     }

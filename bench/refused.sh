@@ -57,9 +57,15 @@ errors() {
     tr '\n' '|' <"$work/errors"
 }
 
-# Each allocation of a command line in turn: the name, the right status, the input, and the arguments.
+# Whether the last run ended as it does with all memory: its status, and the right one.
+is_right() {
+    [ "$1" -eq "$2" ] && cmp -s "$work/out" "$work/right" && cmp -s "$work/errors" "$work/right_errors"
+}
+
+# Each allocation of a command line in turn: the name, the right status, the input, and the arguments. A list of the
+# arguments that is refused its room at once is made all the same, by asking again.
 each_allocation() {
-    local name=$1 right_status=$2 input=$3 status nth
+    local name=$1 right_status=$2 input=$3 status nth again=0
     shift 3
     status=0
     "$program" "$@" <"$input" >"$work/right" 2>"$work/right_errors" || status=$?
@@ -68,12 +74,14 @@ each_allocation() {
         status=0
         limited "$nth" "$program" "$@" <"$input" || status=$?
         [ -e "$work/refused" ] || break
-        [ "$status" -eq 3 ] && [ "$(errors)" = "fault: memory|" ] && is_front ||
+        if is_right "$status" "$right_status"; then
+            again=$((again + 1))
+        elif [ "$status" -ne 3 ] || [ "$(errors)" != "fault: memory|" ] || ! is_front; then
             wrong "$name: allocation $nth: status $status, $(errors)"
+        fi
     done
-    [ "$status" -eq "$right_status" ] && cmp -s "$work/out" "$work/right" && cmp -s "$work/errors" "$work/right_errors" ||
-        wrong "$name: nothing refused: status $status, $(errors)"
-    echo "$name: $((nth - 1)) allocations"
+    is_right "$status" "$right_status" || wrong "$name: nothing refused: status $status, $(errors)"
+    echo "$name: $((nth - 1)) allocations, $again asked for again"
 }
 
 # Waits until the service listens or has ended, two seconds at most.
@@ -98,6 +106,7 @@ each_allocation_of_serve() {
     local status nth service ends=""
     printf 'listening %s\n' "$port" >"$work/right"
     for ((nth = 1; ; nth++)); do
+        rm -f "$work/out"
         limited "$nth" "$program" serve "$work/settings.toml" --port "$port" --connections 1 </dev/null &
         service=$!
         until_listening "$service"

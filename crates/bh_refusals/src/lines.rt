@@ -12,7 +12,8 @@ use std::alloc::{AllocError, Global};
 use std::process::Abort;
 
 /// Each line with its answer.
-const CACHE: &str = r#"{"op":"submit","group":"a","now":0,"arg":"x","context":7,"key":"k"} -> {"reply":"queued","ticket":1}
+const CACHE: &str =
+    r#"{"op":"submit","group":"a","now":0,"arg":"x","context":7,"key":"k"} -> {"reply":"queued","ticket":1}
 {"op":"submit","group":"a","now":0,"arg":"x","context":7,"key":"k"} -> {"reply":"joined","ticket":1}
 {"op":"submit","group":"a","now":0,"arg":"x","context":8,"key":"k"} -> {"reply":"queued","ticket":2}
 {"op":"start","group":"a","now":1} -> {"arg":"x","reply":"assigned","ticket":1}
@@ -68,7 +69,9 @@ fn a_script_is_answered_whole_or_in_part(rt: HostRuntime) {
     let settings = read(rt.alloc(), "service.groups = [\"a\"]\n").expect(&rt, "settings");
     let (asked, want) = both_sides(rt.alloc(), CACHE).expect(&rt, "memory");
     for nth in 1..MANY {
-        let (told, written) = run(rt.alloc(), nth, &settings, asked.as_bytes()).expect(&rt, "memory");
+        let (told, written) = run(rt.alloc(), nth, &settings, asked.as_bytes()).expect(
+            &rt, "memory",
+        );
         assert_told(&rt, nth, told.is_ok());
         if told.is_ok() {
             assert_eq!(rt; written.as_slice(), want.as_bytes());
@@ -132,7 +135,10 @@ fn assert_failed(rt: &impl Abort, conversation: &mut Conversation) {
     assert_eq!(rt; conversation.fault(), Some(PortError::Memory));
     let fed = conversation.feed(b"{\"op\":\"groups\"}\n", &mut control);
     assert_eq!(rt; fed.err(), Some(PortError::Memory));
-    assert_eq!(rt; conversation.end(&mut control).err(), Some(PortError::Memory));
+    assert_eq!(rt;
+        conversation.end(&mut control).err(),
+        Some(PortError::Memory)
+    );
     assert_eq!(rt; conversation.fault(), Some(PortError::Memory));
 }
 

@@ -97,19 +97,6 @@ fn slots_are_added_or_not(rt: HostRuntime) {
     give_up(&rt);
 }
 
-/// Too large to have as many of it as there may be slots.
-const BLOCK: [u8; 65_536] = [0; 65_536];
-
-#[test]
-fn slots_too_large_for_any_memory_are_not_added(rt: HostRuntime) {
-    let mut arena = Arena::<[u8; 65_536], 1>::new(rt.alloc(), u32::MAX);
-    arena.add_lists(0, 1).expect(&rt, "memory");
-    let refused = arena.add_slots(u32::MAX, [0], BLOCK).err();
-    assert_eq!(rt; refused, Some(SlotsError::Memory));
-    assert_eq!(rt; arena.len_of(0, 0), 0);
-    assert_eq!(rt; arena.add_slots(1, [0], BLOCK).ok(), Some(0));
-}
-
 #[test]
 fn lists_too_many_for_any_memory_are_not_added(rt: HostRuntime) {
     let mut arena = three_slots(&rt);

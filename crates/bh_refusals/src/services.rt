@@ -6,7 +6,7 @@ ghost use Rattle.bh_audit.specs.Books.{AreNew};
 use crate::refusing::{MANY, assert_told, give_up, refuse};
 use crate::worked::{A, B, assert_new, replies, request, steps, two_groups};
 use bh_audit::{AuditError, AuditReport, Book, Clock, Pass, PassError, Shared};
-use bh_base::{Answer, Cause, FallbackEnd, GroupId, Moment, RunEnd, Text};
+use bh_base::{Answer, Cause, FallbackEnd, GroupId, Moment, Request, RunEnd, Text};
 use bh_workers::{Dependency, DriveError, Driven, Pace, RequestList, drive};
 use std::process::Abort;
 use std::sync::Wait;
@@ -19,7 +19,9 @@ const TOO_MANY: u64 = 1 << 40;
 
 fn book<R: Abort + AllocGlobal>(rt: &R) -> Book {
     let core = two_groups(rt, 100);
-    Book::new(rt.alloc(), core, Some(100)).ok().expect(rt, "memory")
+    Book::new(rt.alloc(), core, Some(100))
+        .ok()
+        .expect(rt, "memory")
 }
 
 fn service<R: Abort + AllocGlobal>(rt: &R) -> Shared {
@@ -80,7 +82,11 @@ fn run<R: Abort + Wait + AllocGlobal>(rt: &R, shared: &Shared) -> (Pass, Pass) {
     let mut first = shared.pass(rt.alloc(), A, 10).expect(rt, "memory");
     let mut second = shared.pass(rt.alloc(), B, 10).expect(rt, "memory");
     for (step, reply) in steps().iter().zip(replies().iter()) {
-        let pass = if step.group == A { &mut first } else { &mut second };
+        let pass = if step.group == A {
+            &mut first
+        } else {
+            &mut second
+        };
         assert!(rt; shared.step(rt, pass, *step) == Ok(*reply), "{step:?}");
     }
     (first, second)
@@ -105,7 +111,10 @@ fn assert_account(rt: &impl Abort, report: &AuditReport, steps: usize) {
 fn assert_new_service<R: Abort + Wait + AllocGlobal>(rt: &R, shared: Shared) {
     let passes = run(rt, &shared);
     let passes = listed(rt, passes);
-    let report = shared.finish(rt.alloc(), passes).ok().expect(rt, "an account");
+    let report = shared
+        .finish(rt.alloc(), passes)
+        .ok()
+        .expect(rt, "an account");
     assert_account(rt, &report, 4);
 }
 
@@ -158,7 +167,14 @@ fn a_missing_pass_is_told_or_want_of_memory(rt: HostRuntime) {
         passes.push(second).ok().expect(&rt, "memory");
         refuse(rt.alloc(), nth);
         let told = shared.finish(rt.alloc(), passes);
-        let found = matches!(&told, Err(AuditError::PassMissing { group: A, place: 1, .. }));
+        let found = matches!(
+            &told,
+            Err(AuditError::PassMissing {
+                group: A,
+                place: 1,
+                ..
+            })
+        );
         assert_told(&rt, nth, found);
         if found {
             return;
@@ -218,17 +234,10 @@ impl Dependency for Counting {
     }
 }
 
-fn counting() -> Counting {
-    Counting {
-        begun: AtomicU64::new(0),
-        ended: AtomicU64::new(0),
-    }
-}
-
 /// A list of the one request.
-fn list<R: Abort + AllocGlobal>(rt: &R, group: GroupId, arg: &str) -> RequestList {
+fn list<R: Abort + AllocGlobal>(rt: &R, group: GroupId, request: &Request) -> RequestList {
     let mut requests = Vec::new(rt.alloc());
-    requests.push(request(arg)).ok().expect(rt, "memory");
+    requests.push(*request).ok().expect(rt, "memory");
     RequestList { group, requests }
 }
 
@@ -240,12 +249,27 @@ fn drive_both<R: Threads + Wait + Sync + Abort + AllocGlobal>(
     nth: usize,
     room: u64,
 ) -> Result<Driven, DriveError> {
-    let lists = [list(rt, A, "x"), list(rt, B, "y")];
-    let counting = counting();
+    let lists = [list(rt, A, &request("x")), list(rt, B, &request("y"))];
+    let counting = Counting {
+        begun: AtomicU64::new(0),
+        ended: AtomicU64::new(0),
+    };
     refuse(rt.alloc(), nth);
-    let told = drive(rt, rt.alloc(), shared, &counting, &Still, Steady, &lists, room);
+    let told = drive(
+        rt,
+        rt.alloc(),
+        shared,
+        &counting,
+        &Still,
+        Steady,
+        &lists,
+        room,
+    );
     assert_told(rt, nth, told.is_ok());
-    assert_eq!(rt; counting.begun.load(Ordering::SeqCst), counting.ended.load(Ordering::SeqCst));
+    assert_eq!(rt;
+        counting.begun.load(Ordering::SeqCst),
+        counting.ended.load(Ordering::SeqCst)
+    );
     assert!(rt; shared.stopped(rt));
     told
 }
@@ -257,7 +281,10 @@ fn assert_driven<R: Abort + AllocGlobal>(rt: &R, shared: Shared, driven: Driven)
         let value = Ok(Answer::Value(Text::new(want).unwrap()));
         assert!(rt; own.as_slice() == [value].as_slice());
     }
-    let report = shared.finish(rt.alloc(), passes).ok().expect(rt, "an account");
+    let report = shared
+        .finish(rt.alloc(), passes)
+        .ok()
+        .expect(rt, "an account");
     assert_account(rt, &report, 4);
 }
 
@@ -271,15 +298,4 @@ fn a_drive_is_whole_or_gives_up(rt: HostRuntime) {
         }
     }
     give_up(&rt);
-}
-
-#[test]
-fn a_drive_too_long_for_any_memory_gives_up(rt: HostRuntime) {
-    let shared = service(&rt);
-    let lists = [list(&rt, A, "x"), list(&rt, B, "y")];
-    let counting = counting();
-    let told = drive(&rt, rt.alloc(), &shared, &counting, &Still, Steady, &lists, TOO_MANY);
-    assert_eq!(rt; told.err(), Some(DriveError::Memory));
-    assert!(rt; shared.stopped(&rt));
-    assert_eq!(rt; counting.begun.load(Ordering::SeqCst), 0);
 }
