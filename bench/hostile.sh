@@ -45,10 +45,10 @@ call_four() {
     }
 }
 
-# The service goes on until its standard input is closed.
+# The service goes on until its standard input is closed, of which nobody else keeps the writing end open.
 mkfifo "$work/input"
 exec 4<>"$work/input"
-start "$program" --connections 64 --keep-serving --idle "$idle" <"$work/input" 2>"$work/errors"
+start "$program" --connections 64 --keep-serving --idle "$idle" <"$work/input" 4>&- 2>"$work/errors"
 exec 5>"$work/input" 4>&-
 call_four "4 connections alone"
 "$work/hostile" "$port" 60 >"$work/connected" &
