@@ -99,8 +99,15 @@ fn full_group_others_run(rt: HostRuntime) {
     assert_passed(&rt, &full.refused);
     assert_passed(&rt, &full.begun);
     assert_number(&rt, full_of(&rt, &driven), 0);
+    let FullGroup {
+        rt: _,
+        shared: _,
+        pass,
+        refused: _,
+        begun: _,
+    } = full;
     let mut passes = driven.passes;
-    passes.push(full.pass.into_inner()).expect(&rt, "memory");
+    passes.push(pass.into_inner()).expect(&rt, "memory");
     assert_end(
         &rt,
         shared,
@@ -117,6 +124,7 @@ fn worn_in_the_middle(rt: HostRuntime) {
 }
 
 /// Holds each run until its caller was told something.
+#[derive(Drop)]
 struct HeldUntilTold<'a, R> {
     begun: Gate<'a, R>,
     told: Gate<'a, R>,
