@@ -15,6 +15,8 @@ mod cache;
 #[cfg(test)]
 mod circuit;
 #[cfg(test)]
+mod conversation_order;
+#[cfg(test)]
 mod conversations;
 #[cfg(test)]
 mod groups;
