@@ -162,7 +162,10 @@ fn assert_calls_wait_for_answers<R: Abort + AllocGlobal>(rt: &R, session: &Sessi
     let between = before + CALL_REPLY.len();
     let last = between + CALL_REPLY.len() + METRICS_REPLY.len();
     assert_eq!(rt; session.bytes.as_slice(), want.as_bytes());
-    assert_eq!(rt; session.at_calls.as_slice(), [before, between, last].as_slice());
+    assert_eq!(rt;
+        session.at_calls.as_slice(),
+        [before, between, last].as_slice()
+    );
 }
 
 #[test]
@@ -171,7 +174,12 @@ fn answers_leave_before_the_next_call_is_made(rt: HostRuntime) {
     let want = joined(
         &rt,
         &[
-            GROUPS_REPLY, METRICS_REPLY, CALL_REPLY, CALL_REPLY, METRICS_REPLY, CALL_REPLY,
+            GROUPS_REPLY,
+            METRICS_REPLY,
+            CALL_REPLY,
+            CALL_REPLY,
+            METRICS_REPLY,
+            CALL_REPLY,
         ],
     );
     let whole = session_over(rt.alloc(), input.as_str().as_bytes(), 4096);
