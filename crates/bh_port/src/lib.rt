@@ -4,4 +4,4 @@
 pub mod reader;
 mod run;
 pub mod script;
-mod steps;
+pub mod steps;

@@ -51,8 +51,8 @@ fn step_at(settings: &Settings, members: Members<'_>) -> Result<Step, Fault>
     })
 }
 
-/// The number of the group of the name.
-fn group_number(groups: &IndexMap<Text<32>, GroupProps>, name: &str) -> Option<u64>
+/// The number of the group of the name, if there is one. It looks the name up by its hash.
+pub fn group_number(groups: &IndexMap<Text<32>, GroupProps>, name: &str) -> Option<u64>
     ensures number { result ≡ group_number (map (λ group. group.0) groups.now.entries) name.now }
     ensures within { IfSome result (λ number. number < length groups.now.entries) }
 {
