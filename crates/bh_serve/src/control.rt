@@ -6,6 +6,7 @@ ghost use Rattle.bh_base.specs.declared.step.Op.TheVariants as op;
 ghost use Rattle.bh_base.specs.Replies.{can_reply};
 ghost use Rattle.bh_serve.specs.Served.{IsCalled, IsStepped, MayAnswer, MayClose, MayShow, refused_as};
 
+use crate::names::GroupNames;
 use bh_audit::{Clock, Pass, PassError, Shared};
 use bh_base::{Answer, CallError, GroupId, Op, Reply, Request, Step, Text};
 use bh_control::Control;
@@ -23,7 +24,7 @@ pub struct ServiceControl<'e, R, D, C> {
     rt: &'e R,
     alloc: Global,
     shared: &'e Shared,
-    names: &'e [Text<32>],
+    names: &'e GroupNames<'e>,
     dependency: &'e D,
     clock: &'e C,
     last: Option<Pass>,
@@ -43,7 +44,7 @@ impl<'e, R, D, C> ServiceControl<'e, R, D, C> {
         rt: &'e R,
         alloc: Global,
         shared: &'e Shared,
-        names: &'e [Text<32>],
+        names: &'e GroupNames<'e>,
         dependency: &'e D,
         clock: &'e C,
     ) -> ServiceControl<'e, R, D, C>
@@ -97,7 +98,12 @@ impl<'e, R: Wait, D: Dependency, C: Clock> Control for ServiceControl<'e, R, D, 
     ghost may_close = { MayClose };
 
     fn groups(&self) -> &[Text<32>] {
-        self.names
+        self.names.as_slice()
+    }
+
+    fn group(&self, name: &str) -> Option<GroupId> {
+        let number = self.names.number(name)?;
+        Some(GroupId(number))
     }
 
     fn metrics(&mut self, group: GroupId) -> Reply

@@ -4,6 +4,7 @@
 pub mod clock;
 pub mod control;
 pub mod echo;
+pub mod names;
 pub mod serve;
 mod threads;
 

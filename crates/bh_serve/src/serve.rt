@@ -1,14 +1,12 @@
 //! Connections to a service, each with a thread and a conversation of its own.
 
-ghost use Rattle.std.specs.Prelude.{◌≡◌, ◌≤◌, ◌⊎◌, [], ◌∷◌, ◌++◌, length, IfOk, OnOk, false};
-ghost use Rattle.bh_port.specs.Text.{names_in};
-ghost use Rattle.bh_props.specs.Shown.{settings_view};
+ghost use Rattle.std.specs.Prelude.{◌≡◌, ◌≤◌, ◌⊎◌, length, IfOk, false};
 
 use crate::clock::MachineClock;
 use crate::echo::Echo;
+use crate::names::GroupNames;
 use crate::threads::Server;
 use bh_audit::{Book, Shared};
-use bh_base::Text;
 use bh_port::script::open;
 use bh_props::Settings;
 use std::alloc::{AllocError, AllocFailed, Global};
@@ -88,7 +86,7 @@ fn serve<R: Threads + Wait + Clock + Sync, E: Write + Send>(
     settings: &Settings,
     errors: &Mutex<E>,
 ) -> Result<(), ServeError> {
-    let names = names(alloc, settings)?;
+    let names = GroupNames::of(alloc, settings)?;
     let shared = service(alloc, settings)?;
     let echo = Echo::new(rt);
     let clock = MachineClock::start(rt);
@@ -96,7 +94,7 @@ fn serve<R: Threads + Wait + Clock + Sync, E: Write + Send>(
         rt,
         alloc,
         shared: &shared,
-        names: names.as_slice(),
+        names: &names,
         echo: &echo,
         clock: &clock,
         errors,
@@ -119,23 +117,4 @@ fn service(alloc: Global, settings: &Settings) -> Result<Shared, AllocError>
         Ok(shared) => Ok(shared),
         Err((_book, error)) => Err(error),
     }
-}
-
-/// The names of the groups, each at the place that is its group's number.
-fn names(alloc: Global, settings: &Settings) -> Result<Vec<Text<32>>, AllocError>
-    ensures { IfOk result (λ names. names.items ≡ names_in (settings_view settings.now)) }
-{
-    let mut names = Vec::new(alloc);
-    for name in settings.groups.keys() {
-        put(&mut names, *name)?;
-    }
-    Ok(names)
-}
-
-/// Puts an item behind the others.
-fn put<T: Drop>(list: &mut Vec<T>, item: T) -> Result<(), AllocError>
-    ensures { OnOk result (list.new.items ≡ list.old.items ++ item ∷ []) }
-{
-    list.push(item)?;
-    Ok(())
 }

@@ -3,9 +3,10 @@
 use crate::clock::{MachineClock, Ticks};
 use crate::control::ServiceControl;
 use crate::echo::Echo;
+use crate::names::GroupNames;
 use crate::serve::ServeError;
 use bh_audit::{Pass, Shared};
-use bh_base::{GroupId, Text};
+use bh_base::GroupId;
 use bh_control::converse;
 use bh_streams::{WatchedReader, WatchedWriter};
 use bh_workers::{timer_loop, worker_loop};
@@ -23,7 +24,7 @@ pub struct Server<'e, R, E> {
     pub rt: &'e R,
     pub alloc: Global,
     pub shared: &'e Shared,
-    pub names: &'e [Text<32>],
+    pub names: &'e GroupNames<'e>,
     pub echo: &'e Echo<'e, R>,
     pub clock: &'e MachineClock<'e, R>,
     pub errors: &'e Mutex<E>,

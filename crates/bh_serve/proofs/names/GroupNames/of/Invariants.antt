@@ -1,7 +1,7 @@
 use Rattle.std.proofs.Common.{◌≡◌, ◌++◌}
 use Rattle.bh_port.specs.Text.{names_in}
 use Rattle.bh_props.specs.Shown.{settings_view}
-use Rattle.bh_serve.proofs.serve.names.Given as goal
+use Rattle.bh_serve.proofs.names.GroupNames.of.Given as goal
 
 abbrev pub invariant-loop-name : goal.invariant-loop-name
-invariant-loop-name l = l.names.items ++ l.name-iterator ≡ names_in (settings_view l.settings)
+invariant-loop-name l = l.listed.items ++ l.name-iterator ≡ names_in (settings_view l.settings)
