@@ -1,63 +1,71 @@
 #!/bin/bash
 # Prints how many calls a second `serve` answers over 1, 8 and 64 connections, with the median (p50) and the 99th
-# percentile (p99) of the time that a call takes.
+# percentile (p99) of the time that a call takes, and the context switches of the service for each call.
 #
-#   bench/serve.sh [-n CALLS] [-g GROUPS] [-w WORKERS] [-p PORT] [PROGRAM]
+#   bench/serve.sh [-n CALLS] [-g GROUPS] [-r RUNS] [-s SETTINGS] [-o OTHER] [-p PORT] [PROGRAM]
 #
-# WORKERS is how many each group has. PROGRAM is proved and built where none is given.
+# SETTINGS are lines of a settings file for all groups; where none are given, there are two tables: of built-in settings
+# and of SEMAPHORE. OTHER is another build of the program, which is run beside it in turn. Each figure is that of the
+# median run by calls a second. PROGRAM is proved and built where none is given.
 set -euo pipefail
 
 here=$(cd "$(dirname "$0")" && pwd)
-calls=100000 groups=8 workers=10 port=7412
-while getopts n:g:w:p: option; do
+calls=40000 groups=16 runs=3 settings= other= port=7412
+while getopts n:g:r:s:o:p: option; do
     case $option in
     n) calls=$OPTARG ;;
     g) groups=$OPTARG ;;
-    w) workers=$OPTARG ;;
+    r) runs=$OPTARG ;;
+    s) settings=$OPTARG ;;
+    o) other=$OPTARG ;;
     p) port=$OPTARG ;;
     *) exit 2 ;;
     esac
 done
 shift $((OPTIND - 1))
 program=${1:-$here/../crates/bulkhead/out/bulkhead}
-work=$(mktemp -d)
-service=
-trap '[ -z "$service" ] || kill "$service" 2>/dev/null || true; rm -r "$work"' EXIT
+. "$here/service.sh"
 
 if [ $# -eq 0 ]; then
     (cd "$here/../crates/bulkhead" && rt run -- --help >"$work/build" 2>&1) || { cat "$work/build"; exit 1; }
 fi
 cc -O2 -o "$work/client" "$here/serve_client.c"
 
-# Every call that waits for a worker finds a place in its group's queue.
-awk -v GROUPS="$groups" -v WORKERS="$workers" 'BEGIN {
-    printf("service.groups = [")
-    for (group = 0; group < GROUPS; group++) {
-        printf("\"g%d\",", group)
-    }
-    printf("]\nhystrix.threadpool.default.coreSize = %d\n", WORKERS)
-    print("hystrix.threadpool.default.maxQueueSize = 64\nhystrix.threadpool.default.queueSizeRejectionThreshold = 64")
-}' >"$work/settings.toml"
+# Prints the figures of one run of a program over so many connections.
+run_once() {
+    start "$1" --connections "$2"
+    "$work/client" "$port" "$2" "$calls" "$groups" "$service"
+    await_end
+}
 
-# Waits until the command succeeds, ten seconds at most.
-within_ten_seconds() {
-    for _ in $(seq 200); do
-        ! "$@" || return 0
-        sleep 0.05
+# Prints a line of figures for each number of connections and each program.
+print_table() {
+    echo "$1"
+    list_settings "$groups" "$2" >"$work/settings.toml"
+    for connections in 1 8 64; do
+        : >"$work/this"
+        : >"$work/other"
+        for _ in $(seq "$runs"); do
+            run_once "$program" "$connections" >>"$work/this"
+            [ -z "$other" ] || run_once "$other" "$connections" >>"$work/other"
+        done
+        print_median "$connections" this
+        [ -z "$other" ] || print_median "$connections" other
     done
-    return 1
 }
 
-has_ended() {
-    ! kill -0 "$service" 2>/dev/null
+# Prints the median of the runs of a program by calls a second.
+print_median() {
+    sort -n "$work/$2" | sed -n "$(((runs + 1) / 2))p" | {
+        read -r rate p50 p99 switches busy
+        printf '%2d connections, %5s: %7.0f calls a second, p50 %.3f ms, p99 %.3f ms, %5.2f context switches a call (client busy %.0f %%)\n' \
+            "$1" "$2" "$rate" "$p50" "$p99" "$switches" "$busy"
+    }
 }
 
-for connections in 1 8 64; do
-    "$program" serve "$work/settings.toml" --port "$port" --connections "$connections" >"$work/listening" &
-    service=$!
-    within_ten_seconds grep -qs listening "$work/listening" || { echo "the service does not listen" >&2; exit 1; }
-    "$work/client" "$port" "$connections" "$calls" "$groups"
-    within_ten_seconds has_ended || { echo "the service does not end" >&2; exit 1; }
-    wait "$service"
-    service=
-done
+if [ -n "$settings" ]; then
+    print_table "given settings" "$settings"
+else
+    print_table "built-in settings" ""
+    print_table "SEMAPHORE" 'hystrix.command.default.execution.isolation.strategy = "SEMAPHORE"'
+fi

@@ -1,11 +1,16 @@
 /* Calls a service over so many connections at once, one call after the other on each, and prints what it took.
  *
- *   serve_client PORT CONNECTIONS CALLS GROUPS
+ *   serve_client PORT CONNECTIONS CALLS GROUPS PROCESS
  *
  * One thread waits for all connections by epoll, so that it is not the limit: it prints how busy it was. The calls go
- * to the groups g0, g1 .. in turn. Each answer has to be the echo of its argument. It talks to 127.0.0.1 alone, and
- * ends with status 1 where no answer comes for ten seconds. */
+ * to the groups g0, g1 .. in turn. Each answer has to be the echo of its argument. PROCESS is the service's number, of
+ * whose threads the context switches are counted. It talks to 127.0.0.1 alone, and ends with status 1 where no answer
+ * comes for ten seconds.
+ *
+ * It prints calls a second, the median and the 99th percentile of a call in milliseconds, context switches a call, and
+ * how many percent of the time it was busy. */
 #include <arpa/inet.h>
+#include <dirent.h>
 #include <errno.h>
 #include <netinet/in.h>
 #include <netinet/tcp.h>
@@ -46,6 +51,36 @@ static double busy_seconds(void) {
     struct rusage used;
     getrusage(RUSAGE_SELF, &used);
     return used.ru_utime.tv_sec + used.ru_stime.tv_sec + (used.ru_utime.tv_usec + used.ru_stime.tv_usec) / 1e6;
+}
+
+/* The context switches of one thread, by the file that tells them. */
+static long switches_in(const char *path) {
+    char line[256];
+    long sum = 0, count;
+    FILE *status = fopen(path, "r");
+    if (!status) return 0;
+    while (fgets(line, sizeof line, status)) {
+        if (sscanf(line, "voluntary_ctxt_switches: %ld", &count) == 1) sum += count;
+        if (sscanf(line, "nonvoluntary_ctxt_switches: %ld", &count) == 1) sum += count;
+    }
+    fclose(status);
+    return sum;
+}
+
+/* The context switches of all threads of a process that have not ended. */
+static long switches_of(long process) {
+    char path[512];
+    long sum = 0;
+    snprintf(path, sizeof path, "/proc/%ld/task", process);
+    DIR *tasks = opendir(path);
+    if (!tasks) fail("no such process");
+    for (struct dirent *task = readdir(tasks); task; task = readdir(tasks)) {
+        if (task->d_name[0] == '.') continue;
+        snprintf(path, sizeof path, "/proc/%ld/task/%s/status", process, task->d_name);
+        sum += switches_in(path);
+    }
+    closedir(tasks);
+    return sum;
 }
 
 static void connect_to(Connection *connection, int port) {
@@ -109,10 +144,11 @@ static void make_calls(int poll, double *took) {
 }
 
 int main(int argc, char **argv) {
-    if (argc != 5) fail("serve_client PORT CONNECTIONS CALLS GROUPS");
+    if (argc != 6) fail("serve_client PORT CONNECTIONS CALLS GROUPS PROCESS");
     connection_count = atol(argv[2]);
     calls = atol(argv[3]);
     groups = atol(argv[4]);
+    long process = atol(argv[5]);
     if (connection_count < 1 || connection_count > MOST_CONNECTIONS || calls < connection_count || groups < 1)
         fail("1 to 64 connections, a call for each, and a group");
     double *took = malloc(calls * sizeof *took);
@@ -124,13 +160,15 @@ int main(int argc, char **argv) {
         epoll_ctl(poll, EPOLL_CTL_ADD, connections[i].socket, &event);
         connections[i].call = i;
     }
+    long switches = switches_of(process);
     double began = seconds(), busy = busy_seconds();
     for (long i = 0; i < connection_count; i++) send_call(&connections[i]);
     make_calls(poll, took);
     double whole = seconds() - began;
     busy = busy_seconds() - busy;
+    switches = switches_of(process) - switches;
     qsort(took, calls, sizeof *took, by_size);
-    printf("%2ld connections: %7.0f calls a second, p50 %.3f ms, p99 %.3f ms (client busy %.0f %%)\n", connection_count,
-           calls / whole, took[calls / 2] * 1000, took[calls * 99 / 100] * 1000, 100 * busy / whole);
+    printf("%.0f %.3f %.3f %.2f %.0f\n", calls / whole, took[calls / 2] * 1000, took[calls * 99 / 100] * 1000,
+           (double)switches / calls, 100 * busy / whole);
     return 0;
 }

@@ -1,3 +1,5 @@
+pub mod Accepting
 pub mod Echo
+pub mod Ending
 pub mod ServiceControlView
 pub mod Served

@@ -1,11 +1,15 @@
 //! A service behind a port: connections that talk to groups over control lines, each with a thread of its own.
 #![tactic(auto)]
 
+mod accepting;
 pub mod clock;
+pub mod connection;
 pub mod control;
 pub mod echo;
+pub mod gate;
 pub mod names;
 pub mod serve;
 mod threads;
 
-pub use serve::serve_on;
+pub use gate::{Gate, Limits};
+pub use serve::{serve_on, serve_through};

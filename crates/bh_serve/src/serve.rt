@@ -1,17 +1,20 @@
 //! Connections to a service, each with a thread and a conversation of its own.
 
 ghost use Rattle.std.specs.Prelude.{◌≡◌, ◌≤◌, ◌⊎◌, length, IfOk, false};
+ghost use Rattle.bh_serve.specs.Ending.{status_of};
 
 use crate::clock::MachineClock;
 use crate::echo::Echo;
+use crate::gate::{End, Gate, Limits};
 use crate::names::GroupNames;
 use crate::threads::Server;
 use bh_audit::{Book, Shared};
 use bh_port::script::open;
 use bh_props::Settings;
 use std::alloc::{AllocError, AllocFailed, Global};
+use std::io;
 use std::io::Write;
-use std::net::TcpListener;
+use std::net::{OpenListener, TcpListener, TcpStream};
 use std::rt::Clock;
 use std::sync::{Mutex, Wait};
 use std::thread::Threads;
@@ -26,9 +29,12 @@ const FAULT: u8 = 3;
 /// Why a service ended before its connections had.
 #[derive(Clone, Copy, Debug, PartialEq, Eq, Error)]
 pub enum ServeError {
-    /// A connection could not be accepted.
+    /// No connection can be accepted any more.
     #[error("fault: network")]
     Network,
+    /// It could not be announced.
+    #[error("fault: write")]
+    Write,
     /// A thread could not be started.
     #[error("fault: thread")]
     Thread,
@@ -52,8 +58,7 @@ impl<T: Drop> From<AllocFailed<T>> for ServeError {
 /// Serves so many connections of the listener with the groups of the settings, all new, over the echo dependency,
 /// and answers the exit status. It returns once the last connection has ended, and the service is stopped then.
 ///
-/// Each connection has a thread and a conversation of its own, and moments are milliseconds since the call. A fault
-/// of one connection, a `PortError`, ends that connection alone and leaves a line on `errors`.
+/// It is `serve_through` a gate for so many connections, which may do nothing for any time, and announces nothing.
 ///
 /// - 0: the connections were served.
 /// - 3: a `ServeError`, of which a line on `errors` says which.
@@ -67,25 +72,94 @@ pub fn serve_on<R: Threads + Wait + Clock + Sync, E: Write + Send>(
 ) -> u8
     ensures { (result ≡ 0) ⊎ (result ≡ 3) }
 {
-    match serve(rt, alloc, listener, connections, settings, errors) {
-        Ok(()) => SERVED,
-        Err(error) => {
-            let mut errors = errors.lock(rt);
-            let _ = writeln!(&mut *errors, "{error}");
-            FAULT
-        }
+    let limits = Limits {
+        connections,
+        keep_serving: false,
+        idle_seconds: 0,
+    };
+    match Gate::new(alloc, limits) {
+        Ok(gate) => serve_through(
+            rt,
+            alloc,
+            &gate,
+            listener,
+            settings,
+            &mut io::sink(),
+            errors,
+        ),
+        Err(_) => refuse(rt, ServeError::Memory, errors),
     }
 }
 
-/// The same, with what ended the service.
-fn serve<R: Threads + Wait + Clock + Sync, E: Write + Send>(
+/// Serves the connections that the gate lets in, with the groups of the settings, all new, over the echo dependency,
+/// and answers the exit status. It returns once all its threads have ended.
+///
+/// Workers, timer and a thread for each connection that may be open at a time are started first; where they are more
+/// than a thousand, a line on `errors` says how many. Then the line `listening` with the listener's port goes to
+/// `output`, and connections are accepted. Each has a conversation of its own, and moments are milliseconds since the
+/// call. A fault of one connection, a `ConnectionFault`, ends that connection alone and leaves a line on `errors`.
+///
+/// Where a fault ends the service, calls that wait are answered as stopped, and the connections that are open are
+/// answered until they end. Where the gate was told to stop, they are closed, as `Gate::tell` says.
+///
+/// - 0: the connections were served, or the gate was told to stop.
+/// - 3: a `ServeError`, of which a line on `errors` said which as it came.
+pub fn serve_through<
+    R: Threads + Wait + Clock + Sync,
+    L: OpenListener<Stream = TcpStream> + Sync,
+    O: Write,
+    E: Write + Send,
+>(
     rt: &R,
     alloc: Global,
-    listener: &TcpListener,
-    connections: u32,
+    gate: &Gate,
+    listener: &L,
     settings: &Settings,
+    output: &mut O,
     errors: &Mutex<E>,
-) -> Result<(), ServeError> {
+) -> u8
+    ensures { (result ≡ 0) ⊎ (result ≡ 3) }
+{
+    match serve(rt, alloc, gate, listener, settings, output, errors) {
+        Ok(end) => status_of(end),
+        Err(AllocError) => refuse(rt, ServeError::Memory, errors),
+    }
+}
+
+/// The exit status of a service that ended so.
+fn status_of(end: Option<End>) -> u8
+    ensures { result ≡ status_of end }
+{
+    match end {
+        Some(End::Fault(_)) => FAULT,
+        Some(End::Told) | None => SERVED,
+    }
+}
+
+/// Says why the service did not begin, and answers the exit status.
+fn refuse<R: Wait, E: Write>(rt: &R, error: ServeError, errors: &Mutex<E>) -> u8
+    ensures { result ≡ 3 }
+{
+    let mut errors = errors.lock(rt);
+    let _ = writeln!(&mut *errors, "{error}");
+    FAULT
+}
+
+/// The same, with what ended the service that has begun.
+fn serve<
+    R: Threads + Wait + Clock + Sync,
+    L: OpenListener<Stream = TcpStream> + Sync,
+    O: Write,
+    E: Write + Send,
+>(
+    rt: &R,
+    alloc: Global,
+    gate: &Gate,
+    listener: &L,
+    settings: &Settings,
+    output: &mut O,
+    errors: &Mutex<E>,
+) -> Result<Option<End>, AllocError> {
     let names = GroupNames::of(alloc, settings)?;
     let shared = service(alloc, settings)?;
     let echo = Echo::new(rt);
@@ -97,9 +171,11 @@ fn serve<R: Threads + Wait + Clock + Sync, E: Write + Send>(
         names: &names,
         echo: &echo,
         clock: &clock,
+        gate,
+        listener,
         errors,
     };
-    server.run(listener, connections)
+    Ok(server.run(output))
 }
 
 /// The service of the groups of the settings, all new. It is not audited.

@@ -1,36 +1,45 @@
-//! The threads of a service: workers, a timer, and one for each connection.
+//! The threads of a service: workers, a timer, and one for each connection that may be open at a time.
 
 use crate::clock::{MachineClock, Ticks};
+use crate::connection::{ConnectionFault, Direction, fault_of};
 use crate::control::ServiceControl;
 use crate::echo::Echo;
+use crate::gate::{End, Event, Gate};
 use crate::names::GroupNames;
 use crate::serve::ServeError;
 use bh_audit::{Pass, Shared};
 use bh_base::GroupId;
 use bh_control::converse;
+use bh_lines::PortError;
 use bh_streams::{WatchedReader, WatchedWriter};
 use bh_workers::{timer_loop, worker_loop};
 use std::alloc::Global;
+use std::fmt::Display;
 use std::io::Write;
-use std::net::{TcpListener, TcpStream};
+use std::net::{OpenListener, TcpStream};
 use std::rt::Clock;
-use std::sync::{Mutex, Wait};
+use std::sync::{Arc, Mutex, Wait};
 use std::thread;
 use std::thread::{JoinHandle, Scope, Threads};
 
+/// From more threads than this on, it is said how many there will be.
+const MANY_THREADS: u64 = 1000;
+
 /// A service that runs: what each of its threads has at hand.
 #[derive(Drop)]
-pub struct Server<'e, R, E> {
+pub struct Server<'e, R, L, E> {
     pub rt: &'e R,
     pub alloc: Global,
     pub shared: &'e Shared,
     pub names: &'e GroupNames<'e>,
     pub echo: &'e Echo<'e, R>,
     pub clock: &'e MachineClock<'e, R>,
+    pub gate: &'e Gate,
+    pub listener: &'e L,
     pub errors: &'e Mutex<E>,
 }
 
-impl<'e, R, E> Server<'e, R, E> {
+impl<'e, R, L, E> Server<'e, R, L, E> {
     /// A pass of the group for a thread of the service, without room for receipts.
     fn pass(&self, group: GroupId) -> Result<Pass, ServeError> {
         let Ok(pass) = self.shared.pass(self.alloc, group, 0) else {
@@ -40,37 +49,116 @@ impl<'e, R, E> Server<'e, R, E> {
     }
 }
 
-impl<'e, R: Threads + Wait + Clock + Sync, E: Write + Send> Server<'e, R, E> {
-    /// Runs the service until the last connection has ended, or a fault stops it. All its threads have ended then.
-    pub fn run(&self, listener: &TcpListener, connections: u32) -> Result<(), ServeError> {
+impl<'e, R: Wait, L, E: Write> Server<'e, R, L, E> {
+    /// Writes a line to the errors. Only the thread that runs the service does, so that no other waits for it.
+    fn report<T: Display>(&self, text: &T) {
+        let mut errors = self.errors.lock(self.rt);
+        let _ = writeln!(&mut *errors, "{text}");
+    }
+
+    /// How many workers the groups want in all.
+    fn workers(&self) -> u64 {
+        let mut count = 0u64;
+        for number in 0..self.names.len() as u64 {
+            count = count.saturating_add(self.shared.workers(self.rt, GroupId(number)));
+        }
+        count
+    }
+
+    /// Says how many threads the service takes, where they are many.
+    fn report_threads(&self) {
+        let seats = u64::from(self.gate.seats());
+        let threads = self.workers().saturating_add(seats).saturating_add(1);
+        if threads > MANY_THREADS {
+            let mut errors = self.errors.lock(self.rt);
+            let _ = writeln!(&mut *errors, "threads: {threads}");
+        }
+    }
+}
+
+impl<
+    'e,
+    R: Threads + Wait + Clock + Sync,
+    L: OpenListener<Stream = TcpStream> + Sync,
+    E: Write + Send,
+> Server<'e, R, L, E> {
+    /// Runs the service until its connections have ended, it is told to stop, or a fault ends it, and answers which of
+    /// the last two it was. All its threads have ended then.
+    pub fn run<O: Write>(&self, output: &mut O) -> Option<End> {
         thread::scope(thread::scope_env(), self.rt, |scope| {
-            let served = self.serve_all(scope, listener, connections);
+            let mut threads = Vec::new(self.alloc);
+            self.open(scope, &mut threads, output);
+            let end = self.see_to_events();
             self.shared.stop(self.rt);
-            served
+            for thread in threads {
+                thread.join(self.rt);
+            }
+            end
         })
     }
 
-    /// Starts the workers and the timer, and serves the connections until the last one has ended.
-    fn serve_all<'s>(
+    /// Tells faults as they come, until the threads of all seats have ended, and answers what ended the service before.
+    fn see_to_events(&self) -> Option<End> {
+        let mut ended = None;
+        for _ in self.rt.forever() {
+            match self.gate.next_event(self.rt, ended.is_some()) {
+                Event::Fault(fault) => self.report(&fault),
+                Event::End(end) => {
+                    self.stop(end);
+                    ended = Some(end);
+                }
+                Event::Over => break,
+            }
+        }
+        ended
+    }
+
+    /// Stops the service: tells the fault, or closes the connections where it was told to stop.
+    fn stop(&self, end: End) {
+        self.shared.stop(self.rt);
+        match end {
+            End::Fault(error) => self.report(&error),
+            End::Told => self.gate.close(self.rt),
+        }
+    }
+
+    /// Starts the threads and says so, with the gate held shut meanwhile.
+    fn open<'s, O: Write>(
         &'e self,
         scope: &'s Scope<'s, &'e ()>,
-        listener: &TcpListener,
-        connections: u32,
-    ) -> Result<(), ServeError> {
-        self.start_workers(scope)?;
-        self.start_timer(scope)?;
-        for conversation in self.accept_all(scope, listener, connections)? {
-            conversation.join(self.rt);
+        threads: &mut Vec<JoinHandle<()>>,
+        output: &mut O,
+    ) {
+        let _held = self.gate.hold(self.rt);
+        self.report_threads();
+        if let Err(error) = self.start(scope, threads, output) {
+            self.gate.end(self.rt, End::Fault(error));
         }
-        Ok(())
+    }
+
+    /// Starts the threads, and announces the service when they stand.
+    fn start<'s, O: Write>(
+        &'e self,
+        scope: &'s Scope<'s, &'e ()>,
+        threads: &mut Vec<JoinHandle<()>>,
+        output: &mut O,
+    ) -> Result<(), ServeError> {
+        self.start_workers(scope, threads)?;
+        self.start_timer(scope, threads)?;
+        self.start_seats(scope, threads)?;
+        self.announce(output)
     }
 
     /// Starts the workers of each group.
-    fn start_workers<'s>(&'e self, scope: &'s Scope<'s, &'e ()>) -> Result<(), ServeError> {
+    fn start_workers<'s>(
+        &'e self,
+        scope: &'s Scope<'s, &'e ()>,
+        threads: &mut Vec<JoinHandle<()>>,
+    ) -> Result<(), ServeError> {
         for number in 0..self.names.len() as u64 {
             let group = GroupId(number);
             for _ in 0..self.shared.workers(self.rt, group) {
-                self.start_worker(scope, group)?;
+                self.start_worker(scope, threads, group)?;
             }
         }
         Ok(())
@@ -80,13 +168,15 @@ impl<'e, R: Threads + Wait + Clock + Sync, E: Write + Send> Server<'e, R, E> {
     fn start_worker<'s>(
         &'e self,
         scope: &'s Scope<'s, &'e ()>,
+        threads: &mut Vec<JoinHandle<()>>,
         group: GroupId,
     ) -> Result<(), ServeError> {
         let pass = self.pass(group)?;
-        match scope.spawn(move || self.work(pass)) {
-            Ok(_) => Ok(()),
-            Err(_) => Err(ServeError::Thread),
-        }
+        let Ok(worker) = scope.spawn(move || self.work(pass)) else {
+            return Err(ServeError::Thread);
+        };
+        threads.push(worker)?;
+        Ok(())
     }
 
     /// What a worker does.
@@ -95,15 +185,20 @@ impl<'e, R: Threads + Wait + Clock + Sync, E: Write + Send> Server<'e, R, E> {
     }
 
     /// Starts the one timer of all groups.
-    fn start_timer<'s>(&'e self, scope: &'s Scope<'s, &'e ()>) -> Result<(), ServeError> {
+    fn start_timer<'s>(
+        &'e self,
+        scope: &'s Scope<'s, &'e ()>,
+        threads: &mut Vec<JoinHandle<()>>,
+    ) -> Result<(), ServeError> {
         let mut passes = Vec::new(self.alloc);
         for number in 0..self.names.len() as u64 {
             passes.push(self.pass(GroupId(number))?)?;
         }
-        match scope.spawn(move || self.keep_time(passes)) {
-            Ok(_) => Ok(()),
-            Err(_) => Err(ServeError::Thread),
-        }
+        let Ok(timer) = scope.spawn(move || self.keep_time(passes)) else {
+            return Err(ServeError::Thread);
+        };
+        threads.push(timer)?;
+        Ok(())
     }
 
     /// What the timer does.
@@ -118,29 +213,94 @@ impl<'e, R: Threads + Wait + Clock + Sync, E: Write + Send> Server<'e, R, E> {
         );
     }
 
-    /// Accepts so many connections, and starts a thread for the conversation of each.
-    fn accept_all<'s>(
+    /// Starts a thread for each seat of the gate.
+    fn start_seats<'s>(
         &'e self,
         scope: &'s Scope<'s, &'e ()>,
-        listener: &TcpListener,
-        connections: u32,
-    ) -> Result<Vec<JoinHandle<()>>, ServeError> {
-        let mut conversations = Vec::new(self.alloc);
-        for _ in 0..connections {
-            let Ok((stream, _from)) = listener.accept() else {
-                return Err(ServeError::Network);
-            };
-            let Ok(conversation) = scope.spawn(move || self.converse(stream)) else {
+        threads: &mut Vec<JoinHandle<()>>,
+    ) -> Result<(), ServeError> {
+        for seat in 0..self.gate.seats() as usize {
+            self.gate.sit(self.rt);
+            let Ok(thread) = scope.spawn(move || self.serve_seat(seat)) else {
+                self.gate.rise(self.rt);
                 return Err(ServeError::Thread);
             };
-            conversations.push(conversation)?;
+            threads.push(thread)?;
         }
-        Ok(conversations)
+        Ok(())
     }
 
-    /// Answers a connection until it ends, and reports the fault that ended it, if any.
-    fn converse(&self, stream: TcpStream) {
+    /// Writes the line that says that connections are accepted.
+    fn announce<O: Write>(&self, output: &mut O) -> Result<(), ServeError> {
+        let Ok(address) = self.listener.local_addr() else {
+            return Err(ServeError::Network);
+        };
+        let port = address.port();
+        match writeln!(output, "listening {port}") {
+            Ok(()) => Ok(()),
+            Err(_) => Err(ServeError::Write),
+        }
+    }
+
+    /// What the thread of a seat does: it serves one connection after the other, as long as the gate lets one in.
+    fn serve_seat(&self, seat: usize) {
+        for _ in self.rt.forever() {
+            let Some(stream) = self.next_connection() else {
+                break;
+            };
+            if let Err(fault) = self.serve_connection(seat, stream) {
+                self.gate.note(self.rt, fault);
+            }
+        }
+        self.gate.rise(self.rt);
+    }
+
+    /// The next connection that the gate lets in.
+    fn next_connection(&self) -> Option<TcpStream> {
+        match self.gate.let_in(self.rt, self.listener) {
+            Ok(stream) => stream,
+            Err(_) => {
+                self.gate.end(self.rt, End::Fault(ServeError::Network));
+                None
+            }
+        }
+    }
+
+    /// Answers a connection on its seat until it ends.
+    fn serve_connection(&self, seat: usize, stream: TcpStream) -> Result<(), ConnectionFault> {
+        let Ok(stream) = Arc::new(self.alloc, stream) else {
+            return Err(ConnectionFault::Port(PortError::Memory));
+        };
+        if !self.gate.enter(self.rt, seat, &stream) {
+            return Ok(());
+        }
+        let served = self.converse(&stream);
+        self.gate.leave(self.rt, seat);
+        served
+    }
+
+    /// Answers the control lines of a connection.
+    fn converse(&self, stream: &TcpStream) -> Result<(), ConnectionFault> {
         let _ = stream.set_nodelay(true);
+        let idle = self.gate.idle();
+        if stream.set_read_timeout(idle).is_err() || stream.set_write_timeout(idle).is_err() {
+            return Err(ConnectionFault::Port(PortError::Read));
+        }
+        let (mut input, mut output) = (Direction::new(stream), Direction::new(stream));
+        let answered = self.answer(&mut input, &mut output);
+        let waited_in_vain = input.waited_in_vain() || output.waited_in_vain();
+        match answered {
+            Ok(()) => Ok(()),
+            Err(error) => Err(fault_of(error, waited_in_vain)),
+        }
+    }
+
+    /// Answers the control lines of the input to the output.
+    fn answer(
+        &self,
+        input: &mut Direction<'_>,
+        output: &mut Direction<'_>,
+    ) -> Result<(), PortError> {
         let mut control = ServiceControl::new(
             self.rt,
             self.alloc,
@@ -149,12 +309,8 @@ impl<'e, R: Threads + Wait + Clock + Sync, E: Write + Send> Server<'e, R, E> {
             self.echo,
             self.clock,
         );
-        let (mut input, mut output) = (&stream, &stream);
-        let mut reader = WatchedReader::new(&mut input);
-        let mut writer = WatchedWriter::new(&mut output);
-        if let Err(error) = converse(self.alloc, &mut reader, &mut writer, &mut control) {
-            let mut errors = self.errors.lock(self.rt);
-            let _ = writeln!(&mut *errors, "{error}");
-        }
+        let mut reader = WatchedReader::new(input);
+        let mut writer = WatchedWriter::new(output);
+        converse(self.alloc, &mut reader, &mut writer, &mut control)
     }
 }

@@ -10,8 +10,9 @@ pub mod settings_file;
 mod tests;
 
 use bh_props::SettingsError;
+use bh_serve::Limits;
 use clap::error::ErrorKind;
-use clap::{Arg, ArgAction, Command};
+use clap::{Arg, ArgAction, ArgMatches, Command};
 use std::alloc::{AllocError, Global};
 use std::io::Write;
 use std::net::{Net, TcpListener, TcpStream};
@@ -51,9 +52,19 @@ fn refuse_arguments<E: Write>(errors: &mut E, error: &io::Error) -> u8 {
 }
 
 /// Does what the arguments say, and answers the exit status. Only what serves connections starts threads and waits.
-fn run_arguments<
-    R: Net<Listener = TcpListener, Stream = TcpStream> + Threads + Wait + Clock + Print + Sync,
->(rt: &HostRuntime, handles: &R, arguments: &[String]) -> Result<u8, AllocError> {
+fn run_arguments<R>(rt: &HostRuntime, handles: &R, arguments: &[String]) -> Result<u8, AllocError>
+where
+    R: Net<Listener = TcpListener, Stream = TcpStream>
+        + Threads
+        + Wait
+        + Clock
+        + Input
+        + Print
+        + Copy
+        + Send
+        + Sync
+        + 'static,
+{
     let command = command(rt.alloc())?;
     let matches = match command.try_get_matches_from(arguments) {
         Ok(matches) => matches,
@@ -71,9 +82,18 @@ fn run_arguments<
             handles,
             found.get_str("FILE").unwrap_or(""),
             found.get_one::<u16>("port").unwrap_or(0),
-            found.get_one::<u32>("connections").unwrap_or(1),
+            limits_in(found),
         )),
         _ => Ok(BAD_ARGUMENTS),
+    }
+}
+
+/// What the arguments of `serve` say of connections.
+fn limits_in(found: &ArgMatches<'_>) -> Limits {
+    Limits {
+        connections: found.get_one::<u32>("connections").unwrap_or(1),
+        keep_serving: found.get_flag("keep-serving"),
+        idle_seconds: found.get_one::<u32>("idle").unwrap_or(0),
     }
 }
 
@@ -106,16 +126,28 @@ fn serve_command<'a>(alloc: Global) -> Result<Command<'a>, AllocError> {
     let connections = Arg::new(alloc, "connections")
         .long("connections")
         .value_name("N")
-        .help("How many connections to serve, 1 to 64")
+        .help("How many connections to serve, or with --keep-serving how many at a time, 1 to 64")
         .default_value("1")
         .value_parser(clap::value_parser!(u32).range(1..=64));
+    let keep_serving = Arg::new(alloc, "keep-serving")
+        .long("keep-serving")
+        .help("Serves further connections until standard input ends")
+        .action(ArgAction::SetTrue);
+    let idle = Arg::new(alloc, "idle")
+        .long("idle")
+        .value_name("SECONDS")
+        .help("Closes a connection that neither sends nor reads for so long; 0 for never")
+        .default_value("0")
+        .value_parser(clap::value_parser!(u32));
     with_file(
         alloc,
         "serve",
         "Answers control lines, lines of JSON, on connections to a port of 127.0.0.1",
     )?
     .arg(port)?
-    .arg(connections)
+    .arg(connections)?
+    .arg(keep_serving)?
+    .arg(idle)
 }
 
 /// A subcommand over a settings file.
@@ -157,16 +189,26 @@ fn run_path(rt: &HostRuntime, path: &str) -> u8 {
 }
 
 /// Serves connections to the port under the settings of the file.
-fn serve_path<
-    R: Net<Listener = TcpListener, Stream = TcpStream> + Threads + Wait + Clock + Print + Sync,
->(rt: &HostRuntime, handles: &R, path: &str, port: u16, connections: u32) -> u8 {
+fn serve_path<R>(rt: &HostRuntime, handles: &R, path: &str, port: u16, limits: Limits) -> u8
+where
+    R: Net<Listener = TcpListener, Stream = TcpStream>
+        + Threads
+        + Wait
+        + Clock
+        + Input
+        + Print
+        + Copy
+        + Send
+        + Sync
+        + 'static,
+{
     match fs::read(rt, path) {
         Ok(settings) => serve::serve_file(
             handles,
             rt.alloc(),
             settings.as_slice(),
             port,
-            connections,
+            limits,
             rt.stderr(),
         ),
         Err(error) => unreadable(&mut rt.stderr(), &error),

@@ -49,3 +49,11 @@ pub fn network<E: Write>(errors: &mut E) -> u8
     let _ = writeln!(errors, "fault: network");
     FAULT
 }
+
+/// Of a thread that can't be started.
+pub fn thread<E: Write>(errors: &mut E) -> u8
+    ensures { result ≡ 3 }
+{
+    let _ = writeln!(errors, "fault: thread");
+    FAULT
+}

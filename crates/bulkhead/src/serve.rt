@@ -5,68 +5,143 @@ ghost use Rattle.bulkhead.specs.SettingsFile.{settings_in};
 
 use crate::report;
 use crate::settings_file::settings_in;
-use bh_lines::PortError;
-use bh_props::Settings;
-use bh_serve::serve_on;
+use bh_props::{Settings, SettingsError};
+use bh_serve::{Gate, Limits, serve_through};
 use std::alloc::Global;
-use std::io::Write;
-use std::net::{Ipv4Addr, Net, TcpListener, TcpStream};
+use std::io::{Read, Write};
+use std::net::{Ipv4Addr, Net, SocketAddr, TcpListener, TcpStream};
 use std::rt::Clock;
-use std::sync::{Mutex, Wait};
-use std::thread::Threads;
+use std::sync::{Arc, Mutex, Wait};
+use std::thread::{JoinHandle, Threads};
+use std::{io, thread};
 
-/// Serves so many connections to a port of 127.0.0.1 under the settings, and answers the exit status.
+/// Serves connections to a port of 127.0.0.1 under the settings, as many as the limits say, and answers the exit status.
+/// Where it keeps serving, it is told to stop by the end of standard input.
 ///
-/// - 0: the connections were served.
+/// - 0: the connections were served, or standard input ended.
 /// - 1: the settings are refused, and no port was bound.
-/// - 3: the port could not be bound, or a fault of the service, as `serve_on` has them.
+/// - 3: the port could not be bound, or a fault of the service, as `serve_through` has them.
 ///
-/// With 1 and 3 a line on `errors` says why. Once the port is bound, the line `listening` with its number is printed.
+/// With 1 and 3 a line on `errors` says why. Once the threads of the service stand, the line `listening` with the port's
+/// number is printed.
 pub fn serve_file<R, E: Write + Send + Drop>(
     rt: &R,
     alloc: Global,
     settings: &[u8],
     port: u16,
-    connections: u32,
+    limits: Limits,
     mut errors: E,
 ) -> u8
 where
-    R: Net<Listener = TcpListener, Stream = TcpStream> + Threads + Wait + Clock + Print + Sync,
+    R: Net<Listener = TcpListener, Stream = TcpStream>
+        + Threads
+        + Wait
+        + Clock
+        + Input
+        + Print
+        + Copy
+        + Send
+        + Sync
+        + 'static,
     ensures status { (result ≡ 0) ⊎ ((result ≡ 1) ⊎ (result ≡ 3)) }
     ensures refused_only { result ≡ 1 → IsErr (settings_in settings.now) }
     ensures refused { IsErr (settings_in settings.now) → (result ≡ 1) ⊎ (result ≡ 3) }
 {
     match settings_in(alloc, settings) {
-        Ok(settings) => serve_port(rt, alloc, &settings, port, connections, errors),
+        Ok(settings) => serve_port(rt, alloc, &settings, port, limits, errors),
         Err(error) => report::settings(&mut errors, error),
     }
 }
 
-/// Binds the port, says so, and serves the connections to it.
+/// Binds the port, and serves the connections to it.
 fn serve_port<R, E: Write + Send + Drop>(
     rt: &R,
     alloc: Global,
     settings: &Settings,
     port: u16,
-    connections: u32,
+    limits: Limits,
     mut errors: E,
 ) -> u8
 where
-    R: Net<Listener = TcpListener, Stream = TcpStream> + Threads + Wait + Clock + Print + Sync,
+    R: Net<Listener = TcpListener, Stream = TcpStream>
+        + Threads
+        + Wait
+        + Clock
+        + Input
+        + Print
+        + Copy
+        + Send
+        + Sync
+        + 'static,
     ensures { (result ≡ 0) ⊎ (result ≡ 3) }
 {
     let Ok(listener) = TcpListener::bind(rt, (Ipv4Addr::LOCALHOST, port)) else {
         return report::network(&mut errors);
     };
-    if println!(rt; "listening {port}").is_err() {
-        return report::port(&mut errors, PortError::Write);
-    }
-    serve_on(
+    let Ok(address) = listener.local_addr() else {
+        return report::network(&mut errors);
+    };
+    let Some(gate) = shared_gate(alloc, limits) else {
+        return report::settings(&mut errors, SettingsError::Memory);
+    };
+    let watcher = if limits.keep_serving {
+        let Some(watcher) = start_watcher(rt, &gate, address) else {
+            return report::thread(&mut errors);
+        };
+        Some(watcher)
+    } else {
+        None
+    };
+    let errors = Mutex::new(errors);
+    let mut output = io::writer(rt);
+    let status = serve_through(rt, alloc, &gate, &listener, settings, &mut output, &errors);
+    join_if_told(rt, &gate, watcher);
+    status
+}
+
+/// The gate of the service, which the watcher of standard input shares.
+fn shared_gate(alloc: Global, limits: Limits) -> Option<Arc<Gate, Global>> {
+    let gate = Gate::new(alloc, limits).ok()?;
+    Arc::new(alloc, gate).ok()
+}
+
+/// Starts the thread that tells the service to stop at the end of standard input.
+fn start_watcher<R>(rt: &R, gate: &Arc<Gate, Global>, address: SocketAddr) -> Option<JoinHandle<()>>
+where
+    R: Net + Threads + Wait + Clock + Input + Copy + Send + 'static,
+{
+    let gate = Arc::try_clone(gate).ok()?;
+    let handles = *rt;
+    thread::spawn(
         rt,
-        alloc,
-        &listener,
-        connections,
-        settings,
-        &Mutex::new(errors),
+        move || watch(&handles, &mut handles.reader(), &gate, address),
     )
+    .ok()
+}
+
+/// Waits for the watcher, where standard input has ended. Where a fault ended the service, it may still wait for that
+/// end, and the end of the program cuts it off.
+fn join_if_told<R: Threads + Wait>(rt: &R, gate: &Gate, watcher: Option<JoinHandle<()>>) {
+    if let Some(watcher) = watcher
+        && gate.was_told(rt)
+    {
+        watcher.join(rt);
+    }
+}
+
+/// Reads the input to its end, and tells the service to stop then. An input that fails has ended.
+pub fn watch<R: Net + Wait + Clock, I: Read>(
+    rt: &R,
+    input: &mut I,
+    gate: &Gate,
+    address: SocketAddr,
+) {
+    let mut ignored = [0u8; 256];
+    for _ in 0..u64::MAX {
+        match input.read(&mut ignored) {
+            Ok(0) | Err(_) => break,
+            Ok(_) => {}
+        }
+    }
+    gate.tell(rt, address);
 }

@@ -4,6 +4,8 @@ mod arguments;
 mod faults;
 mod operations;
 mod serve;
+mod serve_clients;
+mod serve_gate;
 mod settings;
 mod streams;
 

@@ -25,10 +25,14 @@ fn assert_status<
         + Threads
         + Wait
         + Clock
+        + Input
         + Print
+        + Copy
+        + Send
         + Sync
         + Abort
-        + AllocGlobal,
+        + AllocGlobal
+        + 'static,
 >(rt: &HostRuntime, handles: &R, line: &str, status: u8) {
     let arguments = arguments(handles, line);
     let answered = run_arguments(rt, handles, arguments.as_slice()).expect(handles, "memory");
@@ -44,7 +48,11 @@ bulkhead serve settings.toml
 bulkhead serve settings.toml --port 0
 bulkhead serve settings.toml --port 65536
 bulkhead serve settings.toml --port 1 --connections 0
-bulkhead serve settings.toml --port 1 --connections 65";
+bulkhead serve settings.toml --port 1 --connections 65
+bulkhead serve settings.toml --port 1 --keep-serving 8
+bulkhead serve settings.toml --port 1 --idle
+bulkhead serve settings.toml --port 1 --idle -1
+bulkhead serve settings.toml --port 1 --idle soon";
 
 #[test]
 fn refused_arguments_leave_status_2(rt: HostRuntime) {

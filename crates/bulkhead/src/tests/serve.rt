@@ -12,7 +12,7 @@ use std::thread;
 use std::thread::Threads;
 
 /// The settings of a service of two groups.
-const TWO_GROUPS: &str = r#"
+pub(super) const TWO_GROUPS: &str = r#"
 service.groups = ["a", "b"]
 hystrix.command.a.execution.isolation.thread.timeoutInMilliseconds = 300
 hystrix.command.b.execution.isolation.strategy = "SEMAPHORE"
@@ -42,12 +42,14 @@ fn serve<R: Threads + Wait + Clock + AllocGlobal + Sync>(
 }
 
 /// A listener on a free port of this machine.
-fn listen<R: Net<Listener = TcpListener, Stream = TcpStream> + Abort>(rt: &R) -> TcpListener {
+pub(super) fn listen<R: Net<Listener = TcpListener, Stream = TcpStream> + Abort>(
+    rt: &R,
+) -> TcpListener {
     TcpListener::bind(rt, "127.0.0.1:0").expect(rt, "a port is free")
 }
 
 /// A connection to the listener.
-fn connect<R: Net<Listener = TcpListener, Stream = TcpStream> + Abort>(
+pub(super) fn connect<R: Net<Listener = TcpListener, Stream = TcpStream> + Abort>(
     rt: &R,
     addr: SocketAddr,
 ) -> TcpStream {
@@ -55,7 +57,7 @@ fn connect<R: Net<Listener = TcpListener, Stream = TcpStream> + Abort>(
 }
 
 /// Writes the bytes to the connection.
-fn say(rt: &impl Abort, mut stream: &TcpStream, bytes: &[u8]) {
+pub(super) fn say(rt: &impl Abort, mut stream: &TcpStream, bytes: &[u8]) {
     stream.write_all(bytes).expect(rt, "the service reads");
 }
 
@@ -67,7 +69,7 @@ fn hear_byte(rt: &impl Abort, mut stream: &TcpStream) -> Option<u8> {
 }
 
 /// The next line that the service wrote.
-fn hear(rt: &(impl Abort + AllocGlobal), stream: &TcpStream) -> Vec<u8> {
+pub(super) fn hear(rt: &(impl Abort + AllocGlobal), stream: &TcpStream) -> Vec<u8> {
     let mut line = Vec::new(rt.alloc());
     for _ in 0..4096 {
         let Some(byte) = hear_byte(rt, stream) else {
@@ -82,12 +84,22 @@ fn hear(rt: &(impl Abort + AllocGlobal), stream: &TcpStream) -> Vec<u8> {
 }
 
 /// Asserts the next line that the service wrote.
-fn assert_heard(rt: &(impl Abort + AllocGlobal), stream: &TcpStream, want: &str, at: &str) {
+pub(super) fn assert_heard(
+    rt: &(impl Abort + AllocGlobal),
+    stream: &TcpStream,
+    want: &str,
+    at: &str,
+) {
     assert_bytes(rt, &hear(rt, stream), want, at);
 }
 
 /// Sends a line, and asserts the line that answers it.
-fn assert_reply(rt: &(impl Abort + AllocGlobal), stream: &TcpStream, line: &str, reply: &str) {
+pub(super) fn assert_reply(
+    rt: &(impl Abort + AllocGlobal),
+    stream: &TcpStream,
+    line: &str,
+    reply: &str,
+) {
     say(rt, stream, line.as_bytes());
     say(rt, stream, b"\n");
     let want = format!(in rt.alloc(); "{reply}\n").expect(rt, "memory");
@@ -95,7 +107,7 @@ fn assert_reply(rt: &(impl Abort + AllocGlobal), stream: &TcpStream, line: &str,
 }
 
 /// Calls a group with an argument, and asserts the line that answers it.
-fn assert_call(
+pub(super) fn assert_call(
     rt: &(impl Abort + AllocGlobal),
     stream: &TcpStream,
     group: &str,
@@ -312,14 +324,4 @@ fn connections_that_call_at_once_get_their_own_answers(rt: HostRuntime) {
 #[test]
 fn a_connection_that_breaks_off_ends_alone(rt: HostRuntime) {
     assert_served(&rt, TWO_GROUPS, 5, Talk::BrokenOff, "fault: line\n");
-}
-
-#[test]
-fn a_connection_that_cannot_be_accepted_ends_the_service(rt: HostRuntime) {
-    let listener = listen(&rt);
-    listener.set_nonblocking(true).expect(&rt, "a mode");
-    let errors = Mutex::new(Vec::new(rt.alloc()));
-    let status = serve(&rt, TWO_GROUPS, &listener, 1, &errors);
-    assert_end(&rt, status, 3);
-    assert_bytes(&rt, &errors.into_inner(), "fault: network\n", "the errors");
 }

@@ -1,0 +1,62 @@
+#!/bin/bash
+# Prints what calls over four connections take alone, and beside 60 connections of clients that are silent, slow or
+# broken (hostile_client.c): calls a second, median (p50) and 99th percentile (p99).
+#
+#   bench/hostile.sh [-n CALLS] [-g GROUPS] [-i IDLE] [-p PORT] [PROGRAM]
+#
+# IDLE is after how many seconds the service closes a connection that does nothing. PROGRAM is proved and built where
+# none is given.
+set -euo pipefail
+
+here=$(cd "$(dirname "$0")" && pwd)
+calls=40000 groups=16 idle=2 port=7413
+while getopts n:g:i:p: option; do
+    case $option in
+    n) calls=$OPTARG ;;
+    g) groups=$OPTARG ;;
+    i) idle=$OPTARG ;;
+    p) port=$OPTARG ;;
+    *) exit 2 ;;
+    esac
+done
+shift $((OPTIND - 1))
+program=${1:-$here/../crates/bulkhead/out/bulkhead}
+. "$here/service.sh"
+hostile=
+trap 'end_hostile; end_service; rm -r "$work"' EXIT
+
+end_hostile() {
+    [ -z "$hostile" ] || kill "$hostile" 2>/dev/null || true
+    hostile=
+}
+
+if [ $# -eq 0 ]; then
+    (cd "$here/../crates/bulkhead" && rt run -- --help >"$work/build" 2>&1) || { cat "$work/build"; exit 1; }
+fi
+cc -O2 -o "$work/client" "$here/serve_client.c"
+cc -O2 -o "$work/hostile" "$here/hostile_client.c"
+list_settings "$groups" "" >"$work/settings.toml"
+
+# Prints the figures of four connections.
+call_four() {
+    "$work/client" "$port" 4 "$calls" "$groups" "$service" | {
+        read -r rate p50 p99 switches busy
+        printf '%s: %7.0f calls a second, p50 %.3f ms, p99 %.3f ms\n' "$1" "$rate" "$p50" "$p99"
+    }
+}
+
+# The service goes on until its standard input is closed, of which nobody else keeps the writing end open.
+mkfifo "$work/input"
+exec 4<>"$work/input"
+start "$program" --connections 64 --keep-serving --idle "$idle" <"$work/input" 4>&- 2>"$work/errors"
+exec 5>"$work/input" 4>&-
+call_four "4 connections alone"
+"$work/hostile" "$port" 60 >"$work/connected" &
+hostile=$!
+within_ten_seconds grep -qs connected "$work/connected"
+sleep 1
+call_four "4 connections beside 60"
+end_hostile
+exec 5>&-
+await_end
+echo "the service reported: $(sort "$work/errors" | uniq -c | tr -s ' \n' ' ')"

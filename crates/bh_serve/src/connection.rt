@@ -1,0 +1,156 @@
+//! One connection: what it reads and writes, and why it ends.
+
+ghost use Rattle.std.specs.Prelude.{◌≡◌, if◌then◌else◌};
+
+use bh_lines::PortError;
+use std::io;
+use std::io::{ErrorKind, Read, Write};
+use std::net::TcpStream;
+use thiserror::Error;
+
+/// Why a connection ended before its client ended it.
+#[derive(Clone, Copy, Debug, PartialEq, Eq, Error)]
+pub enum ConnectionFault {
+    /// It neither sent nor read for as long as a connection may.
+    #[error("fault: idle")]
+    Idle,
+    /// Its conversation could not go on.
+    #[error("{0}")]
+    Port(PortError),
+}
+
+/// What ended a conversation, of which is known whether a read or a write waited in vain.
+pub(crate) fn fault_of(error: PortError, waited_in_vain: bool) -> ConnectionFault
+    ensures { result ≡ (if waited_in_vain then ConnectionFault.Idle else ConnectionFault.Port error) }
+{
+    if waited_in_vain {
+        ConnectionFault::Idle
+    } else {
+        ConnectionFault::Port(error)
+    }
+}
+
+/// How many connections ended by each fault. It takes no memory, however many they are.
+#[derive(Drop)]
+pub(crate) struct FaultCounts {
+    idle: u64,
+    read: u64,
+    write: u64,
+    line: u64,
+    memory: u64,
+}
+
+impl FaultCounts {
+    /// No fault.
+    pub(crate) fn none() -> FaultCounts {
+        FaultCounts {
+            idle: 0,
+            read: 0,
+            write: 0,
+            line: 0,
+            memory: 0,
+        }
+    }
+
+    /// Whether there is a fault.
+    pub(crate) fn is_some(&self) -> bool {
+        self.idle > 0 || self.read > 0 || self.write > 0 || self.line > 0 || self.memory > 0
+    }
+
+    /// Counts one more.
+    pub(crate) fn add(&mut self, fault: ConnectionFault) {
+        let count = self.count_of(fault);
+        *count = count.saturating_add(1);
+    }
+
+    /// Takes one of the faults.
+    pub(crate) fn take(&mut self) -> Option<ConnectionFault> {
+        let fault = self.first()?;
+        let count = self.count_of(fault);
+        *count = count.saturating_sub(1);
+        Some(fault)
+    }
+
+    /// One of the faults.
+    fn first(&self) -> Option<ConnectionFault> {
+        let counted = [
+            (self.idle, ConnectionFault::Idle),
+            (self.read, ConnectionFault::Port(PortError::Read)),
+            (self.write, ConnectionFault::Port(PortError::Write)),
+            (self.line, ConnectionFault::Port(PortError::Line)),
+            (self.memory, ConnectionFault::Port(PortError::Memory)),
+        ];
+        for (count, fault) in &counted {
+            if *count > 0 {
+                return Some(*fault);
+            }
+        }
+        None
+    }
+
+    /// The count of a fault.
+    fn count_of(&mut self, fault: ConnectionFault) -> &mut u64 {
+        match fault {
+            ConnectionFault::Idle => &mut self.idle,
+            ConnectionFault::Port(PortError::Read) => &mut self.read,
+            ConnectionFault::Port(PortError::Write) => &mut self.write,
+            ConnectionFault::Port(PortError::Line) => &mut self.line,
+            ConnectionFault::Port(PortError::Memory) => &mut self.memory,
+        }
+    }
+}
+
+/// One direction of a connection: its reads or its writes. It notes where one waited in vain, for as long as the stream
+/// lets it.
+#[derive(Drop)]
+pub(crate) struct Direction<'e> {
+    stream: &'e TcpStream,
+    waited_in_vain: bool,
+}
+
+impl<'e> Direction<'e> {
+    /// A direction of the connection, of which nothing was tried yet.
+    pub(crate) fn new(stream: &'e TcpStream) -> Direction<'e> {
+        Direction {
+            stream,
+            waited_in_vain: false,
+        }
+    }
+
+    /// Whether a read or a write waited in vain.
+    pub(crate) fn waited_in_vain(&self) -> bool {
+        self.waited_in_vain
+    }
+
+    /// Notes how a read or a write ended.
+    fn note(&mut self, outcome: &io::Result<usize>) {
+        if let Err(error) = outcome {
+            self.waited_in_vain |= matches!(
+                error.kind(),
+                ErrorKind::WouldBlock | ErrorKind::TimedOut
+            );
+        }
+    }
+}
+
+impl Read for Direction<'_> {
+    fn read(&mut self, buf: &mut [u8]) -> io::Result<usize> {
+        let mut stream = self.stream;
+        let outcome = stream.read(buf);
+        self.note(&outcome);
+        outcome
+    }
+}
+
+impl Write for Direction<'_> {
+    fn write(&mut self, buf: &[u8]) -> io::Result<usize> {
+        let mut stream = self.stream;
+        let outcome = stream.write(buf);
+        self.note(&outcome);
+        outcome
+    }
+
+    fn flush(&mut self) -> io::Result<()> {
+        Ok(())
+    }
+}

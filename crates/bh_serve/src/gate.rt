@@ -1,0 +1,326 @@
+//! The gate of a service: it lets connections in, and knows which are open.
+
+use crate::accepting::{AcceptFault, if_passing};
+use crate::connection::{ConnectionFault, FaultCounts};
+use crate::serve::ServeError;
+use std::alloc::{AllocError, Global};
+use std::net::{Net, OpenListener, Shutdown, SocketAddr, TcpStream};
+use std::rt::Clock;
+use std::sync::{Arc, Condvar, Mutex, MutexGuard, Wait};
+use std::thread;
+use std::time::Duration;
+
+/// So many connections at most are open at a time.
+pub const MOST_OPEN: u32 = 64;
+
+/// Between two tries to accept a connection, in milliseconds.
+const RETRY: u64 = 10;
+
+/// How long a service that is told to stop waits for its connections to end before it cuts them off, in milliseconds.
+const GRACE: u64 = 1000;
+
+/// How many connections a service has, and how long they may do nothing.
+#[derive(Clone, Copy, Debug, PartialEq, Eq)]
+pub struct Limits {
+    /// How many connections are served in all, or, where the service keeps serving, at a time. Of more than
+    /// `MOST_OPEN` so many are open at a time.
+    pub connections: u32,
+    /// Whether further connections are served until the service is told to stop.
+    pub keep_serving: bool,
+    /// How many seconds a connection may neither send nor read; 0 for any time.
+    pub idle_seconds: u32,
+}
+
+/// Why a service ends before all its connections have.
+#[derive(Clone, Copy)]
+pub(crate) enum End {
+    /// It was told to stop.
+    Told,
+    /// A fault.
+    Fault(ServeError),
+}
+
+/// What a service has to see to.
+pub(crate) enum Event {
+    /// A connection ended by a fault, which is to be told.
+    Fault(ConnectionFault),
+    /// The service is to end.
+    End(End),
+    /// The threads of all seats have ended.
+    Over,
+}
+
+/// Lets connections in until so many have come, the service is told to stop, or a fault ends it.
+///
+/// Each connection is served on a seat, of which there are as many as connections may be open at a time.
+#[derive(Drop)]
+pub struct Gate {
+    /// Whoever has it may accept the next connection.
+    turn: Mutex<()>,
+    inside: Mutex<Inside>,
+    changed: Condvar,
+    seats: u32,
+    idle_seconds: u32,
+}
+
+/// What is known of the connections of a service.
+#[derive(Drop)]
+struct Inside {
+    /// How many connections may still come; where there is no number, any.
+    left: Option<u32>,
+    /// How many seats there are threads for.
+    seated: u32,
+    /// Whether a thread waits for a connection.
+    accepting: bool,
+    end: Option<End>,
+    /// The faults of connections that were not told yet.
+    faults: FaultCounts,
+    /// The connection on each seat.
+    open: Vec<Option<Arc<TcpStream, Global>>>,
+}
+
+impl Inside {
+    /// Whether no further connection is let in.
+    fn is_over(&self) -> bool {
+        self.end.is_some() || self.left == Some(0)
+    }
+
+    /// Whether there is something to see to in a service that has ended, or has not.
+    fn has_event(&self, ended: bool) -> bool {
+        self.seated == 0 || self.faults.is_some() || (self.end.is_some() && !ended)
+    }
+
+    /// Counts a connection that is let in.
+    fn count(&mut self) {
+        self.left = self.left.map(|left| left.saturating_sub(1));
+    }
+}
+
+impl Gate {
+    /// The gate of one service.
+    pub fn new(alloc: Global, limits: Limits) -> Result<Gate, AllocError> {
+        let seats = limits.connections.min(MOST_OPEN);
+        let mut open = Vec::new(alloc);
+        for _ in 0..seats {
+            open.push(None)?;
+        }
+        let left = if limits.keep_serving {
+            None
+        } else {
+            Some(limits.connections)
+        };
+        Ok(Gate {
+            turn: Mutex::new(()),
+            inside: Mutex::new(Inside {
+                left,
+                seated: 0,
+                accepting: false,
+                end: None,
+                faults: FaultCounts::none(),
+                open,
+            }),
+            changed: Condvar::new(),
+            seats,
+            idle_seconds: limits.idle_seconds,
+        })
+    }
+
+    /// Tells the service to stop, and returns once it accepts nothing more. The address is its listener's: a thread
+    /// that waits for a connection there is woken by one.
+    ///
+    /// Calls that wait are answered as stopped. What a connection had sent is answered, and then it is closed; one
+    /// that has not ended within a second is cut off.
+    pub fn tell<R: Net + Wait + Clock>(&self, rt: &R, address: SocketAddr) {
+        self.end(rt, End::Told);
+        for _ in rt.forever() {
+            if !self.inside.lock(rt).accepting {
+                break;
+            }
+            let _ = TcpStream::connect_timeout(rt, &address, Duration::from_millis(RETRY));
+            thread::sleep(rt, Duration::from_millis(RETRY));
+        }
+    }
+
+    /// Whether the service ends because it was told to.
+    pub fn was_told<R: Wait>(&self, rt: &R) -> bool {
+        matches!(self.inside.lock(rt).end, Some(End::Told))
+    }
+
+    /// How many connections may be open at a time.
+    pub(crate) fn seats(&self) -> u32 {
+        self.seats
+    }
+
+    /// How long a connection may neither send nor read, where there is a limit.
+    pub(crate) fn idle(&self) -> Option<Duration> {
+        if self.idle_seconds == 0 {
+            return None;
+        }
+        Some(Duration::from_secs(u64::from(self.idle_seconds)))
+    }
+
+    /// Holds the gate shut.
+    pub(crate) fn hold<R: Wait>(&self, rt: &R) -> MutexGuard<'_, ()> {
+        self.turn.lock(rt)
+    }
+
+    /// Ends the service, unless it has been ended.
+    pub(crate) fn end<R: Wait>(&self, rt: &R, end: End) {
+        let mut inside = self.inside.lock(rt);
+        if inside.end.is_none() {
+            inside.end = Some(end);
+            self.changed.notify_all();
+        }
+    }
+
+    /// Waits for what is next to see to. Where the service has ended, that is not told again.
+    pub(crate) fn next_event<R: Wait>(&self, rt: &R, ended: bool) -> Event {
+        let mut inside = self.changed.wait_while(
+            rt,
+            self.inside.lock(rt),
+            |inside| !inside.has_event(ended),
+        );
+        let inside = &mut *inside;
+        if let Some(fault) = inside.faults.take() {
+            return Event::Fault(fault);
+        }
+        match inside.end {
+            Some(end) if !ended => Event::End(end),
+            _ => Event::Over,
+        }
+    }
+
+    /// Notes the fault of a connection, which is told when its turn comes: whoever notes it waits for nobody.
+    pub(crate) fn note<R: Wait>(&self, rt: &R, fault: ConnectionFault) {
+        let mut inside = self.inside.lock(rt);
+        inside.faults.add(fault);
+        self.changed.notify_all();
+    }
+
+    /// A thread is about to be started for one more seat.
+    pub(crate) fn sit<R: Wait>(&self, rt: &R) {
+        let mut inside = self.inside.lock(rt);
+        inside.seated = inside.seated.saturating_add(1);
+    }
+
+    /// The thread of a seat has ended, or was not started.
+    pub(crate) fn rise<R: Wait>(&self, rt: &R) {
+        let mut inside = self.inside.lock(rt);
+        inside.seated = inside.seated.saturating_sub(1);
+        self.changed.notify_all();
+    }
+
+    /// Waits for the next connection, in turn. None where none is let in any more.
+    ///
+    /// A failure to accept that passes by itself is waited out, and another one is the error.
+    pub(crate) fn let_in<R: Wait + Clock, L: OpenListener<Stream = TcpStream>>(
+        &self,
+        rt: &R,
+        listener: &L,
+    ) -> Result<Option<TcpStream>, AcceptFault> {
+        let _turn = self.turn.lock(rt);
+        if !self.begin_accepting(rt) {
+            return Ok(None);
+        }
+        let accepted = self.accept(rt, listener);
+        let let_in = self.end_accepting(rt, accepted.is_ok());
+        let stream = accepted?;
+        Ok(if let_in { stream } else { None })
+    }
+
+    /// Notes that a thread waits for a connection, unless none is let in any more.
+    fn begin_accepting<R: Wait>(&self, rt: &R) -> bool {
+        let mut inside = self.inside.lock(rt);
+        let accepting = !inside.is_over();
+        inside.accepting = accepting;
+        accepting
+    }
+
+    /// Notes that it waits no more. Whether the connection that came, if one did, is let in.
+    fn end_accepting<R: Wait>(&self, rt: &R, came: bool) -> bool {
+        let mut inside = self.inside.lock(rt);
+        inside.accepting = false;
+        let let_in = came && !inside.is_over();
+        if let_in {
+            inside.count();
+        }
+        let_in
+    }
+
+    /// Accepts one connection. None where the gate is shut meanwhile.
+    fn accept<R: Wait + Clock, L: OpenListener<Stream = TcpStream>>(
+        &self,
+        rt: &R,
+        listener: &L,
+    ) -> Result<Option<TcpStream>, AcceptFault> {
+        for _ in rt.forever() {
+            match listener.accept() {
+                Ok((stream, _from)) => return Ok(Some(stream)),
+                Err(error) => if_passing(error)?,
+            }
+            if self.inside.lock(rt).is_over() {
+                return Ok(None);
+            }
+            thread::sleep(rt, Duration::from_millis(RETRY));
+        }
+        unreachable!()
+    }
+
+    /// Puts a connection on a seat. False where the service was told to stop.
+    pub(crate) fn enter<R: Wait>(
+        &self,
+        rt: &R,
+        seat: usize,
+        stream: &Arc<TcpStream, Global>,
+    ) -> bool {
+        let mut inside = self.inside.lock(rt);
+        if matches!(inside.end, Some(End::Told)) {
+            return false;
+        }
+        let inside = &mut *inside;
+        match (inside.open.get_mut(seat), Arc::try_clone(stream)) {
+            (Some(place), Ok(stream)) => {
+                *place = Some(stream);
+                true
+            }
+            _ => false,
+        }
+    }
+
+    /// Takes the connection off its seat.
+    pub(crate) fn leave<R: Wait>(&self, rt: &R, seat: usize) {
+        let mut inside = self.inside.lock(rt);
+        let inside = &mut *inside;
+        if let Some(place) = inside.open.get_mut(seat) {
+            *place = None;
+        }
+    }
+
+    /// Closes the connections of a service that was told to stop: no more is read of them, and those that have not
+    /// ended a while later are cut off.
+    pub(crate) fn close<R: Wait + Clock>(&self, rt: &R) {
+        self.shut(rt, Shutdown::Read);
+        self.wait_until_left(rt);
+        self.shut(rt, Shutdown::Both);
+    }
+
+    /// Shuts the open connections.
+    fn shut<R: Wait>(&self, rt: &R, how: Shutdown) {
+        let inside = self.inside.lock(rt);
+        for place in &inside.open {
+            if let Some(stream) = place {
+                let _ = stream.shutdown(how);
+            }
+        }
+    }
+
+    /// Waits a while for the threads of the seats to end.
+    fn wait_until_left<R: Wait + Clock>(&self, rt: &R) {
+        let _ = self.changed.wait_timeout_while(
+            rt,
+            self.inside.lock(rt),
+            Duration::from_millis(GRACE),
+            |inside| inside.seated > 0,
+        );
+    }
+}
