@@ -111,14 +111,17 @@ holds-broken who w0 w1 w2 all rest next held later e holds front is =
 -- the next line is refused, or memory for it
 pub holds-refused : (who : Responder) (w0 w1 : Option (List ℕ)) (all mid new held : List ℕ) (e : PortError)
     → HoldsUpTo who w0 w1 all (λ more. cut (mid ++ more)) held → TakesAsked who.names mid (Err e) new → LinesOutcome who w0 w1 all (Err e) new held
-holds-refused who w0 w1 all mid new held Line holds taken =
-    (holds.0, holds.1, record {
-      lines = holds.2.lines;
-      out = holds.2.out;
-      each = holds.2.each;
-      wrote = holds.2.wrote;
-      cut_is = λ more. holds.2.cut_is more ∙ ap (λ c. lines_then holds.2.lines (lines_then holds.0 c)) (taken more);
-    })
+holds-refused who w0 w1 all mid new held Line holds taken = (
+  holds.0,
+  holds.1,
+  record {
+    lines = holds.2.lines;
+    out = holds.2.out;
+    each = holds.2.each;
+    wrote = holds.2.wrote;
+    cut_is = λ more. holds.2.cut_is more ∙ ap (λ c. lines_then holds.2.lines (lines_then holds.0 c)) (taken more);
+  },
+)
 holds-refused who w0 w1 all mid new held Memory holds taken = ((λ more. cut (mid ++ more)), holds)
 holds-refused who w0 w1 all mid new held Read holds taken = taken
 holds-refused who w0 w1 all mid new held Write holds taken = absurd taken

@@ -100,7 +100,7 @@ struct Session {
 }
 
 /// A session over the input, that comes so many bytes at a time.
-fn held_session(alloc: Global, input: &[u8], size: usize) -> Session {
+fn session_over(alloc: Global, input: &[u8], size: usize) -> Session {
     let written = Cell::new(0);
     let mut control = Witness {
         names: [text("a"), text("b")],
@@ -162,7 +162,10 @@ fn assert_calls_wait_for_answers<R: Abort + AllocGlobal>(rt: &R, session: &Sessi
     let between = before + CALL_REPLY.len();
     let last = between + CALL_REPLY.len() + METRICS_REPLY.len();
     assert_eq!(rt; session.bytes.as_slice(), want.as_bytes());
-    assert_eq!(rt; session.at_calls.as_slice(), [before, between, last].as_slice());
+    assert_eq!(rt;
+        session.at_calls.as_slice(),
+        [before, between, last].as_slice()
+    );
 }
 
 #[test]
@@ -171,14 +174,19 @@ fn answers_leave_before_the_next_call_is_made(rt: HostRuntime) {
     let want = joined(
         &rt,
         &[
-            GROUPS_REPLY, METRICS_REPLY, CALL_REPLY, CALL_REPLY, METRICS_REPLY, CALL_REPLY,
+            GROUPS_REPLY,
+            METRICS_REPLY,
+            CALL_REPLY,
+            CALL_REPLY,
+            METRICS_REPLY,
+            CALL_REPLY,
         ],
     );
-    let whole = held_session(rt.alloc(), input.as_str().as_bytes(), 4096);
+    let whole = session_over(rt.alloc(), input.as_str().as_bytes(), 4096);
     assert_eq!(rt; whole.end, Ok(()));
     assert_calls_wait_for_answers(&rt, &whole, want.as_str());
     assert_eq!(rt; whole.writes, 4);
-    let by_bytes = held_session(rt.alloc(), input.as_str().as_bytes(), 1);
+    let by_bytes = session_over(rt.alloc(), input.as_str().as_bytes(), 1);
     assert_eq!(rt; by_bytes.end, Ok(()));
     assert_calls_wait_for_answers(&rt, &by_bytes, want.as_str());
     assert_eq!(rt; by_bytes.writes, 6);
@@ -188,7 +196,7 @@ fn answers_leave_before_the_next_call_is_made(rt: HostRuntime) {
 fn answers_to_lines_that_do_not_wait_share_a_write(rt: HostRuntime) {
     let input = repeated(&rt, METRICS, 100);
     let want = repeated(&rt, METRICS_REPLY, 100);
-    let whole = held_session(rt.alloc(), input.as_str().as_bytes(), 4096);
+    let whole = session_over(rt.alloc(), input.as_str().as_bytes(), 4096);
     assert_eq!(rt; whole.bytes.as_slice(), want.as_str().as_bytes());
     assert_eq!(rt; whole.writes, 1);
 }
@@ -197,7 +205,7 @@ fn answers_to_lines_that_do_not_wait_share_a_write(rt: HostRuntime) {
 fn what_one_read_makes_is_written_in_parts(rt: HostRuntime) {
     let input = repeated(&rt, GROUPS, 256);
     let want = repeated(&rt, GROUPS_REPLY, 256);
-    let whole = held_session(rt.alloc(), input.as_str().as_bytes(), 4096);
+    let whole = session_over(rt.alloc(), input.as_str().as_bytes(), 4096);
     assert_eq!(rt; whole.bytes.as_slice(), want.as_str().as_bytes());
     assert_eq!(rt; whole.writes, 2);
     assert!(rt; whole.largest < 8192 + GROUPS_REPLY.len());
@@ -208,7 +216,7 @@ fn answers_before_a_refused_line_leave(rt: HostRuntime) {
     let long = repeated(&rt, "x", 1025);
     let input = joined(&rt, &[GROUPS, CALL, METRICS, long.as_str(), "\n", CALL]);
     let want = joined(&rt, &[GROUPS_REPLY, CALL_REPLY, METRICS_REPLY]);
-    let whole = held_session(rt.alloc(), input.as_str().as_bytes(), 4096);
+    let whole = session_over(rt.alloc(), input.as_str().as_bytes(), 4096);
     assert_eq!(rt; whole.end, Err(PortError::Line));
     assert_eq!(rt; whole.bytes.as_slice(), want.as_str().as_bytes());
     assert_eq!(rt; whole.at_calls.as_slice(), [GROUPS_REPLY.len()].as_slice());
