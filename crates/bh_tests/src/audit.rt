@@ -1,19 +1,16 @@
 //! A service that threads share, by its public calls: that memory is there, what the calls answer that no clause
-//! speaks of, and that a thread that waits is woken.
+//! speaks of.
 
 ghost use Rattle.std.specs.Prelude.{◌≤◌, ◌^◌};
 
-use crate::samples::{props, step};
+use crate::samples::{props, step, text};
 use crate::script::{assert_text, number, reply_text, split_line, split_word, step_of};
 use crate::services::{A, B, assert_end, service, share, three_groups, two_groups};
 use bh_audit::{Book, Clock, Next, Pass, PassError, Shared, StepError};
-use bh_base::{GroupId, GroupProps, Op, Reply, Strategy};
+use bh_base::{GroupId, GroupProps, Op, Reply, Request, Strategy, Text};
 use std::alloc::{AllocError, Global};
 use std::process::Abort;
 use std::sync::Wait;
-use std::sync::atomic::{AtomicU64, Ordering};
-use std::thread;
-use std::thread::Threads;
 
 /// Always says the same moment.
 #[derive(Drop)]
@@ -79,6 +76,30 @@ fn first_step_text(alloc: Global, pass: &Pass) -> Result<String, AllocError> {
     }
 }
 
+/// Stops the service.
+fn stop_text<R: Wait>(rt: &R, alloc: Global, shared: &Shared) -> Result<String, AllocError> {
+    shared.stop(rt);
+    format!(in alloc; "stopped")
+}
+
+/// What a request is answered that may join another of its argument.
+fn cached_text<R: Wait>(
+    rt: &R,
+    alloc: Global,
+    shared: &Shared,
+    pass: &mut Pass,
+    arg: &str,
+) -> Result<String, AllocError> {
+    let key = Text::new(arg).unwrap_or(text("x"));
+    let arg = Text::new(arg).unwrap_or(text("x"));
+    let request = Request {
+        cache: Some((0, key)),
+        arg,
+    };
+    let asked = step(pass.group().0, 0, &Op::Submit(request));
+    told_text(alloc, &shared.step(rt, pass, asked))
+}
+
 /// What a call says that is no step of the pass's own making.
 fn ask_shared<R: Wait>(
     rt: &R,
@@ -92,12 +113,14 @@ fn ask_shared<R: Wait>(
         "next" => next_text(alloc, &shared.next(rt, pass, &Still(number(rest)))),
         "due" => due_text(alloc, &shared.expire_due(rt, pass, &Still(number(rest)))),
         "await" => await_text(rt, alloc, shared, pass, rest),
+        "cached" => cached_text(rt, alloc, shared, pass, rest),
+        "stop" => stop_text(rt, alloc, shared),
         _ => look_text(alloc, pass, name),
     }
 }
 
 /// What the call of the words says: of a step, or of another call.
-fn ask<R: Wait>(
+pub(crate) fn ask<R: Wait>(
     rt: &R,
     alloc: Global,
     shared: &Shared,
@@ -111,7 +134,7 @@ fn ask<R: Wait>(
 }
 
 /// Asserts what is said to each line, which begins with the number of a pass.
-fn play<R: Abort + Wait + AllocGlobal>(
+pub(crate) fn play<R: Abort + Wait + AllocGlobal>(
     rt: &R,
     shared: &Shared,
     passes: &mut Vec<Pass>,
@@ -126,7 +149,7 @@ fn play<R: Abort + Wait + AllocGlobal>(
 }
 
 /// The passes of these groups, with room for so many receipts.
-fn take_passes<R: Abort + AllocGlobal>(
+pub(crate) fn take_passes<R: Abort + AllocGlobal>(
     rt: &R,
     shared: &Shared,
     wanted: &[(GroupId, u64)],
@@ -376,61 +399,4 @@ fn a_stopped_service_makes_no_one_wait(rt: HostRuntime) {
     assert!(rt; shared.stopped(&rt));
     play(&rt, &shared, &mut passes, AFTER_STOP);
     assert_end(&rt, shared, passes, "3 of 10, 0 of 10, stopped");
-}
-
-/// Lets the other thread begin, and gives it time to wait.
-fn give_way(begun: &AtomicU64) {
-    for _ in 0..1_000_000u32 {
-        if begun.load(Ordering::SeqCst) == 1 {
-            break;
-        }
-        thread::yield_now();
-    }
-    for _ in 0..1_000u32 {
-        thread::yield_now();
-    }
-}
-
-type Told = Result<Reply, StepError>;
-
-/// Waits for the answer of the first ticket, while another thread finishes its run.
-fn await_beside_finish<R: Threads + Wait + Sync>(
-    rt: &R,
-    shared: &Shared,
-    caller: &mut Pass,
-    worker: &mut Pass,
-) -> (Told, Told) {
-    let begun = AtomicU64::new(0);
-    let finish = step_of("0 1 finish 1 r").unwrap_or(step(0, 1, &Op::Read));
-    thread::join(
-        rt,
-        || {
-            begun.store(1, Ordering::SeqCst);
-            shared.await_answer(rt, caller, 1, &Still(0))
-        },
-        || {
-            give_way(&begun);
-            shared.step(rt, worker, finish)
-        },
-    )
-}
-
-fn assert_told<R: Abort + AllocGlobal>(rt: &R, told: &Told, want: &str) {
-    assert_text(rt, told_text(rt.alloc(), told), want, "the end");
-}
-
-#[test]
-fn the_step_that_answers_wakes_the_caller(rt: HostRuntime) {
-    let shared = audited(&rt, 10);
-    let mut callers = take_passes(&rt, &shared, &[(A, 5)]);
-    let mut workers = take_passes(&rt, &shared, &[(A, 5)]);
-    play(&rt, &shared, &mut callers, "0 0 0 submit x = Queued(1)");
-    play(&rt, &shared, &mut workers, "0 next 0 = Assigned(1 x)");
-    let caller = callers.get_mut(0).expect(&rt, "a pass");
-    let worker = workers.get_mut(0).expect(&rt, "a pass");
-    let (answered, done) = await_beside_finish(&rt, &shared, caller, worker);
-    assert_told(&rt, &done, "Done");
-    assert_told(&rt, &answered, "Value(r)");
-    workers.append(&mut callers).expect(&rt, "memory");
-    assert_end(&rt, shared, workers, "4 of 10, 0 of 10, running");
 }

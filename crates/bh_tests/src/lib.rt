@@ -11,6 +11,8 @@ mod audit;
 #[cfg(test)]
 mod audit_compare;
 #[cfg(test)]
+mod audit_receipts;
+#[cfg(test)]
 mod cache;
 #[cfg(test)]
 mod chains;
@@ -36,5 +38,13 @@ mod services;
 mod settings;
 #[cfg(test)]
 mod threads;
+#[cfg(test)]
+mod threads_gates;
+#[cfg(test)]
+mod threads_mixed;
+#[cfg(test)]
+mod threads_stress;
+#[cfg(test)]
+mod waking_threads;
 #[cfg(test)]
 mod workers;

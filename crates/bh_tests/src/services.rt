@@ -117,7 +117,10 @@ pub(crate) fn lists(alloc: Global, lines: &str) -> Option<Vec<RequestList>> {
     Some(lists)
 }
 
-fn answer_text(alloc: Global, answer: &Result<Answer, CallError>) -> Result<String, AllocError> {
+pub(crate) fn answer_text(
+    alloc: Global,
+    answer: &Result<Answer, CallError>,
+) -> Result<String, AllocError> {
     match answer {
         Ok(Answer::Value(body)) => format!(in alloc; "{}", body.as_str()),
         Ok(Answer::FallbackValue { cause, body }) => format!(in alloc;
@@ -216,13 +219,31 @@ fn answers_text(alloc: Global, driven: &Driven) -> Result<String, AllocError> {
     Ok(text)
 }
 
-/// Drives the lists, asserts their answers, and hands out the passes.
-pub(crate) fn assert_drive<
+/// For each group and number a list of so many equal requests.
+pub(crate) fn same_lists(alloc: Global, wanted: &[(GroupId, u64)]) -> Option<Vec<RequestList>> {
+    let mut lists = Vec::new(alloc);
+    for (group, number) in wanted {
+        let group = *group;
+        let requests = same_requests(alloc, *number)?;
+        lists.push(RequestList { group, requests }).ok()?;
+    }
+    Some(lists)
+}
+
+fn same_requests(alloc: Global, number: u64) -> Option<Vec<Request>> {
+    let mut requests = Vec::new(alloc);
+    for _ in 0..number {
+        requests.push(request("x")).ok()?;
+    }
+    Some(requests)
+}
+
+/// Drives the lists, with room for so many receipts in each pass.
+pub(crate) fn drive_lists<
     R: Threads + Wait + Sync + Abort + AllocGlobal,
     D: Dependency + Sync,
     C: Clock + Sync,
->(rt: &R, shared: &Shared, dependency: &D, clock: &C, asked: &str, want: &str) -> Vec<Pass> {
-    let lists = lists(rt.alloc(), asked).expect(rt, "memory");
+>(rt: &R, shared: &Shared, dependency: &D, clock: &C, lists: &[RequestList], room: u64) -> Driven {
     let driven = drive(
         rt,
         rt.alloc(),
@@ -230,12 +251,32 @@ pub(crate) fn assert_drive<
         dependency,
         clock,
         Steady,
-        lists.as_slice(),
-        100,
+        lists,
+        room,
     );
-    let driven = driven.expect(rt, "a drive");
+    driven.expect(rt, "a drive")
+}
+
+/// Drives the lists, asserts their answers, and hands out the passes.
+pub(crate) fn assert_drive<
+    R: Threads + Wait + Sync + Abort + AllocGlobal,
+    D: Dependency + Sync,
+    C: Clock + Sync,
+>(rt: &R, shared: &Shared, dependency: &D, clock: &C, asked: &str, want: &str) -> Vec<Pass> {
+    let lists = lists(rt.alloc(), asked).expect(rt, "memory");
+    let driven = drive_lists(rt, shared, dependency, clock, lists.as_slice(), 100);
     assert_text(rt, answers_text(rt.alloc(), &driven), want, asked);
     driven.passes
+}
+
+/// The service's account, which has to agree with the passes.
+pub(crate) fn report_of<R: Abort + AllocGlobal>(
+    rt: &R,
+    shared: Shared,
+    passes: Vec<Pass>,
+) -> AuditReport {
+    let report = shared.finish(rt.alloc(), passes).ok();
+    report.expect(rt, "the passes agree")
 }
 
 /// Asserts that the service's account agrees with the passes.

@@ -1,63 +1,39 @@
-//! Threads that wait for one another. Each gate gives up after many turns, and then its test fails.
+//! Threads that wait for one another: groups beside each other, workers of one group, and the timer.
 
 use crate::samples::props;
-use crate::script::assert_number;
-use crate::services::{
-    A, B, Steady, Still, add, assert_agreed, assert_drive, requests, service, share, success,
-    two_groups,
-};
-use bh_audit::{AuditReport, Clock, Shared};
-use bh_base::{Answer, CallError, Cause, FallbackEnd, GroupId, GroupProps, Moment, RunEnd, Text};
-use bh_workers::{Dependency, Driven, RequestList, drive};
-use std::alloc::Global;
+use crate::script::assert_text;
+use crate::services::{A, Still, assert_agreed, assert_drive, report_of, service};
+use crate::threads_gates::{Gate, assert_passed};
+use bh_audit::{AuditReport, Clock};
+use bh_base::{Cause, FallbackEnd, GroupId, GroupProps, Moment, Reply, RunEnd, Text};
+use bh_workers::Dependency;
+use std::alloc::{AllocError, Global};
 use std::process::Abort;
-use std::sync::Wait;
+use std::rt;
 use std::sync::atomic::{AtomicU64, Ordering};
-use std::thread;
-use std::thread::Threads;
 
-/// How often a gate looks before it gives up.
-const TURNS: u64 = 1_000_000;
-
-/// Waits until the count is as high. False where it gave up.
-fn wait_for(count: &AtomicU64, least: u64) -> bool {
-    for _ in 0..TURNS {
-        if count.load(Ordering::SeqCst) >= least {
-            return true;
-        }
-        thread::yield_now();
-    }
-    false
-}
-
-/// Success with the argument, once the count is as high.
-fn success_after(count: &AtomicU64, least: u64, arg: &Text<64>) -> RunEnd {
-    if wait_for(count, least) {
-        success(arg)
-    } else {
-        RunEnd::Failure
-    }
-}
-
-/// Holds the run of the first group until the second request of the other runs, whose first is answered by then.
+/// Holds the run of the first group until the second request of the other runs, whose first is answered by then. Each
+/// run of the other waits until that of the first has begun.
 #[derive(Drop)]
-struct HoldsFirst {
-    answered: AtomicU64,
+struct HoldsFirst<'a, R> {
+    begun: Gate<'a, R>,
+    answered: Gate<'a, R>,
 }
 
-impl Dependency for HoldsFirst {
+impl<'a, R: rt::Clock> Dependency for HoldsFirst<'a, R> {
     ghost ends = { λ group arg end. Unit {0} };
 
     ghost fallback_ends = { λ group cause arg end. Unit {0} };
 
     fn run(&self, group: GroupId, arg: &Text<64>) -> RunEnd {
         if group == A {
-            return success_after(&self.answered, 1, arg);
+            self.begun.come();
+            return self.answered.success_after(1, arg);
         }
         if arg.as_str() == "second" {
-            self.answered.fetch_add(1, Ordering::SeqCst);
+            self.answered.come();
         }
-        success(arg)
+        self.begun.success_after(1, arg)
     }
 
     fn fallback(&self, _group: GroupId, _cause: Cause, _arg: &Text<64>) -> FallbackEnd {
@@ -69,27 +45,30 @@ impl Dependency for HoldsFirst {
 fn slow_a_does_not_hold_b(rt: HostRuntime) {
     let shared = service(&rt, props(), props(), 100);
     let held = HoldsFirst {
-        answered: AtomicU64::new(0),
+        begun: Gate::new(&rt, "the run of the first group"),
+        answered: Gate::new(&rt, "an answer of the second group"),
     };
     let asked = "0 slow\n1 first second";
     let passes = assert_drive(&rt, &shared, &held, &Still, asked, "slow\nfirst second\n");
+    assert_passed(&rt, &held.begun);
+    assert_passed(&rt, &held.answered);
     assert_agreed(&rt, shared, passes);
 }
 
 /// Holds each run until two have begun.
 #[derive(Drop)]
-struct Meets {
-    begun: AtomicU64,
+struct Meets<'a, R> {
+    begun: Gate<'a, R>,
 }
 
-impl Dependency for Meets {
+impl<'a, R: rt::Clock> Dependency for Meets<'a, R> {
     ghost ends = { λ group arg end. Unit {0} };
 
     ghost fallback_ends = { λ group cause arg end. Unit {0} };
 
     fn run(&self, _group: GroupId, arg: &Text<64>) -> RunEnd {
-        self.begun.fetch_add(1, Ordering::SeqCst);
-        success_after(&self.begun, 2, arg)
+        self.begun.come();
+        self.begun.success_after(2, arg)
     }
 
     fn fallback(&self, _group: GroupId, _cause: Cause, _arg: &Text<64>) -> FallbackEnd {
@@ -102,170 +81,97 @@ fn two_workers_meet(rt: HostRuntime) {
     let two = GroupProps { core: 2, ..props() };
     let shared = service(&rt, two, props(), 100);
     let meets = Meets {
-        begun: AtomicU64::new(0),
+        begun: Gate::new(&rt, "two runs of one group"),
     };
-    let passes = assert_drive(
-        &rt,
-        &shared,
-        &meets,
-        &Still,
-        "0 one\n0 other",
-        "one\nother\n",
-    );
+    let asked = "0 one\n0 other";
+    let passes = assert_drive(&rt, &shared, &meets, &Still, asked, "one\nother\n");
+    assert_passed(&rt, &meets.begun);
     assert_agreed(&rt, shared, passes);
 }
 
-/// A moment that rises by a second at each reading.
+/// 0 until a run has begun, and from then on a second later at each reading.
 #[derive(Drop)]
-struct Rises {
+struct RisesOnceBegun<'a, R> {
+    begun: &'a Gate<'a, R>,
     next: AtomicU64,
 }
 
-impl Clock for Rises {
+impl<'a, R: rt::Clock> Clock for RisesOnceBegun<'a, R> {
     ghost moments = { λ moment. Unit {0} };
 
     fn now(&self) -> Moment {
+        if self.begun.count() == 0 {
+            return 0;
+        }
         self.next.fetch_add(1000, Ordering::SeqCst)
     }
 }
 
 /// Holds each run until a fallback was called.
 #[derive(Drop)]
-struct HoldsRuns {
-    fallen_back: AtomicU64,
+struct HoldsRuns<'a, R> {
+    begun: &'a Gate<'a, R>,
+    fallen_back: Gate<'a, R>,
 }
 
-impl Dependency for HoldsRuns {
+impl<'a, R: rt::Clock> Dependency for HoldsRuns<'a, R> {
     ghost ends = { λ group arg end. Unit {0} };
 
     ghost fallback_ends = { λ group cause arg end. Unit {0} };
 
     fn run(&self, _group: GroupId, arg: &Text<64>) -> RunEnd {
-        success_after(&self.fallen_back, 1, arg)
+        self.begun.come();
+        self.fallen_back.success_after(1, arg)
     }
 
     fn fallback(&self, _group: GroupId, _cause: Cause, _arg: &Text<64>) -> FallbackEnd {
-        self.fallen_back.fetch_add(1, Ordering::SeqCst);
+        self.fallen_back.come();
         instead()
     }
 }
 
-fn instead() -> FallbackEnd {
+/// The end of a fallback that gives a body.
+pub(crate) fn instead() -> FallbackEnd {
     match Text::new("instead") {
         Ok(body) => FallbackEnd::Success(body),
         Err(_) => FallbackEnd::Missing,
     }
 }
 
+/// The first three replies of the second group.
+fn first_replies(alloc: Global, report: &AuditReport) -> Result<String, AllocError> {
+    let mut text = String::new(alloc);
+    for (_, reply) in report.journal(GroupId(1)).iter().take(3) {
+        text.push_str(match reply {
+            Reply::Queued(_) => "queued ",
+            Reply::Assigned { .. } => "assigned ",
+            Reply::Expired(1) => "expired ",
+            _ => "other ",
+        })?;
+    }
+    Ok(text)
+}
+
 #[test]
 fn timer_frees_caller(rt: HostRuntime) {
     let shared = service(&rt, props(), props(), 100);
+    let begun = Gate::new(&rt, "the run");
     let held = HoldsRuns {
-        fallen_back: AtomicU64::new(0),
+        begun: &begun,
+        fallen_back: Gate::new(&rt, "the fallback"),
     };
-    let rises = Rises {
-        next: AtomicU64::new(0),
+    let rises = RisesOnceBegun {
+        begun: &begun,
+        next: AtomicU64::new(1000),
     };
     let passes = assert_drive(&rt, &shared, &held, &rises, "1 x", "Timeout:instead\n");
-    assert_agreed(&rt, shared, passes);
-}
-
-/// The first group fails, the second is slow, and the others are well.
-#[derive(Drop)]
-struct Mixed;
-
-impl Dependency for Mixed {
-    ghost ends = { λ group arg end. Unit {0} };
-
-    ghost fallback_ends = { λ group cause arg end. Unit {0} };
-
-    fn run(&self, group: GroupId, arg: &Text<64>) -> RunEnd {
-        if group == A {
-            return RunEnd::Failure;
-        }
-        if group == B {
-            for _ in 0..100 {
-                thread::yield_now();
-            }
-        }
-        success(arg)
-    }
-
-    fn fallback(&self, _group: GroupId, _cause: Cause, _arg: &Text<64>) -> FallbackEnd {
-        instead()
-    }
-}
-
-/// A service of four groups of two workers each.
-fn four_groups<R: Abort + AllocGlobal>(rt: &R) -> Shared {
-    let two = GroupProps { core: 2, ..props() };
-    let mut core = two_groups(rt.alloc(), two, two, 1000).expect(rt, "memory");
-    add(&mut core, two, 1000).expect(rt, "memory");
-    add(&mut core, two, 1000).expect(rt, "memory");
-    share(rt, core, Some(1000))
-}
-
-/// Whether the answer is the argument of its request.
-fn is_value(answer: &Result<Answer, CallError>, body: &str) -> bool {
-    matches!(answer, Ok(Answer::Value(value)) if value.as_str() == body)
-}
-
-const FIFTY: &str =
-    "x x x x x x x x x x x x x x x x x x x x x x x x x x x x x x x x x x x x x x x x x x x x x x x x x x";
-
-/// Two lists of fifty requests to each group.
-fn eight_lists(alloc: Global) -> Option<Vec<RequestList>> {
-    let mut all = Vec::new(alloc);
-    for number in 0..8_u64 {
-        let requests = requests(alloc, FIFTY)?;
-        let group = GroupId(number % 4);
-        all.push(RequestList { group, requests }).ok()?;
-    }
-    Some(all)
-}
-
-/// Whether the answers of a list are as the mixed dependency gives them: of the first group, some fallback's.
-fn are_mixed(well: bool, own: &[Result<Answer, CallError>]) -> bool {
-    own.len() == 50
-        && own
-            .iter()
-            .all(|answer| is_value(answer, "x") == well && answer.is_ok())
-}
-
-fn assert_mixed<R: Abort>(rt: &R, driven: &Driven) {
-    assert_number(rt, driven.answers.len() as u64, 8);
-    for (number, own) in driven.answers.iter().enumerate() {
-        assert!(rt; are_mixed(number % 4 != 0, own.as_slice()), "list {number}");
-    }
-}
-
-fn drive_mixed<R: Threads + Wait + Sync + Abort + AllocGlobal>(rt: &R, shared: &Shared) -> Driven {
-    let lists = eight_lists(rt.alloc()).expect(rt, "memory");
-    let driven = drive(
-        rt,
-        rt.alloc(),
-        shared,
-        &Mixed,
-        &Still,
-        Steady,
-        lists.as_slice(),
-        1000,
+    assert_passed(&rt, &held.fallen_back);
+    let report = report_of(&rt, shared, passes);
+    let replies = first_replies(rt.alloc(), &report);
+    assert_text(
+        &rt,
+        replies,
+        "queued assigned expired ",
+        "a run that was timed out",
     );
-    driven.expect(rt, "a drive")
-}
-
-/// Asserts that each group but the first did all steps of its calls.
-fn assert_journals<R: Abort>(rt: &R, report: &AuditReport) {
-    for journal in report.journals.iter().skip(1) {
-        assert_number(rt, journal.len() as u64, 400);
-    }
-}
-
-#[test]
-fn four_hundred_calls_of_four_groups(rt: HostRuntime) {
-    let shared = four_groups(&rt);
-    let driven = drive_mixed(&rt, &shared);
-    assert_mixed(&rt, &driven);
-    let report = shared.finish(rt.alloc(), driven.passes).ok();
-    assert_journals(&rt, &report.expect(&rt, "the passes agree"));
 }

@@ -1,0 +1,198 @@
+//! Runs whose dependency fails, is slow or refuses by chance: the account agrees with all passes, and each journal is what
+//! a core tells that has the group alone.
+
+ghost use Rattle.bh_base.specs.Ranges.{IsInRange};
+
+use crate::samples::{props, text};
+use crate::script::assert_number;
+use crate::services::{A, B, drive_lists, report_of, service, success};
+use bh_audit::Clock;
+use bh_base::{
+    CallError, Cause, FallbackEnd, GroupId, GroupProps, Moment, Reply, Request, RunEnd, Step,
+    Strategy, Text,
+};
+use bh_core::Core;
+use bh_workers::{Dependency, Driven, RequestList};
+use rand_core::{Rng, SeedableRng};
+use rand_xoshiro::Xoshiro256PlusPlus;
+use std::alloc::Global;
+use std::process::Abort;
+use std::sync::Wait;
+use std::sync::atomic::{AtomicU64, Ordering};
+use std::thread;
+use std::thread::Threads;
+
+/// The seeds of the runs.
+const SEEDS: u64 = 3;
+
+/// Ends each run by chance: a success, perhaps after a while, a failure or a bad request; and so each fallback.
+#[derive(Drop)]
+struct Chance {
+    next: AtomicU64,
+}
+
+impl Chance {
+    /// One of so many, by the seed that is next.
+    fn draw(&self, of: u64) -> u64 {
+        let seed = self.next.fetch_add(1, Ordering::SeqCst);
+        let drawn = Xoshiro256PlusPlus::seed_from_u64(seed).next_u64();
+        drawn.checked_rem(of).unwrap_or(0)
+    }
+}
+
+/// Success with the argument, after a while.
+fn slow_success(arg: &Text<64>) -> RunEnd {
+    for _ in 0..50_u32 {
+        thread::yield_now();
+    }
+    success(arg)
+}
+
+impl Dependency for Chance {
+    ghost ends = { λ group arg end. Unit {0} };
+
+    ghost fallback_ends = { λ group cause arg end. Unit {0} };
+
+    fn run(&self, _group: GroupId, arg: &Text<64>) -> RunEnd {
+        match self.draw(6) {
+            0 => RunEnd::Failure,
+            1 => RunEnd::BadRequest,
+            2 => slow_success(arg),
+            _ => success(arg),
+        }
+    }
+
+    fn fallback(&self, _group: GroupId, _cause: Cause, _arg: &Text<64>) -> FallbackEnd {
+        match self.draw(3) {
+            0 => FallbackEnd::Success(text("instead")),
+            1 => FallbackEnd::Failure,
+            _ => FallbackEnd::Missing,
+        }
+    }
+}
+
+/// A moment that rises by a millisecond at each reading.
+#[derive(Drop)]
+struct Rises {
+    next: AtomicU64,
+}
+
+impl Clock for Rises {
+    ghost moments = { λ moment. Unit {0} };
+
+    fn now(&self) -> Moment {
+        self.next.fetch_add(1, Ordering::SeqCst)
+    }
+}
+
+/// A group with limits so small that each is met now and then.
+fn small() -> GroupProps
+    ensures { IsInRange result }
+{
+    GroupProps {
+        slots: 4,
+        core: 2,
+        max_queue: Some(1),
+        queue_threshold: 1,
+        timeout_ms: 30,
+        fallback_permits: 1,
+        volume: 5,
+        sleep_ms: 20,
+        window_ms: 100,
+        buckets: 4,
+        health_ms: 3,
+        ..props()
+    }
+}
+
+/// The same, whose callers run their requests themselves.
+fn by_callers() -> GroupProps
+    ensures { IsInRange result }
+{
+    GroupProps {
+        strategy: Strategy::Semaphore,
+        semaphore: 2,
+        ..small()
+    }
+}
+
+/// Requests of which every third may join another.
+fn requests_of(alloc: Global, number: u64) -> Option<Vec<Request>> {
+    let mut requests = Vec::new(alloc);
+    for place in 0..number {
+        let cache = if place % 3 == 0 {
+            Some((place, text("key")))
+        } else {
+            None
+        };
+        let arg = text("x");
+        requests.push(Request { cache, arg }).ok()?;
+    }
+    Some(requests)
+}
+
+/// Four lists of so many requests to each group.
+fn lists_of(alloc: Global, number: u64) -> Option<Vec<RequestList>> {
+    let mut lists = Vec::new(alloc);
+    for place in 0..8_u64 {
+        let group = if place % 2 == 0 { A } else { B };
+        let requests = requests_of(alloc, number)?;
+        lists.push(RequestList { group, requests }).ok()?;
+    }
+    Some(lists)
+}
+
+/// Asserts that each call has an answer, or found its group full.
+fn assert_answers<R: Abort>(rt: &R, driven: &Driven, seed: u64) {
+    for own in driven.answers.iter() {
+        assert_number(rt, own.len() as u64, 40);
+        for answer in own.iter() {
+            let is_answered = matches!(answer, Ok(_) | Err(CallError::GroupFull));
+            assert!(rt; is_answered, "seed {seed}: {answer:?}");
+        }
+    }
+}
+
+/// Asserts that a core that has the group alone tells the same.
+fn assert_replays<R: Abort + AllocGlobal>(
+    rt: &R,
+    group: GroupProps,
+    journal: &[(Step, Reply)],
+    seed: u64,
+)
+    requires { IsInRange group }
+{
+    let mut alone = Core::new(rt.alloc(), 100);
+    alone.register(group, 10_000).expect(rt, "memory");
+    for (place, (step, reply)) in journal.iter().enumerate() {
+        let told = alone.apply(Step {
+            group: GroupId(0),
+            ..*step
+        });
+        assert!(rt; told == *reply, "seed {seed}, place {place}: {step:?}");
+    }
+}
+
+/// One run by the seed.
+fn assert_run<R: Threads + Wait + Sync + Abort + AllocGlobal>(rt: &R, seed: u64) {
+    let shared = service(rt, small(), by_callers(), 10_000);
+    let chance = Chance {
+        next: AtomicU64::new(seed.saturating_mul(1 << 32)),
+    };
+    let rises = Rises {
+        next: AtomicU64::new(0),
+    };
+    let lists = lists_of(rt.alloc(), 40).expect(rt, "memory");
+    let driven = drive_lists(rt, &shared, &chance, &rises, lists.as_slice(), 1000);
+    assert_answers(rt, &driven, seed);
+    let report = report_of(rt, shared, driven.passes);
+    assert_replays(rt, small(), report.journal(A), seed);
+    assert_replays(rt, by_callers(), report.journal(B), seed);
+}
+
+#[test]
+fn mixed_runs_are_replayed_by_a_core_alone(rt: HostRuntime) {
+    for seed in 0..SEEDS {
+        assert_run(&rt, seed);
+    }
+}
