@@ -1,6 +1,6 @@
 -- A family gets empty lists, and then one of them the new slots.
 use Rattle.std.proofs.Common.{◌≡◌, ℕ, zero, suc, ◌+◌, ◌-◌, ◌<◌, ◌≤◌, List, [], ◌∷◌, ◌++◌, map, length, get_or, replicate, refl, ◌∙◌, sym, ap, subst, arith, append-nil, length-append, length-set, get_or-set_same, get_or-set_other}
-use Rattle.std.specs.List.{range_with_len, zip}
+use Rattle.std.specs.List.{zip}
 use Rattle.bh_slot_arena.specs.Lists.{put_last}
 use Rattle.bh_slot_arena.specs.Slots.{lists_in, slots_on, with_new_lists}
 use Rattle.bh_cache.specs.Slots.{Slots}

@@ -1,11 +1,11 @@
 -- The chains of a group as one of its slots changes, and as other groups do.
-use Rattle.std.proofs.Common.{◌≡◌, ℕ, ◌<◌, ◌≤◌, inl, inr, Bool, true, false, List, [], length, get_or, Option, Some, None, refl, ◌∙◌, sym, ap, subst, arith}
+use Rattle.std.proofs.Common.{◌≡◌, ℕ, ◌≤◌, inl, inr, true, List, [], length, get_or, Option, Some, None, ◌∙◌, sym, ap, subst, arith}
 use Rattle.std.specs.Prelude.{◌||◌, eqb, if◌then◌else◌}
 use Rattle.std.proofs.lemmas.Bool.{cases_eq}
 use Rattle.bh_base.specs.declared.ticket.Ticket.{Ticket}
 use Rattle.bh_slot_arena.specs.Slots.{lists_in, slots_on, with_payload, with_moved}
 use Rattle.bh_cache.specs.declared.lists.GroupLists.{GroupLists}
-use Rattle.bh_cache.specs.Chains.{HasChains, IsChained, IsChainFrame, AreOn, KeepsLists, list_by_name, list_by_serial, list_of_name, serial_chain, with_placed}
+use Rattle.bh_cache.specs.Chains.{HasChains, IsChained, IsChainFrame, AreOn, list_by_name, list_by_serial, list_of_name, serial_chain, with_placed}
 use Rattle.bh_cache.specs.Slots.{Slots, has, is_live_list, is_on, is_owned, ticket_at, Once, IsApart, IsArena}
 use Rattle.bh_cache.proofs.Moves.{families_count, family_stays}
 use Rattle.bh_cache.proofs.Placed.{IsUnplaced, chained_placed, chained_same, families_placed, first_placed, frame_placed, name_list_within, serial_list_within}
