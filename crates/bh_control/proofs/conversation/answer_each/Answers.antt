@@ -1,8 +1,8 @@
-use Rattle.std.proofs.Common.{List, ℕ, ◌++◌, ◌≡◌, Ok, Err, ◌∙◌, subst, ap}
+use Rattle.std.proofs.Common.{List, ℕ, ◌++◌, Ok, Err, ◌∙◌, subst, ap}
 use Rattle.std.proofs.lemmas.Result.{err_from_is_err_and}
 use Rattle.bh_control.specs.AnswerLine.{responder, IsAnswer, IsPut}
 use Rattle.bh_control.specs.Taken.{TakesAsked}
-use Rattle.bh_control.proofs.Pieces.{so_far-put, so_far-refused, so_far-waits}
+use Rattle.bh_control.proofs.Pieces.{so_far-put, so_far-refused}
 use Rattle.bh_control.proofs.conversation.answer_each.Goals as goal
 
 pub returns-in_err-asked-clause-each : goal.returns-in_err-asked-clause-each

@@ -1,6 +1,5 @@
-use Rattle.std.proofs.Common.{List, ℕ, ◌++◌, Ok, Err, ◌∙◌, refl, subst}
+use Rattle.std.proofs.Common.{List, ℕ, Ok, Err, ◌∙◌, refl, subst}
 use Rattle.std.proofs.lemmas.Result.{err_from_is_err_and}
-use Rattle.bh_streams.specs.Watched.{bytes_held}
 use Rattle.bh_control.specs.AnswerLine.{responder, IsAnswer, IsPut}
 use Rattle.bh_control.specs.Taken.{TakesAsked}
 use Rattle.bh_control.proofs.Holding.{holds-none, holds-one, holds-moved, holds-broken, holds-short, holds-waits, holds-refused}

@@ -1,6 +1,5 @@
-use Rattle.std.proofs.Common.{rules, arith, ℕ, List, ◌++◌, take, Ok, Err, ◌∙◌, refl, subst}
+use Rattle.std.proofs.Common.{rules, arith, ℕ, List, take, Ok, Err, ◌∙◌, refl, subst}
 use Rattle.std.proofs.lemmas.Result.{err_from_is_err_and}
-use Rattle.bh_lines.specs.declared.port_error.PortError.TheVariants.{Memory}
 use Rattle.bh_lines.proofs.PortErrors.{unless-ok}
 use Rattle.bh_streams.specs.Watched.{bytes_left, bytes_held}
 use Rattle.bh_control.specs.AnswerLine.{responder}
