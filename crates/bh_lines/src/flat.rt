@@ -2,7 +2,7 @@
 //!
 //! Nearly every line is one, and its members borrow from the line; any other line is read as a tree.
 
-ghost use Rattle.std.specs.Prelude.{◌≡◌, ◌<◌, ◌==◌, ◌&&◌, Bool, false, List, length, slice_index, Some, is_some, option_map, IfOk, IfSome, MatchOption, OnSome};
+ghost use Rattle.std.specs.Prelude.{◌≡◌, ◌<◌, ◌==◌, ◌&&◌, Bool, false, List, [], length, slice_index, Some, is_some, option_map, IfOk, IfSome, MatchOption, OnSome};
 ghost use Rattle.json.specs.Lex.{tokens};
 ghost use Rattle.json.specs.Token.{Token as JsonToken};
 ghost use Rattle.serde_json.specs.Data.{unsigned};
@@ -57,12 +57,13 @@ impl<'a> FlatObject<'a> {
         let Some(Token::BeginObject) = reader.next() else {
             return Ok(None);
         };
-        let Some(object) = next_members(&mut reader) else {
+        let mut members = ArrayVec::new();
+        let Some(()) = next_members(&mut reader, &mut members) else {
             return Ok(None);
         };
         match reader.next() {
             Some(_) => Ok(None),
-            None => Ok(Some(object)),
+            None => Ok(Some(FlatObject { members })),
         }
     }
 
@@ -79,17 +80,21 @@ impl<'a> FlatObject<'a> {
     }
 }
 
-/// The members up to the bracket that closes their object.
-fn next_members<'a>(reader: &mut Reader<'a>) -> Option<FlatObject<'a>>
+/// Reads the members up to the bracket that closes their object into `members`, which has none yet, or `None` where
+/// something else comes.
+fn next_members<'a>(
+    reader: &mut Reader<'a>,
+    members: &mut ArrayVec<FlatMember<'a>, MOST_MEMBERS>,
+) -> Option<()>
+    requires { members.old.items ≡ [] }
     ensures found { MatchOption result (are_members 8 reader.old ≡ false) (λ _. are_members 8 reader.old ≡ is_over reader.new) }
-    ensures value { IfSome result (λ object. ReadsMembers object.members.items reader.old reader.new) }
+    ensures value { OnSome result (ReadsMembers members.new.items reader.old reader.new) }
 {
-    let mut found = ArrayVec::new();
     while let Some(name) = reader.next_key().ok()? {
         let value = next_scalar(reader)?;
-        found.try_push(FlatMember { name, value }).ok()?;
+        members.try_push(FlatMember { name, value }).ok()?;
     }
-    Some(FlatObject { members: found })
+    Some(())
 }
 
 /// The scalar that is next.

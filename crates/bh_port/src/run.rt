@@ -23,13 +23,15 @@ use json::Scratch;
 use std::alloc::{AllocError, Global};
 use std::io::Write;
 
-/// A run of a script: the groups, the bytes whose line has not ended, and the answers that are to be written at once.
+/// A run of a script: the groups, the bytes whose line has not ended, the answers that are to be written at once, and
+/// what reading a line takes in memory.
 #[derive(Drop)]
 pub struct Run {
     pub alloc: Global,
     pub core: Core,
     pub buffer: BytesMut,
     pub out: Vec<u8>,
+    pub scratch: Scratch,
 }
 
 impl Run {
@@ -84,9 +86,8 @@ impl Run {
         ensures stopped { IfErr result (λ e. (before : List Step) (more : List ℕ) → GroupsShow (settings_view settings.now) self.old.core before →
             ScriptOutcome (Some self.old.out.items) (Some self.new.out.items) (settings_view settings.now) before (cut (self.old.buffer.items ++ more)) (Err e)) }
     {
-        let mut scratch = Scratch::new(self.alloc);
-        while let Some(line) = next_line(&mut self.buffer)? {
-            self.answer_line(settings, &mut scratch, line.as_str())?;
+        'lines: while let Some(line) = next_line(&mut self.buffer)? {
+            self.answer_line(settings, line.as_str())?;
         }
         Ok(())
     }
@@ -101,24 +102,18 @@ impl Run {
         let Some(line) = last_line(&mut self.buffer)? else {
             return Ok(());
         };
-        let mut scratch = Scratch::new(self.alloc);
-        self.answer_line(settings, &mut scratch, line.as_str())?;
+        self.answer_line(settings, line.as_str())?;
         Ok(())
     }
 
     /// Answers a line, behind what is to be written.
-    fn answer_line(
-        &mut self,
-        settings: &Settings,
-        scratch: &mut Scratch,
-        line: &str,
-    ) -> Result<(), AllocError>
+    fn answer_line(&mut self, settings: &Settings, line: &str) -> Result<(), AllocError>
         ensures answers { OnOk result ((before : List Step) → GroupsShow (settings_view settings.now) self.old.core before →
             AnswersLine (settings_view settings.now) before line.now self.new.core self.old.out.items self.new.out.items) }
         ensures kept { OnErr result (self.new.out.items ≡ self.old.out.items) }
         ensures left { self.new.buffer ≡ self.old.buffer }
     {
-        match line_step(self.alloc, settings, scratch, line) {
+        match line_step(self.alloc, settings, &mut self.scratch, line) {
             Ok(Ok(step)) => self.answer_step(step),
             Ok(Err(fault)) => self.answer_fault(fault),
             Err(error) => Err(error),

@@ -14,6 +14,7 @@ use bh_lines::PortError;
 use bh_props::Settings;
 use bh_streams::{WatchedReader, WatchedWriter};
 use bytes::BytesMut;
+use json::Scratch;
 use std::alloc::Global;
 use std::io::{Read, Write};
 
@@ -21,7 +22,7 @@ use std::io::{Read, Write};
 pub const MOST_STEPS: u64 = 1 << 40;
 
 /// So many bytes are asked of the reader at a time.
-const READ_SIZE: usize = 16_384;
+const READ_SIZE: usize = 65_536;
 
 /// So many reads are made at most.
 const MOST_READS: u64 = 1 << 40;
@@ -62,6 +63,7 @@ pub fn script<R: Read, W: Write>(
         core,
         buffer: BytesMut::new(alloc),
         out: Vec::new(alloc),
+        scratch: Scratch::new(alloc),
     };
     let mut piece = [0u8; READ_SIZE];
     for _ in 0..MOST_READS {

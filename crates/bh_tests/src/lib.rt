@@ -25,6 +25,10 @@ mod conversations;
 #[cfg(test)]
 mod groups;
 #[cfg(test)]
+mod hostile_json;
+#[cfg(test)]
+mod hostile_talk;
+#[cfg(test)]
 mod random;
 #[cfg(test)]
 mod rolling;

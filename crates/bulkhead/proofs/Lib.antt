@@ -1,2 +1,3 @@
 pub mod SettingsFile
 pub mod RunStatus
+pub mod Files

@@ -2,6 +2,7 @@
 #![tactic(auto)]
 
 pub mod check;
+pub mod file;
 mod report;
 pub mod run;
 pub mod serve;
@@ -9,18 +10,20 @@ pub mod settings_file;
 #[cfg(test)]
 mod tests;
 
+use crate::file::{FileError, read_file};
 use bh_props::SettingsError;
 use bh_serve::Limits;
 use clap::error::ErrorKind;
 use clap::{Arg, ArgAction, ArgMatches, Command};
 use std::alloc::{AllocError, Global};
+use std::fs::File;
 use std::io::Write;
 use std::net::{Net, TcpListener, TcpStream};
 use std::process::ExitCode;
 use std::rt::Clock;
 use std::sync::Wait;
 use std::thread::Threads;
-use std::{env, fs, io};
+use std::{env, io};
 
 /// The status where the arguments are refused.
 const BAD_ARGUMENTS: u8 = 2;
@@ -162,21 +165,21 @@ fn with_file<'a>(alloc: Global, name: &'a str, about: &'a str) -> Result<Command
 /// Prints what is in force under the settings of the file.
 fn check_path(rt: &HostRuntime, path: &str) -> u8 {
     let mut errors = rt.stderr();
-    match fs::read(rt, path) {
+    match read_path(rt, path) {
         Ok(settings) => check::check_file(
             rt.alloc(),
             settings.as_slice(),
             &mut io::writer(rt),
             &mut errors,
         ),
-        Err(error) => unreadable(&mut errors, &error),
+        Err(error) => report::unreadable(&mut errors, error),
     }
 }
 
 /// Runs standard input under the settings of the file.
 fn run_path(rt: &HostRuntime, path: &str) -> u8 {
     let mut errors = rt.stderr();
-    match fs::read(rt, path) {
+    match read_path(rt, path) {
         Ok(settings) => run::run_file(
             rt.alloc(),
             settings.as_slice(),
@@ -184,7 +187,7 @@ fn run_path(rt: &HostRuntime, path: &str) -> u8 {
             &mut io::writer(rt),
             &mut errors,
         ),
-        Err(error) => unreadable(&mut errors, &error),
+        Err(error) => report::unreadable(&mut errors, error),
     }
 }
 
@@ -202,7 +205,7 @@ where
         + Sync
         + 'static,
 {
-    match fs::read(rt, path) {
+    match read_path(rt, path) {
         Ok(settings) => serve::serve_file(
             handles,
             rt.alloc(),
@@ -211,14 +214,12 @@ where
             limits,
             rt.stderr(),
         ),
-        Err(error) => unreadable(&mut rt.stderr(), &error),
+        Err(error) => report::unreadable(&mut rt.stderr(), error),
     }
 }
 
-/// Says why the settings file can't be read, and answers the exit status.
-fn unreadable<E: Write>(errors: &mut E, error: &io::Error) -> u8 {
-    match error.kind() {
-        io::ErrorKind::OutOfMemory => report::settings(errors, SettingsError::Memory),
-        _ => report::file(errors),
-    }
+/// The bytes of the settings file.
+fn read_path(rt: &HostRuntime, path: &str) -> Result<Vec<u8>, FileError> {
+    let file = File::open(rt, path)?;
+    read_file(rt.alloc(), file)
 }

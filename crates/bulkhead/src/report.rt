@@ -5,6 +5,7 @@
 ghost use Rattle.std.specs.Prelude.{◌≡◌};
 ghost use Rattle.bulkhead.specs.Status.{settings_status};
 
+use crate::file::FileError;
 use bh_lines::PortError;
 use bh_props::SettingsError;
 use std::io::Write;
@@ -34,12 +35,17 @@ pub fn port<E: Write>(errors: &mut E, error: PortError) -> u8
     FAULT
 }
 
-/// Of a settings file that can't be read.
-pub fn file<E: Write>(errors: &mut E) -> u8
+/// Of a settings file that can't be read, or is too long.
+pub fn unreadable<E: Write>(errors: &mut E, error: FileError) -> u8
     ensures { result ≡ 3 }
 {
-    let _ = writeln!(errors, "fault: file");
-    FAULT
+    match error {
+        FileError::Memory => settings(errors, SettingsError::Memory),
+        FileError::Unreadable | FileError::TooLong => {
+            let _ = writeln!(errors, "fault: file");
+            FAULT
+        }
+    }
 }
 
 /// Of a port that can't be bound.

@@ -2,6 +2,8 @@
 
 mod arguments;
 mod faults;
+mod hostile_settings;
+mod hostile_streams;
 mod operations;
 mod serve;
 mod serve_clients;

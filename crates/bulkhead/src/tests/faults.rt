@@ -24,7 +24,7 @@ fn assert_ended<R: Abort + AllocGlobal>(rt: &R, input: &[u8], output: &str) {
 }
 
 /// So many letters between two texts.
-fn padded<R: Abort + AllocGlobal>(
+pub(super) fn padded<R: Abort + AllocGlobal>(
     rt: &R,
     before: &str,
     letter: &str,

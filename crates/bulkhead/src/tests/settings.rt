@@ -84,7 +84,7 @@ impl Write for FullWriter {
 }
 
 /// Shows the settings, and asserts what comes of it.
-fn assert_check<R: Abort + AllocGlobal>(
+pub(super) fn assert_check<R: Abort + AllocGlobal>(
     rt: &R,
     settings: &[u8],
     status: u8,
@@ -100,7 +100,7 @@ fn assert_check<R: Abort + AllocGlobal>(
 }
 
 /// Asserts that the settings are refused so by a run and a check, and that nothing is written.
-fn assert_refused<R: Abort + AllocGlobal>(rt: &R, settings: &[u8], text: &str) {
+pub(super) fn assert_refused<R: Abort + AllocGlobal>(rt: &R, settings: &[u8], text: &str) {
     assert_run(rt, settings, b"{}\n", 1, "", text);
     assert_check(rt, settings, 1, "", text);
 }
@@ -198,14 +198,14 @@ fn every_property_of_every_group_is_shown(rt: HostRuntime) {
     assert_check(&rt, SHOWN_SETTINGS.as_bytes(), 0, SHOWN_LINES, "");
 }
 
-const OWN_SETTINGS: &str = r#"service.groups = ["a"]
+pub(super) const OWN_SETTINGS: &str = r#"service.groups = ["a"]
 hystrix.command.default.circuitBreaker.requestVolumeThreshold = 5
 hystrix.command.a.circuitBreaker.requestVolumeThreshold = 7
 hystrix.command.a.metrics.rollingPercentile.enabled = true
 hystrix.threadpool.a.maxQueueSize = 0
 "#;
 
-const OWN_LINES: &str = "a service.auditSteps none
+pub(super) const OWN_LINES: &str = "a service.auditSteps none
 a service.slots 64
 a execution.isolation.strategy THREAD
 a execution.isolation.thread.timeoutInMilliseconds 1000

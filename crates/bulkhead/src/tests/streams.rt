@@ -9,7 +9,7 @@ use std::process::Abort;
 
 /// A reader that gives so many bytes at a time, and fails at a call where one is given.
 #[derive(Drop)]
-struct PieceReader<'a> {
+pub(super) struct PieceReader<'a> {
     rest: &'a [u8],
     size: usize,
     calls: usize,
@@ -29,8 +29,8 @@ impl Read for PieceReader<'_> {
 
 /// A writer that keeps what it takes, so many bytes at a time, and at a call where one is given fails or takes none.
 #[derive(Drop)]
-struct PieceWriter {
-    written: Vec<u8>,
+pub(super) struct PieceWriter {
+    pub(super) written: Vec<u8>,
     size: usize,
     calls: usize,
     stuck_at: Option<usize>,
@@ -65,7 +65,7 @@ fn feeds(bytes: &[u8]) -> usize {
 }
 
 /// A reader of the input.
-fn pieces(input: &str, size: usize, fails_at: Option<usize>) -> PieceReader<'_> {
+pub(super) fn pieces(input: &str, size: usize, fails_at: Option<usize>) -> PieceReader<'_> {
     PieceReader {
         rest: input.as_bytes(),
         size,
@@ -74,7 +74,8 @@ fn pieces(input: &str, size: usize, fails_at: Option<usize>) -> PieceReader<'_> 
     }
 }
 
-fn writer<R: AllocGlobal>(
+/// A writer that has taken nothing.
+pub(super) fn writer<R: AllocGlobal>(
     rt: &R,
     size: usize,
     stuck_at: Option<usize>,

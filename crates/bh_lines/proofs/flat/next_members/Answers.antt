@@ -10,10 +10,10 @@ use Rattle.bh_lines.proofs.flat.next_members.Goals as goal
 
 pub loop-name-init : goal.loop-name-init
 loop-name-init c =
-    let none : length c.new-found.result.items ≡ 0 = ap length c.new-found.ensures in (
+    let none : length c.args.members.now.items ≡ 0 = ap length c.requires in (
       length c.args.reader.now,
       omega arith,
-      λ rest after read. (rest, read, ap (λ ms. of_members rest (put_all ms no_members)) (sym c.new-found.ensures)),
+      λ rest after read. (rest, read, ap (λ ms. of_members rest (put_all ms no_members)) (sym c.requires)),
       omega (arith, none),
       ap (λ n. are_members n c.args.reader.now) (omega (arith, none)),
     )
@@ -34,8 +34,8 @@ pub returns-in_err-ok-clause-found : goal.returns-in_err-ok-clause-found
 returns-in_err-ok-clause-found c =
     let l = c.loop-name in
     let named : read_key l.reader ≡ Some (Some c.in-Some.name.now, c.next_key.new.self) = grind arith in
-    let full : length l.found.items ≡ 8 = grind arith in
-    let none : 8 - length l.found.items ≡ 0 = omega (arith, full) in
+    let full : length l.members.items ≡ 8 = grind arith in
+    let none : 8 - length l.members.items ≡ 0 = omega (arith, full) in
     rw c.from_residual-in_err-ok.ensures (l.invariant.4 ∙ ap (λ n. are_members n l.reader) none ∙ no_members_without_room l.reader c.next_key.new.self c.in-Some.name.now named)
 
 pub loop-name-preserved : goal.loop-name-preserved
@@ -50,11 +50,11 @@ loop-name-preserved c =
     let less = read_key-shorter l.reader (Some k) s named in
     let lesser : length r < length s = grind arith in
     let scalar = c.in_ok-value.ensures.value in
-    let pushed : c.try_push.new.self.items ≡ l.found.items ++ record { name = c.in-Some.name; value = c.in_ok-value.value } ∷ [] = grind arith in
-    let room : length l.found.items < 8 = grind arith in
-    let counted : length c.try_push.new.self.items ≡ length l.found.items + 1 = grind arith in
-    let inserted = ap (λ ms. put_all ms no_members) pushed ∙ put_all_push l.found.items _ no_members in
-    let fewer : 8 - length l.found.items ≡ suc (8 - length c.try_push.new.self.items) = omega (arith, room, counted) in (
+    let pushed : c.try_push.new.self.items ≡ l.members.items ++ record { name = c.in-Some.name; value = c.in_ok-value.value } ∷ [] = grind arith in
+    let room : length l.members.items < 8 = grind arith in
+    let counted : length c.try_push.new.self.items ≡ length l.members.items + 1 = grind arith in
+    let inserted = ap (λ ms. put_all ms no_members) pushed ∙ put_all_push l.members.items _ no_members in
+    let fewer : 8 - length l.members.items ≡ suc (8 - length c.try_push.new.self.items) = omega (arith, room, counted) in (
       n - 1,
       omega (arith, l.invariant.1),
       λ rest after read.

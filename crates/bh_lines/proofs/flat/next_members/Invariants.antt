@@ -12,9 +12,9 @@ invariant-loop-name l =
     (n : ℕ) × (length l.reader ≤ n)
     × ((rest : json.Members) (after : List Token) → json.members (json.value 126) n l.reader ≡ Some (rest, after)
     → (ms : json.Members) × (json.members (json.value 126) (length l.fn.reader) l.fn.reader ≡ Some (ms, after))
-    × (of_members ms no_members ≡ of_members rest (put_all l.found.items no_members)))
-    × (length l.found.items ≤ 8)
-    × (are_members 8 l.fn.reader ≡ are_members (8 - length l.found.items) l.reader)
+    × (of_members ms no_members ≡ of_members rest (put_all l.members.items no_members)))
+    × (length l.members.items ≤ 8)
+    × (are_members 8 l.fn.reader ≡ are_members (8 - length l.members.items) l.reader)
 
 abbrev pub decreases-loop-name : goal.decreases-loop-name
 decreases-loop-name l = length l.reader

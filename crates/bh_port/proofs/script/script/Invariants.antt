@@ -12,7 +12,7 @@ invariant-loop g l = record {
   read_no_more : reads_of l.reader ≤ reads_of l.fn.reader + l.counter;
   none_failed : NoneFailed l.fn.reader l.reader;
   none_refused : NoneRefused l.fn.writer l.writer;
-  piece : length l.piece ≡ 16384;
+  piece : length l.piece ≡ 65536;
   progress : Progress (bytes_left g.R.Read.remaining l.fn.reader) (bytes_left g.R.Read.remaining l.reader)
       (bytes_held g.W.Write.contents l.fn.writer) (bytes_held g.W.Write.contents l.writer) (settings_view l.settings) l.run.core l.run.buffer.items;
 }

@@ -9,5 +9,5 @@ pub returns-in-None-clause-value : goal.returns-in-None-clause-value
 returns-in-None-clause-value c =
     let opens : tokens c.args.line.now ≡ Token.begin_object ∷ c.next.new.self = grind arith in
     let over : c.next_members.new.reader ≡ [] = c.in-None.ensures.value.0 in
-    let found = c.in-Some.object.members.items in
+    let found = c.next_members.new.members.items in
     read_flat c.args.line.now found c.next.new.self opens (subst (ReadsMembers found c.next.new.self) over c.in-Some.ensures.value)

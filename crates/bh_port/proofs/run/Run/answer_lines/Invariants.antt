@@ -4,9 +4,9 @@ use Rattle.bh_base.specs.declared.step.Step.{Step}
 use Rattle.bh_port.specs.Script.{ScriptAnswered, GroupsShow}
 use Rattle.bh_port.proofs.run.Run.answer_lines.Given as goal
 
-abbrev pub invariant-loop-scratch : goal.invariant-loop-scratch
-invariant-loop-scratch l =
+abbrev pub invariant-lines : goal.invariant-lines
+invariant-lines l =
     (before : List Step) → GroupsShow (settings_view l.settings) l.fn.self.core before → ScriptAnswered (Some l.fn.self.out.items) (Some l.self.out.items) (settings_view l.settings) before l.self.core l.fn.self.buffer.items l.self.buffer.items
 
-abbrev pub decreases-loop-scratch : goal.decreases-loop-scratch
-decreases-loop-scratch l = length l.self.buffer.items
+abbrev pub decreases-lines : goal.decreases-lines
+decreases-lines l = length l.self.buffer.items
