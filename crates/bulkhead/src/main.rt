@@ -58,7 +58,6 @@ where
         + Threads
         + Wait
         + Clock
-        + Input
         + Print
         + Copy
         + Send
@@ -195,7 +194,6 @@ where
         + Threads
         + Wait
         + Clock
-        + Input
         + Print
         + Copy
         + Send
@@ -209,6 +207,7 @@ where
             settings.as_slice(),
             port,
             limits,
+            rt.reader(),
             rt.stderr(),
         ),
         Err(error) => unreadable(&mut rt.stderr(), &error),
