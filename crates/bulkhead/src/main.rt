@@ -61,7 +61,6 @@ where
         + Threads
         + Wait
         + Clock
-        + Input
         + Print
         + Copy
         + Send
@@ -198,7 +197,6 @@ where
         + Threads
         + Wait
         + Clock
-        + Input
         + Print
         + Copy
         + Send
@@ -212,6 +210,7 @@ where
             settings.as_slice(),
             port,
             limits,
+            rt.reader(),
             rt.stderr(),
         ),
         Err(error) => report::unreadable(&mut rt.stderr(), error),

@@ -16,7 +16,7 @@ use std::thread::{JoinHandle, Threads};
 use std::{io, thread};
 
 /// Serves connections to a port of 127.0.0.1 under the settings, as many as the limits say, and answers the exit status.
-/// Where it keeps serving, it is told to stop by the end of standard input.
+/// Where it keeps serving, it is told to stop by the end of the input.
 ///
 /// - 0: the connections were served, or standard input ended.
 /// - 1: the settings are refused, and no port was bound.
@@ -24,20 +24,22 @@ use std::{io, thread};
 ///
 /// With 1 and 3 a line on `errors` says why. Once the threads of the service stand, the line `listening` with the port's
 /// number is printed.
-pub fn serve_file<R, E: Write + Send + Drop>(
+pub fn serve_file<R, I, E>(
     rt: &R,
     alloc: Global,
     settings: &[u8],
     port: u16,
     limits: Limits,
+    input: I,
     mut errors: E,
 ) -> u8
 where
+    I: Read + Send + Drop + 'static,
+    E: Write + Send + Drop,
     R: Net<Listener = TcpListener, Stream = TcpStream>
         + Threads
         + Wait
         + Clock
-        + Input
         + Print
         + Copy
         + Send
@@ -48,26 +50,28 @@ where
     ensures refused { IsErr (settings_in settings.now) → (result ≡ 1) ⊎ (result ≡ 3) }
 {
     match settings_in(alloc, settings) {
-        Ok(settings) => serve_port(rt, alloc, &settings, port, limits, errors),
+        Ok(settings) => serve_port(rt, alloc, &settings, port, limits, input, errors),
         Err(error) => report::settings(&mut errors, error),
     }
 }
 
 /// Binds the port, and serves the connections to it.
-fn serve_port<R, E: Write + Send + Drop>(
+fn serve_port<R, I, E>(
     rt: &R,
     alloc: Global,
     settings: &Settings,
     port: u16,
     limits: Limits,
+    input: I,
     mut errors: E,
 ) -> u8
 where
+    I: Read + Send + Drop + 'static,
+    E: Write + Send + Drop,
     R: Net<Listener = TcpListener, Stream = TcpStream>
         + Threads
         + Wait
         + Clock
-        + Input
         + Print
         + Copy
         + Send
@@ -85,7 +89,7 @@ where
         return report::settings(&mut errors, SettingsError::Memory);
     };
     let watcher = if limits.keep_serving {
-        let Some(watcher) = start_watcher(rt, &gate, address) else {
+        let Some(watcher) = start_watcher(rt, input, &gate, address) else {
             return report::thread(&mut errors);
         };
         Some(watcher)
@@ -106,17 +110,35 @@ fn shared_gate(alloc: Global, limits: Limits) -> Option<Arc<Gate, Global>> {
 }
 
 /// Starts the thread that tells the service to stop at the end of standard input.
-fn start_watcher<R>(rt: &R, gate: &Arc<Gate, Global>, address: SocketAddr) -> Option<JoinHandle<()>>
+fn start_watcher<R, I>(
+    rt: &R,
+    input: I,
+    gate: &Arc<Gate, Global>,
+    address: SocketAddr,
+) -> Option<JoinHandle<()>>
 where
-    R: Net + Threads + Wait + Clock + Input + Copy + Send + 'static,
+    R: Net<Listener = TcpListener, Stream = TcpStream>
+        + Threads
+        + Wait
+        + Clock
+        + Copy
+        + Send
+        + 'static,
+    I: Read + Send + Drop + 'static,
 {
     let gate = Arc::try_clone(gate).ok()?;
     let handles = *rt;
-    thread::spawn(
-        rt,
-        move || watch(&handles, &mut handles.reader(), &gate, address),
-    )
-    .ok()
+    thread::spawn(rt, move || watch_all(&handles, input, &gate, address)).ok()
+}
+
+/// What the watcher does with its input.
+fn watch_all<R: Net + Wait + Clock, I: Read + Drop>(
+    rt: &R,
+    mut input: I,
+    gate: &Gate,
+    address: SocketAddr,
+) {
+    watch(rt, &mut input, gate, address);
 }
 
 /// Waits for the watcher, where standard input has ended. Where a fault ended the service, it may still wait for that

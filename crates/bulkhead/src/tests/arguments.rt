@@ -25,7 +25,6 @@ fn assert_status<
         + Threads
         + Wait
         + Clock
-        + Input
         + Print
         + Copy
         + Send
