@@ -1,7 +1,7 @@
 -- What the exit status of a service says of its end.
 use Rattle.std.specs.Prelude.{ℕ, Option, Some}
-use Rattle.bh_serve.specs.declared.gate.End.{End}
-use Rattle.bh_serve.specs.declared.gate.End.TheVariants.{Fault}
+use Rattle.bh_serve.specs.declared.acceptor.End.{End}
+use Rattle.bh_serve.specs.declared.acceptor.End.TheVariants.{Fault}
 
 -- a fault ended it; else it was told to stop, or its connections ended
 abbrev pub status_of : Option End → ℕ

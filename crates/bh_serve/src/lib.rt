@@ -2,14 +2,14 @@
 #![tactic(auto)]
 
 mod accepting;
+pub mod acceptor;
 pub mod clock;
 pub mod connection;
 pub mod control;
 pub mod echo;
-pub mod gate;
 pub mod names;
 pub mod serve;
 mod threads;
 
-pub use gate::{Gate, Limits};
+pub use acceptor::{Acceptor, Limits};
 pub use serve::{serve_on, serve_through};

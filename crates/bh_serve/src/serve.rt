@@ -3,9 +3,9 @@
 ghost use Rattle.std.specs.Prelude.{◌≡◌, ◌≤◌, ◌⊎◌, length, IfOk, false};
 ghost use Rattle.bh_serve.specs.Ending.{status_of};
 
+use crate::acceptor::{Acceptor, End, Limits};
 use crate::clock::MachineClock;
 use crate::echo::Echo;
-use crate::gate::{End, Gate, Limits};
 use crate::names::GroupNames;
 use crate::threads::Server;
 use bh_audit::{Book, Shared};
@@ -58,7 +58,7 @@ impl<T: Drop> From<AllocFailed<T>> for ServeError {
 /// Serves so many connections of the listener with the groups of the settings, all new, over the echo dependency,
 /// and answers the exit status. It returns once the last connection has ended, and the service is stopped then.
 ///
-/// It is `serve_through` a gate for so many connections, which may do nothing for any time, and announces nothing.
+/// It is `serve_through` an acceptor for so many connections, which may do nothing for any time, and announces nothing.
 ///
 /// - 0: the connections were served.
 /// - 3: a `ServeError`, of which a line on `errors` says which.
@@ -77,11 +77,11 @@ pub fn serve_on<R: Threads + Wait + Clock + Sync, E: Write + Send>(
         keep_serving: false,
         idle_seconds: 0,
     };
-    match Gate::new(alloc, limits) {
-        Ok(gate) => serve_through(
+    match Acceptor::new(alloc, limits) {
+        Ok(acceptor) => serve_through(
             rt,
             alloc,
-            &gate,
+            &acceptor,
             listener,
             settings,
             &mut io::sink(),
@@ -91,7 +91,7 @@ pub fn serve_on<R: Threads + Wait + Clock + Sync, E: Write + Send>(
     }
 }
 
-/// Serves the connections that the gate lets in, with the groups of the settings, all new, over the echo dependency,
+/// Serves the connections that the acceptor lets in, with the groups of the settings, all new, over the echo dependency,
 /// and answers the exit status. It returns once all its threads have ended.
 ///
 /// Workers, timer and a thread for each connection that may be open at a time are started first; where they are more
@@ -100,9 +100,9 @@ pub fn serve_on<R: Threads + Wait + Clock + Sync, E: Write + Send>(
 /// call. A fault of one connection, a `ConnectionFault`, ends that connection alone and leaves a line on `errors`.
 ///
 /// Where a fault ends the service, calls that wait are answered as stopped, and the connections that are open are
-/// answered until they end. Where the gate was told to stop, they are closed, as `Gate::tell` says.
+/// answered until they end. Where the acceptor was told to stop, they are closed, as `Acceptor::tell` says.
 ///
-/// - 0: the connections were served, or the gate was told to stop.
+/// - 0: the connections were served, or the acceptor was told to stop.
 /// - 3: a `ServeError`, of which a line on `errors` said which as it came.
 pub fn serve_through<
     R: Threads + Wait + Clock + Sync,
@@ -112,7 +112,7 @@ pub fn serve_through<
 >(
     rt: &R,
     alloc: Global,
-    gate: &Gate,
+    acceptor: &Acceptor,
     listener: &L,
     settings: &Settings,
     output: &mut O,
@@ -120,7 +120,7 @@ pub fn serve_through<
 ) -> u8
     ensures { (result ≡ 0) ⊎ (result ≡ 3) }
 {
-    match serve(rt, alloc, gate, listener, settings, output, errors) {
+    match serve(rt, alloc, acceptor, listener, settings, output, errors) {
         Ok(end) => status_of(end),
         Err(AllocError) => refuse(rt, ServeError::Memory, errors),
     }
@@ -154,7 +154,7 @@ fn serve<
 >(
     rt: &R,
     alloc: Global,
-    gate: &Gate,
+    acceptor: &Acceptor,
     listener: &L,
     settings: &Settings,
     output: &mut O,
@@ -171,7 +171,7 @@ fn serve<
         names: &names,
         echo: &echo,
         clock: &clock,
-        gate,
+        acceptor,
         listener,
         errors,
     };

@@ -1,10 +1,10 @@
 //! The threads of a service: workers, a timer, and one for each connection that may be open at a time.
 
+use crate::acceptor::{Acceptor, End, Event};
 use crate::clock::{MachineClock, Ticks};
 use crate::connection::{ConnectionFault, Direction, fault_of};
 use crate::control::ServiceControl;
 use crate::echo::Echo;
-use crate::gate::{End, Event, Gate};
 use crate::names::GroupNames;
 use crate::serve::ServeError;
 use bh_audit::{Pass, Shared};
@@ -34,7 +34,7 @@ pub struct Server<'e, R, L, E> {
     pub names: &'e GroupNames<'e>,
     pub echo: &'e Echo<'e, R>,
     pub clock: &'e MachineClock<'e, R>,
-    pub gate: &'e Gate,
+    pub acceptor: &'e Acceptor,
     pub listener: &'e L,
     pub errors: &'e Mutex<E>,
 }
@@ -67,8 +67,8 @@ impl<'e, R: Wait, L, E: Write> Server<'e, R, L, E> {
 
     /// Says how many threads the service takes, where they are many.
     fn report_threads(&self) {
-        let seats = u64::from(self.gate.seats());
-        let threads = self.workers().saturating_add(seats).saturating_add(1);
+        let connections = u64::from(self.acceptor.threads());
+        let threads = self.workers().saturating_add(connections).saturating_add(1);
         if threads > MANY_THREADS {
             let mut errors = self.errors.lock(self.rt);
             let _ = writeln!(&mut *errors, "threads: {threads}");
@@ -97,11 +97,12 @@ impl<
         })
     }
 
-    /// Tells faults as they come, until the threads of all seats have ended, and answers what ended the service before.
+    /// Tells faults as they come, until the threads of all connections have ended, and answers what ended the service
+    /// before.
     fn see_to_events(&self) -> Option<End> {
         let mut ended = None;
         for _ in self.rt.forever() {
-            match self.gate.next_event(self.rt, ended.is_some()) {
+            match self.acceptor.next_event(self.rt, ended.is_some()) {
                 Event::Fault(fault) => self.report(&fault),
                 Event::End(end) => {
                     self.stop(end);
@@ -118,21 +119,21 @@ impl<
         self.shared.stop(self.rt);
         match end {
             End::Fault(error) => self.report(&error),
-            End::Told => self.gate.close(self.rt),
+            End::Told => self.acceptor.close(self.rt),
         }
     }
 
-    /// Starts the threads and says so, with the gate held shut meanwhile.
+    /// Starts the threads and says so; no connection is accepted meanwhile.
     fn open<'s, O: Write>(
         &'e self,
         scope: &'s Scope<'s, &'e ()>,
         threads: &mut Vec<JoinHandle<()>>,
         output: &mut O,
     ) {
-        let _held = self.gate.hold(self.rt);
+        let _held = self.acceptor.hold(self.rt);
         self.report_threads();
         if let Err(error) = self.start(scope, threads, output) {
-            self.gate.end(self.rt, End::Fault(error));
+            self.acceptor.end(self.rt, End::Fault(error));
         }
     }
 
@@ -145,7 +146,7 @@ impl<
     ) -> Result<(), ServeError> {
         self.start_workers(scope, threads)?;
         self.start_timer(scope, threads)?;
-        self.start_seats(scope, threads)?;
+        self.start_connection_threads(scope, threads)?;
         self.announce(output)
     }
 
@@ -213,16 +214,16 @@ impl<
         );
     }
 
-    /// Starts a thread for each seat of the gate.
-    fn start_seats<'s>(
+    /// Starts a thread for each connection that may be open at a time.
+    fn start_connection_threads<'s>(
         &'e self,
         scope: &'s Scope<'s, &'e ()>,
         threads: &mut Vec<JoinHandle<()>>,
     ) -> Result<(), ServeError> {
-        for seat in 0..self.gate.seats() as usize {
-            self.gate.sit(self.rt);
-            let Ok(thread) = scope.spawn(move || self.serve_seat(seat)) else {
-                self.gate.rise(self.rt);
+        for number in 0..self.acceptor.threads() as usize {
+            self.acceptor.thread_begins(self.rt);
+            let Ok(thread) = scope.spawn(move || self.serve_connections(number)) else {
+                self.acceptor.thread_ends(self.rt);
                 return Err(ServeError::Thread);
             };
             threads.push(thread)?;
@@ -242,47 +243,47 @@ impl<
         }
     }
 
-    /// What the thread of a seat does: it serves one connection after the other, as long as the gate lets one in.
-    fn serve_seat(&self, seat: usize) {
+    /// What the thread of that number does: it serves one connection after the other, as long as the acceptor lets one in.
+    fn serve_connections(&self, number: usize) {
         for _ in self.rt.forever() {
             let Some(stream) = self.next_connection() else {
                 break;
             };
-            if let Err(fault) = self.serve_connection(seat, stream) {
-                self.gate.note(self.rt, fault);
+            if let Err(fault) = self.serve_connection(number, stream) {
+                self.acceptor.note(self.rt, fault);
             }
         }
-        self.gate.rise(self.rt);
+        self.acceptor.thread_ends(self.rt);
     }
 
-    /// The next connection that the gate lets in.
+    /// The next connection that the acceptor lets in.
     fn next_connection(&self) -> Option<TcpStream> {
-        match self.gate.let_in(self.rt, self.listener) {
+        match self.acceptor.let_in(self.rt, self.listener) {
             Ok(stream) => stream,
             Err(_) => {
-                self.gate.end(self.rt, End::Fault(ServeError::Network));
+                self.acceptor.end(self.rt, End::Fault(ServeError::Network));
                 None
             }
         }
     }
 
-    /// Answers a connection on its seat until it ends.
-    fn serve_connection(&self, seat: usize, stream: TcpStream) -> Result<(), ConnectionFault> {
+    /// Answers a connection of the thread until it ends.
+    fn serve_connection(&self, number: usize, stream: TcpStream) -> Result<(), ConnectionFault> {
         let Ok(stream) = Arc::new(self.alloc, stream) else {
             return Err(ConnectionFault::Port(PortError::Memory));
         };
-        if !self.gate.enter(self.rt, seat, &stream) {
+        if !self.acceptor.enter(self.rt, number, &stream) {
             return Ok(());
         }
         let served = self.converse(&stream);
-        self.gate.leave(self.rt, seat);
+        self.acceptor.leave(self.rt, number);
         served
     }
 
     /// Answers the control lines of a connection.
     fn converse(&self, stream: &TcpStream) -> Result<(), ConnectionFault> {
         let _ = stream.set_nodelay(true);
-        let idle = self.gate.idle();
+        let idle = self.acceptor.idle();
         if stream.set_read_timeout(idle).is_err() || stream.set_write_timeout(idle).is_err() {
             return Err(ConnectionFault::Port(PortError::Read));
         }

@@ -6,7 +6,7 @@ ghost use Rattle.bulkhead.specs.SettingsFile.{settings_in};
 use crate::report;
 use crate::settings_file::settings_in;
 use bh_props::{Settings, SettingsError};
-use bh_serve::{Gate, Limits, serve_through};
+use bh_serve::{Acceptor, Limits, serve_through};
 use std::alloc::Global;
 use std::io::{Read, Write};
 use std::net::{Ipv4Addr, Net, SocketAddr, TcpListener, TcpStream};
@@ -85,11 +85,11 @@ where
     let Ok(address) = listener.local_addr() else {
         return report::network(&mut errors);
     };
-    let Some(gate) = shared_gate(alloc, limits) else {
+    let Some(acceptor) = shared_acceptor(alloc, limits) else {
         return report::settings(&mut errors, SettingsError::Memory);
     };
     let watcher = if limits.keep_serving {
-        let Some(watcher) = start_watcher(rt, input, &gate, address) else {
+        let Some(watcher) = start_watcher(rt, input, &acceptor, address) else {
             return report::thread(&mut errors);
         };
         Some(watcher)
@@ -98,22 +98,30 @@ where
     };
     let errors = Mutex::new(errors);
     let mut output = io::writer(rt);
-    let status = serve_through(rt, alloc, &gate, &listener, settings, &mut output, &errors);
-    join_if_told(rt, &gate, watcher);
+    let status = serve_through(
+        rt,
+        alloc,
+        &acceptor,
+        &listener,
+        settings,
+        &mut output,
+        &errors,
+    );
+    join_if_told(rt, &acceptor, watcher);
     status
 }
 
-/// The gate of the service, which the watcher of standard input shares.
-fn shared_gate(alloc: Global, limits: Limits) -> Option<Arc<Gate, Global>> {
-    let gate = Gate::new(alloc, limits).ok()?;
-    Arc::new(alloc, gate).ok()
+/// The acceptor of the service, which the watcher of standard input shares.
+fn shared_acceptor(alloc: Global, limits: Limits) -> Option<Arc<Acceptor, Global>> {
+    let acceptor = Acceptor::new(alloc, limits).ok()?;
+    Arc::new(alloc, acceptor).ok()
 }
 
 /// Starts the thread that tells the service to stop at the end of standard input.
 fn start_watcher<R, I>(
     rt: &R,
     input: I,
-    gate: &Arc<Gate, Global>,
+    acceptor: &Arc<Acceptor, Global>,
     address: SocketAddr,
 ) -> Option<JoinHandle<()>>
 where
@@ -126,26 +134,26 @@ where
         + 'static,
     I: Read + Send + Drop + 'static,
 {
-    let gate = Arc::try_clone(gate).ok()?;
+    let acceptor = Arc::try_clone(acceptor).ok()?;
     let handles = *rt;
-    thread::spawn(rt, move || watch_all(&handles, input, &gate, address)).ok()
+    thread::spawn(rt, move || watch_all(&handles, input, &acceptor, address)).ok()
 }
 
 /// What the watcher does with its input.
 fn watch_all<R: Net + Wait + Clock, I: Read + Drop>(
     rt: &R,
     mut input: I,
-    gate: &Gate,
+    acceptor: &Acceptor,
     address: SocketAddr,
 ) {
-    watch(rt, &mut input, gate, address);
+    watch(rt, &mut input, acceptor, address);
 }
 
 /// Waits for the watcher, where standard input has ended. Where a fault ended the service, it may still wait for that
 /// end, and the end of the program cuts it off.
-fn join_if_told<R: Threads + Wait>(rt: &R, gate: &Gate, watcher: Option<JoinHandle<()>>) {
+fn join_if_told<R: Threads + Wait>(rt: &R, acceptor: &Acceptor, watcher: Option<JoinHandle<()>>) {
     if let Some(watcher) = watcher
-        && gate.was_told(rt)
+        && acceptor.was_told(rt)
     {
         watcher.join(rt);
     }
@@ -155,7 +163,7 @@ fn join_if_told<R: Threads + Wait>(rt: &R, gate: &Gate, watcher: Option<JoinHand
 pub fn watch<R: Net + Wait + Clock, I: Read>(
     rt: &R,
     input: &mut I,
-    gate: &Gate,
+    acceptor: &Acceptor,
     address: SocketAddr,
 ) {
     let mut ignored = [0u8; 256];
@@ -165,5 +173,5 @@ pub fn watch<R: Net + Wait + Clock, I: Read>(
             Ok(_) => {}
         }
     }
-    gate.tell(rt, address);
+    acceptor.tell(rt, address);
 }

@@ -6,8 +6,8 @@ mod hostile_settings;
 mod hostile_streams;
 mod operations;
 mod serve;
+mod serve_acceptor;
 mod serve_clients;
-mod serve_gate;
 mod settings;
 mod streams;
 

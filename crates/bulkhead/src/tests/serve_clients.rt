@@ -1,10 +1,10 @@
 //! Clients of a service that are silent, slow or broken, beside others that are answered.
 
 use super::serve::{TWO_GROUPS, assert_call, assert_heard, connect, hear, listen, say};
-use super::serve_gate::{Scene, at_a_time, in_all};
+use super::serve_acceptor::{Scene, at_a_time, in_all};
 use super::{assert_bytes, assert_end};
 use crate::settings_file::settings_in;
-use bh_serve::{Gate, Limits, serve_through};
+use bh_serve::{Acceptor, Limits, serve_through};
 use std::net::{Net, TcpListener, TcpStream};
 use std::process::Abort;
 use std::rt::Clock;
@@ -116,7 +116,7 @@ impl<R: Net<Listener = TcpListener, Stream = TcpStream> + Wait + Clock + Abort +
     fn stop_beside(&self, stream: &TcpStream) {
         let mut byte = [0u8; 1];
         assert_eq!(self.rt; stream.peek(&mut byte).expect(self.rt, "an answer"), 1);
-        self.gate.tell(self.rt, self.address);
+        self.acceptor.tell(self.rt, self.address);
     }
 
     /// Another connection makes calls.
@@ -181,7 +181,7 @@ impl<R: Net<Listener = TcpListener, Stream = TcpStream> + Wait + Clock + Abort +
             b"{\"op\":\"call\",\"group\":\"a\",\"arg\":\"hi\"}\n",
         );
         self.await_metrics(&other, "\"queued\":1,");
-        self.gate.tell(self.rt, self.address);
+        self.acceptor.tell(self.rt, self.address);
         for stream in [running, &queued] {
             assert_heard(
                 self.rt,
@@ -217,13 +217,13 @@ fn errors_beside<
     act: Act,
     stream: TcpStream,
 ) -> Vec<u8> {
-    let gate = Gate::new(rt.alloc(), limits).expect(rt, "memory");
+    let acceptor = Acceptor::new(rt.alloc(), limits).expect(rt, "memory");
     let settings = settings_in(rt.alloc(), settings.as_bytes()).expect(rt, "settings");
     let errors = Mutex::new(Vec::new(rt.alloc()));
     let scene = Scene {
         rt,
         address: listener.local_addr().expect(rt, "an address"),
-        gate: &gate,
+        acceptor: &acceptor,
         errors: &errors,
     };
     let (status, ()) = thread::join(
@@ -231,7 +231,7 @@ fn errors_beside<
         || serve_through(
             rt,
             rt.alloc(),
-            &gate,
+            &acceptor,
             listener,
             &settings,
             &mut io::sink(),

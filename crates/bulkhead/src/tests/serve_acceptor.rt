@@ -4,7 +4,7 @@ use super::serve::{TWO_GROUPS, assert_call, assert_heard, connect, listen, say};
 use super::{assert_bytes, assert_end};
 use crate::serve::watch;
 use crate::settings_file::settings_in;
-use bh_serve::{Gate, Limits, serve_through};
+use bh_serve::{Acceptor, Limits, serve_through};
 use std::io::{ErrorKind, Write};
 use std::net::{Net, OpenListener, SocketAddr, TcpListener, TcpStream};
 use std::os::fd::OwnedFd;
@@ -86,7 +86,7 @@ pub(super) enum Visit {
 pub(super) struct Scene<'a, R> {
     pub(super) rt: &'a R,
     pub(super) address: SocketAddr,
-    pub(super) gate: &'a Gate,
+    pub(super) acceptor: &'a Acceptor,
     pub(super) errors: &'a Mutex<Vec<u8>>,
 }
 
@@ -160,7 +160,7 @@ impl<R: Net<Listener = TcpListener, Stream = TcpStream> + Wait + Clock + Abort +
         );
         say(self.rt, &last, br#"{"op":"groups"}"#);
         let mut input: &[u8] = b"what stands on standard input does not matter";
-        watch(self.rt, &mut input, self.gate, self.address);
+        watch(self.rt, &mut input, self.acceptor, self.address);
         let groups = "{\"groups\":[\"a\",\"b\"],\"reply\":\"groups\"}\n";
         assert_heard(self.rt, &last, groups, "half a line before the end");
         assert_heard(self.rt, &last, "", "the end");
@@ -179,13 +179,13 @@ fn assert_service<
     L: OpenListener<Stream = TcpStream> + Sync,
 >(rt: &R, listener: &L, settings: &str, limits: Limits, visit: Visit, status: u8, want: &str) {
     let address = listener.local_addr().expect(rt, "an address");
-    let gate = Gate::new(rt.alloc(), limits).expect(rt, "memory");
+    let acceptor = Acceptor::new(rt.alloc(), limits).expect(rt, "memory");
     let settings = settings_in(rt.alloc(), settings.as_bytes()).expect(rt, "settings");
     let errors = Mutex::new(Vec::new(rt.alloc()));
     let scene = Scene {
         rt,
         address,
-        gate: &gate,
+        acceptor: &acceptor,
         errors: &errors,
     };
     let (answered, ()) = thread::join(
@@ -193,7 +193,7 @@ fn assert_service<
         || serve_through(
             rt,
             rt.alloc(),
-            &gate,
+            &acceptor,
             listener,
             &settings,
             &mut io::sink(),
@@ -312,10 +312,18 @@ where
         + Sync,
 {
     let listener = listen(rt);
-    let gate = Gate::new(rt.alloc(), in_all(0)).expect(rt, "memory");
+    let acceptor = Acceptor::new(rt.alloc(), in_all(0)).expect(rt, "memory");
     let settings = settings_in(rt.alloc(), settings.as_bytes()).expect(rt, "settings");
     let errors = Mutex::new(Vec::new(rt.alloc()));
-    let answered = serve_through(rt, rt.alloc(), &gate, &listener, &settings, output, &errors);
+    let answered = serve_through(
+        rt,
+        rt.alloc(),
+        &acceptor,
+        &listener,
+        &settings,
+        output,
+        &errors,
+    );
     assert_end(rt, answered, status);
     assert_bytes(rt, &errors.into_inner(), want, "the errors");
 }

@@ -1,4 +1,4 @@
-//! The gate of a service: it lets connections in, and knows which are open.
+//! The acceptor of a service: it accepts connections, and knows which are open.
 
 use crate::accepting::{AcceptFault, if_passing};
 use crate::connection::{ConnectionFault, FaultCounts};
@@ -46,36 +46,37 @@ pub(crate) enum Event {
     Fault(ConnectionFault),
     /// The service is to end.
     End(End),
-    /// The threads of all seats have ended.
+    /// The threads of all connections have ended.
     Over,
 }
 
 /// Lets connections in until so many have come, the service is told to stop, or a fault ends it.
 ///
-/// Each connection is served on a seat, of which there are as many as connections may be open at a time.
+/// Each connection is served by a thread, of which there are as many as connections may be open at a time; they have the
+/// numbers from 0 on.
 #[derive(Drop)]
-pub struct Gate {
+pub struct Acceptor {
     /// Whoever has it may accept the next connection.
     turn: Mutex<()>,
     inside: Mutex<Inside>,
     changed: Condvar,
-    seats: u32,
+    threads: u32,
     idle_seconds: u32,
 }
 
 /// What is known of the connections of a service.
 #[derive(Drop)]
 struct Inside {
-    /// How many connections may still come; where there is no number, any.
+    /// How many connections may still come; with no limit, any.
     left: Option<u32>,
-    /// How many seats there are threads for.
-    seated: u32,
+    /// How many threads for connections have begun and not ended.
+    running: u32,
     /// Whether a thread waits for a connection.
     accepting: bool,
     end: Option<End>,
     /// The faults of connections that were not told yet.
     faults: FaultCounts,
-    /// The connection on each seat.
+    /// The connection of each thread, by its number.
     open: Vec<Option<Arc<TcpStream, Global>>>,
 }
 
@@ -87,7 +88,7 @@ impl Inside {
 
     /// Whether there is something to see to in a service that has ended, or has not.
     fn has_event(&self, ended: bool) -> bool {
-        self.seated == 0 || self.faults.is_some() || (self.end.is_some() && !ended)
+        self.running == 0 || self.faults.is_some() || (self.end.is_some() && !ended)
     }
 
     /// Counts a connection that is let in.
@@ -96,12 +97,12 @@ impl Inside {
     }
 }
 
-impl Gate {
-    /// The gate of one service.
-    pub fn new(alloc: Global, limits: Limits) -> Result<Gate, AllocError> {
-        let seats = limits.connections.min(MOST_OPEN);
+impl Acceptor {
+    /// The acceptor of one service.
+    pub fn new(alloc: Global, limits: Limits) -> Result<Acceptor, AllocError> {
+        let threads = limits.connections.min(MOST_OPEN);
         let mut open = Vec::new(alloc);
-        for _ in 0..seats {
+        for _ in 0..threads {
             open.push(None)?;
         }
         let left = if limits.keep_serving {
@@ -109,18 +110,18 @@ impl Gate {
         } else {
             Some(limits.connections)
         };
-        Ok(Gate {
+        Ok(Acceptor {
             turn: Mutex::new(()),
             inside: Mutex::new(Inside {
                 left,
-                seated: 0,
+                running: 0,
                 accepting: false,
                 end: None,
                 faults: FaultCounts::none(),
                 open,
             }),
             changed: Condvar::new(),
-            seats,
+            threads,
             idle_seconds: limits.idle_seconds,
         })
     }
@@ -147,8 +148,8 @@ impl Gate {
     }
 
     /// How many connections may be open at a time.
-    pub(crate) fn seats(&self) -> u32 {
-        self.seats
+    pub(crate) fn threads(&self) -> u32 {
+        self.threads
     }
 
     /// How long a connection may neither send nor read, where there is a limit.
@@ -159,7 +160,7 @@ impl Gate {
         Some(Duration::from_secs(u64::from(self.idle_seconds)))
     }
 
-    /// Holds the gate shut.
+    /// Lets nobody accept a connection as long as the guard is kept.
     pub(crate) fn hold<R: Wait>(&self, rt: &R) -> MutexGuard<'_, ()> {
         self.turn.lock(rt)
     }
@@ -197,16 +198,16 @@ impl Gate {
         self.changed.notify_all();
     }
 
-    /// A thread is about to be started for one more seat.
-    pub(crate) fn sit<R: Wait>(&self, rt: &R) {
+    /// One more thread for connections is about to be started.
+    pub(crate) fn thread_begins<R: Wait>(&self, rt: &R) {
         let mut inside = self.inside.lock(rt);
-        inside.seated = inside.seated.saturating_add(1);
+        inside.running = inside.running.saturating_add(1);
     }
 
-    /// The thread of a seat has ended, or was not started.
-    pub(crate) fn rise<R: Wait>(&self, rt: &R) {
+    /// A thread for connections has ended, or was not started.
+    pub(crate) fn thread_ends<R: Wait>(&self, rt: &R) {
         let mut inside = self.inside.lock(rt);
-        inside.seated = inside.seated.saturating_sub(1);
+        inside.running = inside.running.saturating_sub(1);
         self.changed.notify_all();
     }
 
@@ -247,7 +248,7 @@ impl Gate {
         let_in
     }
 
-    /// Accepts one connection. None where the gate is shut meanwhile.
+    /// Accepts one connection. None where none is let in any more.
     fn accept<R: Wait + Clock, L: OpenListener<Stream = TcpStream>>(
         &self,
         rt: &R,
@@ -266,11 +267,11 @@ impl Gate {
         unreachable!()
     }
 
-    /// Puts a connection on a seat. False where the service was told to stop.
+    /// Notes the connection of a thread. False where the service was told to stop.
     pub(crate) fn enter<R: Wait>(
         &self,
         rt: &R,
-        seat: usize,
+        number: usize,
         stream: &Arc<TcpStream, Global>,
     ) -> bool {
         let mut inside = self.inside.lock(rt);
@@ -278,7 +279,7 @@ impl Gate {
             return false;
         }
         let inside = &mut *inside;
-        match (inside.open.get_mut(seat), Arc::try_clone(stream)) {
+        match (inside.open.get_mut(number), Arc::try_clone(stream)) {
             (Some(place), Ok(stream)) => {
                 *place = Some(stream);
                 true
@@ -287,11 +288,11 @@ impl Gate {
         }
     }
 
-    /// Takes the connection off its seat.
-    pub(crate) fn leave<R: Wait>(&self, rt: &R, seat: usize) {
+    /// The thread has no connection any more.
+    pub(crate) fn leave<R: Wait>(&self, rt: &R, number: usize) {
         let mut inside = self.inside.lock(rt);
         let inside = &mut *inside;
-        if let Some(place) = inside.open.get_mut(seat) {
+        if let Some(place) = inside.open.get_mut(number) {
             *place = None;
         }
     }
@@ -314,13 +315,13 @@ impl Gate {
         }
     }
 
-    /// Waits a while for the threads of the seats to end.
+    /// Waits a while for the threads for connections to end.
     fn wait_until_left<R: Wait + Clock>(&self, rt: &R) {
         let _ = self.changed.wait_timeout_while(
             rt,
             self.inside.lock(rt),
             Duration::from_millis(GRACE),
-            |inside| inside.seated > 0,
+            |inside| inside.running > 0,
         );
     }
 }
