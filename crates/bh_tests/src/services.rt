@@ -233,7 +233,8 @@ pub(crate) fn same_lists(alloc: Global, wanted: &[(GroupId, u64)]) -> Option<Vec
 fn same_requests(alloc: Global, number: u64) -> Option<Vec<Request>> {
     let mut requests = Vec::new(alloc);
     for _ in 0..number {
-        requests.push(request("x")).ok()?;
+        let arg = Text::new("x").ok()?;
+        requests.push(Request { cache: None, arg }).ok()?;
     }
     Some(requests)
 }

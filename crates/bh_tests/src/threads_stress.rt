@@ -7,7 +7,7 @@ use crate::services::{
     service,
 };
 use crate::threads_gates::{Gate, assert_passed};
-use bh_audit::{Pass, Shared};
+use bh_audit::{Pass, Shared, StepError};
 use bh_base::{Answer, CallError, Cause, FallbackEnd, GroupId, GroupProps, Reply, RunEnd, Text};
 use bh_workers::{Dependency, Driven, call, worker_loop};
 use std::process::Abort;
@@ -179,6 +179,16 @@ fn stop_beside_worker<R: Threads + Wait + Sync + rt::Clock>(
     );
 }
 
+/// Whether the call was told that the service is stopped.
+fn is_stopped(answer: &Result<Answer, CallError>) -> bool {
+    matches!(answer, Err(CallError::Stopped))
+}
+
+/// Whether the ticket had its answer.
+fn is_answered(reply: &Result<Reply, StepError>) -> bool {
+    matches!(reply, Ok(Reply::Answered(_)))
+}
+
 #[test]
 fn stopped_in_the_middle(rt: HostRuntime) {
     let shared = service(&rt, props(), props(), 1000);
@@ -191,10 +201,9 @@ fn stopped_in_the_middle(rt: HostRuntime) {
     let answer = call_and_stop(&rt, &shared, &held, &mut caller, &mut worker);
     assert_passed(&rt, &held.begun);
     assert_passed(&rt, &held.told);
-    assert!(rt; matches!(answer, Err(CallError::Stopped)));
+    assert!(rt; is_stopped(&answer));
     // The ticket is still held: its answer is there to be collected.
-    let late = shared.await_answer(&rt, &mut caller, 1, &Still);
-    assert!(rt; late.is_ok_and(|reply| matches!(reply, Reply::Answered(_))));
+    assert!(rt; is_answered(&shared.await_answer(&rt, &mut caller, 1, &Still)));
     let passes = vec![in rt.alloc(); caller, worker].expect(&rt, "memory");
     assert_end(&rt, shared, passes, "5 of 1000, 0 of 1000, stopped");
 }

@@ -11,7 +11,7 @@ use std::rt::Clock;
 use std::sync::{Mutex, Wait};
 use std::thread::Threads;
 use std::time::Duration;
-use std::{io, thread};
+use std::{io, str, thread};
 
 /// A group of one worker, whose calls do not time out.
 const ONE_WORKER: &str = r#"
@@ -139,7 +139,7 @@ impl<R: Net<Listener = TcpListener, Stream = TcpStream> + Wait + Clock + Abort +
         for _ in 0..LOOKS {
             say(self.rt, stream, b"{\"op\":\"metrics\",\"group\":\"a\"}\n");
             let line = hear(self.rt, stream);
-            if has_part(line.as_slice(), part.as_bytes()) {
+            if has_part(line.as_slice(), part) {
                 return;
             }
             thread::sleep(self.rt, Duration::from_millis(10));
@@ -196,8 +196,11 @@ impl<R: Net<Listener = TcpListener, Stream = TcpStream> + Wait + Clock + Abort +
 }
 
 /// Whether the part stands in the line.
-fn has_part(line: &[u8], part: &[u8]) -> bool {
-    line.windows(part.len()).any(|window| window == part)
+fn has_part(line: &[u8], part: &str) -> bool {
+    match str::from_utf8(line) {
+        Ok(line) => line.contains(part),
+        Err(_) => false,
+    }
 }
 
 /// Serves the connection beside the act, asserts that the service ends well, and answers what it wrote to its errors.
