@@ -237,11 +237,15 @@ fn refused_writes<R: Abort + AllocGlobal>(rt: &R, size: usize, refusal: Refusal)
 
 #[test]
 fn a_session_whose_writer_fails_or_takes_no_byte_at_any_call(rt: HostRuntime) {
-    // The last line is answered by a write of its own.
+    // The first line is answered before the call of the second is made, and the last by a write of its own.
+    let first = "{\"groups\":[\"a\",\"b\"],\"reply\":\"groups\"}\n".len();
     let last = "{\"reply\":\"worn\"}\n".len();
-    let others = REPLIES.len().saturating_sub(last);
+    let between = REPLIES.len().saturating_sub(first).saturating_sub(last);
     for size in [1, 7, 40, 4096] {
-        let writes = others.div_ceil(size.max(1)) + last.div_ceil(size.max(1));
+        let own = first
+            .div_ceil(size.max(1))
+            .saturating_add(last.div_ceil(size.max(1)));
+        let writes = own.saturating_add(between.div_ceil(size.max(1)));
         assert_eq!(rt; refused_writes(&rt, size, Refusal::Fails), writes);
         assert_eq!(rt; refused_writes(&rt, size, Refusal::TakesNone), writes);
     }
