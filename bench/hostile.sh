@@ -20,7 +20,6 @@ while getopts n:g:i:p: option; do
     esac
 done
 shift $((OPTIND - 1))
-program=${1:-$here/../crates/bulkhead/out/bulkhead}
 . "$here/service.sh"
 hostile=
 trap 'end_hostile; end_service; rm -r "$work"' EXIT
@@ -30,9 +29,6 @@ end_hostile() {
     hostile=
 }
 
-if [ $# -eq 0 ]; then
-    (cd "$here/../crates/bulkhead" && rt run -- --help >"$work/build" 2>&1) || { cat "$work/build"; exit 1; }
-fi
 cc -O2 -o "$work/client" "$here/serve_client.c"
 cc -O2 -o "$work/hostile" "$here/hostile_client.c"
 list_settings "$groups" "" >"$work/settings.toml"

@@ -19,36 +19,15 @@ while getopts g:w:s:p: option; do
     esac
 done
 shift $((OPTIND - 1))
-program=${1:-$here/../crates/bulkhead/out/bulkhead}
-work=$(mktemp -d)
-service=
-trap '[ -z "$service" ] || kill "$service" 2>/dev/null || true; rm -r "$work"' EXIT
-
-if [ $# -eq 0 ]; then
-    (cd "$here/../crates/bulkhead" && rt run -- --help >"$work/build" 2>&1) || { cat "$work/build"; exit 1; }
-fi
-
-awk -v GROUPS="$groups" -v WORKERS="$workers" 'BEGIN {
-    printf("service.groups = [")
-    for (group = 0; group < GROUPS; group++) {
-        printf("\"g%d\",", group)
-    }
-    printf("]\nhystrix.threadpool.default.coreSize = %d\n", WORKERS)
-}' >"$work/settings.toml"
+. "$here/service.sh"
+list_settings "$groups" "hystrix.threadpool.default.coreSize = $workers" >"$work/settings.toml"
 
 # The processor time of the service so far, in ticks of the kernel.
 ticks() {
     awk '{ sub(/.*\) /, ""); print $12 + $13 }' "/proc/$service/stat"
 }
 
-"$program" serve "$work/settings.toml" --port "$port" --connections 1 >"$work/listening" &
-service=$!
-for _ in $(seq 400); do
-    ! grep -qs listening "$work/listening" || break
-    sleep 0.05
-done
-grep -qs listening "$work/listening" || { echo "the service does not listen" >&2; exit 1; }
-
+start "$program" --connections 1
 sleep 2
 before=$(ticks)
 sleep "$seconds"

@@ -23,12 +23,7 @@ while getopts n:g:r:s:o:p: option; do
     esac
 done
 shift $((OPTIND - 1))
-program=${1:-$here/../crates/bulkhead/out/bulkhead}
 . "$here/service.sh"
-
-if [ $# -eq 0 ]; then
-    (cd "$here/../crates/bulkhead" && rt run -- --help >"$work/build" 2>&1) || { cat "$work/build"; exit 1; }
-fi
 cc -O2 -o "$work/client" "$here/serve_client.c"
 
 # Prints the figures of one run of a program over so many connections.

@@ -1,5 +1,5 @@
-# For the scripts that time `bulkhead serve`: they set `here`, this folder, and `port`.
-work=$(mktemp -d)
+# For the scripts that time `bulkhead serve`: what `program.sh` asks of them, and they set `port`.
+. "$here/program.sh"
 service=
 trap 'end_service; rm -r "$work"' EXIT
 

@@ -1,13 +1,6 @@
-# For the scripts that time `bulkhead run`: they set `here`, this folder, and `runs`, and have taken their options. What is
-# left is the program; where none is given, it is proved and built.
-program=${1:-$here/../crates/bulkhead/out/bulkhead}
-work=$(mktemp -d)
+# For the scripts that time `bulkhead run`: what `program.sh` asks of them, and they set `runs`.
+. "$here/program.sh"
 settings=$work/settings.toml
-trap 'rm -r "$work"' EXIT
-
-if [ $# -eq 0 ]; then
-    (cd "$here/../crates/bulkhead" && rt run -- --help >"$work/build" 2>&1) || { cat "$work/build"; exit 1; }
-fi
 
 # Prints the first line of a settings file, which lists so many groups.
 list_groups() {
