@@ -31,7 +31,8 @@ end_hostile() {
 
 cc -O2 -o "$work/client" "$here/serve_client.c"
 cc -O2 -o "$work/hostile" "$here/hostile_client.c"
-list_settings "$groups" "" >"$work/settings.toml"
+# The last group is called by the hostile clients alone: those who call one group share its workers.
+list_settings "$((groups + 1))" "" >"$work/settings.toml"
 
 # Prints the figures of four connections.
 call_four() {
@@ -47,7 +48,7 @@ exec 4<>"$work/input"
 start "$program" --connections 64 --keep-serving --idle "$idle" <"$work/input" 4>&- 2>"$work/errors"
 exec 5>"$work/input" 4>&-
 call_four "4 connections alone"
-"$work/hostile" "$port" 60 >"$work/connected" &
+"$work/hostile" "$port" 60 "g$groups" >"$work/connected" &
 hostile=$!
 within_ten_seconds grep -qs connected "$work/connected"
 sleep 1

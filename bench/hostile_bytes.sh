@@ -52,7 +52,8 @@ for length in $(seq 0 $((${#submit} - 1))); do
     printf '%s' "${submit:0:$length}" | line "the first $length bytes of a line" "$front" "" 0
 done
 { echo "$start"; copies 1025 x; echo; echo "$start"; } | line "1,025 letters behind a line" "$idle" "fault: line\n" 3
-{ echo "$start"; head -c 8388608 /dev/zero; } | line "eight million zeros in a line" "$idle" "fault: line\n" 3
+# The program stops reading in the middle of them.
+{ echo "$start"; head -c 8388608 /dev/zero || true; } | line "eight million zeros in a line" "$idle" "fault: line\n" 3
 
 # Checks the file, and compares the text on standard error and the status with what is wanted.
 file() {

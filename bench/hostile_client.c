@@ -1,9 +1,9 @@
 /* Holds so many connections to a service that harm it as far as they can, until it is ended.
  *
- *   hostile_client PORT CONNECTIONS
+ *   hostile_client PORT CONNECTIONS GROUP
  *
  * A fourth of them each send two thousand bytes without a line feed, send half a line and then nothing, ask without ever
- * reading an answer, and are reset in the middle of a call. One that was closed connects anew. One thread serves all of
+ * reading an answer, and are reset in the middle of a call of the group. One that was closed connects anew. One thread serves all of
  * them, and looks at each a hundred times a second. It talks to 127.0.0.1 alone. */
 #include <arpa/inet.h>
 #include <errno.h>
@@ -27,6 +27,7 @@ typedef struct {
 } Client;
 
 static int port;
+static char call[128];      /* the line that calls the group */
 
 static void fail(const char *why) {
     fprintf(stderr, "%s\n", why);
@@ -75,9 +76,8 @@ static int ask_without_reading(Client *client) {
 }
 
 static int reset_in_a_call(Client *client) {
-    static const char call[] = "{\"op\":\"call\",\"group\":\"g0\",\"arg\":\"sleep 50\"}\n";
     struct linger at_once = {.l_onoff = 1, .l_linger = 0};
-    if (client->looks < 3) return client->looks > 0 || send_text(client, call, sizeof call - 1);
+    if (client->looks < 3) return client->looks > 0 || send_text(client, call, strlen(call));
     setsockopt(client->socket, SOL_SOCKET, SO_LINGER, &at_once, sizeof at_once);
     return 0;
 }
@@ -94,8 +94,9 @@ static int go_on(Client *client) {
 
 int main(int argc, char **argv) {
     static Client clients[MOST_CONNECTIONS];
-    if (argc != 3) fail("hostile_client PORT CONNECTIONS");
+    if (argc != 4) fail("hostile_client PORT CONNECTIONS GROUP");
     port = atoi(argv[1]);
+    snprintf(call, sizeof call, "{\"op\":\"call\",\"group\":\"%.32s\",\"arg\":\"sleep 50\"}\n", argv[3]);
     int count = atoi(argv[2]);
     if (count < 1 || count > MOST_CONNECTIONS) fail("1 to 64 connections");
     for (int i = 0; i < count; i++) {

@@ -1,5 +1,5 @@
 -- All groups together with the tickets of them all.
-use Rattle.std.proofs.Common.{◌≡◌, ℕ, ◌<◌, List, [], ◌∷◌, length, map, get_or, set, Some, None, inl, inr, zero, suc, refl, ◌∙◌, sym, ap, subst, arith}
+use Rattle.std.proofs.Common.{◌≡◌, ℕ, ◌<◌, List, [], ◌∷◌, length, map, get_or, set, Option, Some, None, inl, inr, zero, suc, refl, ◌∙◌, sym, ap, subst, arith}
 use Rattle.std.specs.Option.{option_map}
 use Rattle.std.specs.Prelude.{◌≢◌, slice_get, sum_by}
 use Rattle.std.proofs.lemmas.Bool.{cases_eq}
@@ -78,6 +78,14 @@ shown_some ts gs i g here none = (let both : None ≡ Some (view_in ts g) = sym 
 -- where there is no group, callers see no view
 pub shown_none : (ts : TicketsView) (gs : List GroupView) (i : ℕ) (v : View) → slice_get gs i ≡ None → slice_get (views_in ts gs) i ≡ Some v → ⊥
 shown_none ts gs i v none shown = (let both : Some v ≡ None = sym shown ∙ slice_get-map (view_in ts) gs i ∙ ap (option_map (view_in ts)) none in cc)
+
+-- a group that has no ticket shows none
+pub shown_empty : (ts : TicketsView) (gs : List GroupView) (i : ℕ) (v : View) → AreGroups ts gs → slice_get (views_in ts gs) i ≡ Some v → (group_at ts i).items ≡ [] → v.present.tickets ≡ []
+shown_empty ts gs i v all shown none = at (slice_get gs i) refl
+  where
+    at : (o : Option GroupView) → slice_get gs i ≡ o → v.present.tickets ≡ []
+    at None e = absurd (shown_none ts gs i v e shown)
+    at (Some g) e = ap (λ (w : View). w.present.tickets) (shown_is ts gs i g v e shown) ∙ (ap (λ n. (group_at ts n).items) (all.number i g e) ∙ none)
 
 -- one group of many was changed together with its tickets
 module _ (ts us : TicketsView) (gs : List GroupView) (i : ℕ) (g h : GroupView) (all : AreGroups ts gs) (inside : i < length gs) (is : g ≡ get_or gs i g) (left : Leaves ts g us h) where

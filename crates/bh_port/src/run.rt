@@ -13,7 +13,7 @@ ghost use Rattle.bh_port.specs.Text.{reply_to};
 ghost use Rattle.bh_port.specs.Script.{GroupsShow, AnswersLine, ScriptAnswered, ScriptOutcome, IsNotRead};
 
 use crate::steps::line_step;
-use bh_base::Step;
+use bh_base::{Reply, Step};
 use bh_core::Core;
 use bh_lines::{Fault, PortError, last_line, next_line, put_fault, put_reply};
 use bh_props::Settings;
@@ -23,14 +23,16 @@ use json::Scratch;
 use std::alloc::{AllocError, Global};
 use std::io::Write;
 
-/// A run of a script: the groups, the bytes whose line has not ended, the answers that are to be written at once, and
-/// what reading a line takes in memory.
+/// A run of a script: the groups, the bytes whose line has not ended, the answers that are to be written at once, the
+/// last of them by itself, and what reading a line takes in memory.
 #[derive(Drop)]
 pub struct Run {
     pub alloc: Global,
     pub core: Core,
     pub buffer: BytesMut,
     pub out: Vec<u8>,
+    /// The library's writer clears as many bytes beyond its text as stand before it, so an answer is put here first.
+    pub answer: Vec<u8>,
     pub scratch: Scratch,
 }
 
@@ -130,7 +132,7 @@ impl Run {
         ensures left { self.new.buffer ≡ self.old.buffer }
     {
         let reply = self.core.apply(step);
-        put_reply(self.alloc, &mut self.out, &reply)
+        append_reply(self.alloc, &mut self.answer, &mut self.out, &reply)
     }
 
     /// Puts the line of a fault behind what is to be written.
@@ -140,6 +142,36 @@ impl Run {
         ensures kept { OnErr result (self.new.out.items ≡ self.old.out.items) }
         ensures left { self.new.buffer ≡ self.old.buffer }
     {
-        put_fault(self.alloc, &mut self.out, fault)
+        append_fault(self.alloc, &mut self.answer, &mut self.out, fault)
     }
+}
+
+/// Puts the line of the reply behind the bytes, by way of a buffer for one line.
+fn append_reply(
+    alloc: Global,
+    line: &mut Vec<u8>,
+    bytes: &mut Vec<u8>,
+    reply: &Reply,
+) -> Result<(), AllocError>
+    ensures ok { OnOk result (bytes.new.items ≡ bytes.old.items ++ reply_line reply.now) }
+    ensures err { OnErr result (bytes.new.items ≡ bytes.old.items) }
+{
+    line.clear();
+    put_reply(alloc, line, reply)?;
+    bytes.extend_from_slice(line.as_slice())
+}
+
+/// Puts the line of the fault behind the bytes, by way of a buffer for one line.
+fn append_fault(
+    alloc: Global,
+    line: &mut Vec<u8>,
+    bytes: &mut Vec<u8>,
+    fault: Fault,
+) -> Result<(), AllocError>
+    ensures ok { OnOk result (bytes.new.items ≡ bytes.old.items ++ fault_line fault) }
+    ensures err { OnErr result (bytes.new.items ≡ bytes.old.items) }
+{
+    line.clear();
+    put_fault(alloc, line, fault)?;
+    bytes.extend_from_slice(line.as_slice())
 }

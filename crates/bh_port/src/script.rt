@@ -63,6 +63,7 @@ pub fn script<R: Read, W: Write>(
         core,
         buffer: BytesMut::new(alloc),
         out: Vec::new(alloc),
+        answer: Vec::new(alloc),
         scratch: Scratch::new(alloc),
     };
     let mut piece = [0u8; READ_SIZE];

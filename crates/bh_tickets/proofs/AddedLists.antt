@@ -1,5 +1,5 @@
 -- A family gets empty lists, and then one of them the new slots.
-use Rattle.std.proofs.Common.{◌≡◌, ℕ, zero, suc, ◌+◌, ◌-◌, ◌<◌, ◌≤◌, List, [], ◌∷◌, ◌++◌, map, length, get_or, replicate, refl, ◌∙◌, sym, ap, subst, arith, append-nil, length-append, length-set, get_or-set_same, get_or-set_other}
+use Rattle.std.proofs.Common.{◌≡◌, ℕ, zero, suc, ◌+◌, ◌<◌, ◌≤◌, List, [], ◌∷◌, ◌++◌, map, length, get_or, replicate, refl, ◌∙◌, sym, ap, subst, arith, append-nil, length-append, length-set, get_or-set_same, get_or-set_other}
 use Rattle.std.specs.List.{zip}
 use Rattle.bh_slot_arena.specs.Lists.{put_last}
 use Rattle.bh_slot_arena.specs.Slots.{lists_in, slots_on, with_new_lists}

@@ -1,7 +1,8 @@
 -- A ticket comes.
 use Rattle.std.proofs.Common.{◌≡◌, ℕ, zero, suc, ◌+◌, ◌<◌, ◌≤◌, inl, inr, Bool, true, false, List, [], ◌∷◌, ◌++◌, length, Option, Some, None, refl, ◌∙◌, sym, ap, subst, arith}
-use Rattle.std.specs.Prelude.{◌||◌, ◌≢◌, eqb, slice_get, is_some, if◌then◌else◌}
+use Rattle.std.specs.Prelude.{◌||◌, ◌≢◌, eqb, reverse, slice_get, is_some, if◌then◌else◌}
 use Rattle.std.proofs.lemmas.Bool.{cases_eq, eq-eqb, ne_eqb}
+use Rattle.std.proofs.lemmas.List.{nil_from_length, length-reverse}
 use Rattle.bh_base.specs.declared.ticket.Ticket.{Ticket}
 use Rattle.bh_base.specs.declared.ticket.TicketState.{TicketState}
 use Rattle.bh_base.specs.Tickets.{is_queued, is_in_fallback, is_kept}
@@ -14,7 +15,7 @@ use Rattle.bh_tickets.specs.GroupSlots.{IsNumbered, IsGroupSlots, CanAdd, IsAdde
 use Rattle.bh_tickets.specs.declared.group_slots.Needless.TheVariants as needless
 use Rattle.bh_cache.proofs.Order.{order_same, order_without, order_append, front_on, front_none, count_le, count_same}
 use Rattle.bh_cache.proofs.Counts.{count_point}
-use Rattle.bh_cache.proofs.Places.{get_set}
+use Rattle.bh_cache.proofs.Places.{get_set, has_reverse}
 use Rattle.bh_tickets.proofs.Touched.{IsTouched, touched_both, payload_other, payload_slot, at_other, at_slot, touched_arena, touched_frame, owned_same}
 use Rattle.bh_cache.proofs.Moves.{has_without, list_to}
 use Rattle.bh_tickets.proofs.Own.{come_arranged, come_tickets, live_for}
@@ -53,12 +54,20 @@ live_is a g x arena = by (is_live a g x) refl
     by true e = any_is (slice_get a.payloads x) ∙ payload_some a.payloads x (live_within a g x arena e)
     by false e = refl
 
+-- the last slot of a list is on it
+pub back_on : (x : ℕ) (xs : List ℕ) → slice_get (reverse xs) 0 ≡ Some x → has x xs ≡ true
+back_on x xs e = sym (has_reverse x xs) ∙ front_on x (reverse xs) e
+
+-- a list that has no last slot is empty
+back_none : (xs : List ℕ) → slice_get (reverse xs) 0 ≡ None → xs ≡ []
+back_none xs e = nil_from_length xs (sym (length-reverse xs) ∙ ap length (front_none (reverse xs) e))
+
 -- where no slot is free, all are taken
-pub all_taken : (a : Slots) (s : GroupSlots) → IsArena a 0 → IsGroupSlots a s → slice_get (slots_on a 0 s.lists.free) 0 ≡ None → s.slots.taken ≡ s.slots.max
+pub all_taken : (a : Slots) (s : GroupSlots) → IsArena a 0 → IsGroupSlots a s → slice_get (reverse (slots_on a 0 s.lists.free)) 0 ≡ None → s.slots.taken ≡ s.slots.max
 all_taken a s arena group none =
     group.taken
     ∙ count_same (λ x. has_one is_any (ticket_at a s.lists x)) (is_owned a s.lists) (length a.payloads)
-    (λ x. live_is a s.lists x arena ∙ sym (ap (λ xs. has x xs || is_live a s.lists x) (front_none (slots_on a 0 s.lists.free) none)))
+    (λ x. live_is a s.lists x arena ∙ sym (ap (λ xs. has x xs || is_live a s.lists x) (back_none (slots_on a 0 s.lists.free) none)))
     ∙ group.slots
 
 -- a slot that is free has no ticket
@@ -86,10 +95,10 @@ or_second : (b c : Bool) → c ≡ true → (b || c) ≡ true
 or_second true c e = refl
 or_second false c e = e
 
-module _ (a b : Slots) (s : GroupSlots) (x : ℕ) (v : Ticket) (arena : IsArena a 0) (group : IsGroupSlots a s) (front : slice_get (slots_on a 0 s.lists.free) 0 ≡ Some x) (can : CanAdd s v)
+module _ (a b : Slots) (s : GroupSlots) (x : ℕ) (v : Ticket) (arena : IsArena a 0) (group : IsGroupSlots a s) (back : slice_get (reverse (slots_on a 0 s.lists.free)) 0 ≡ Some x) (can : CanAdd s v)
     (serials : IsArena a 1) (names : IsArena a 2) (is : b ≡ with_placed s.lists x (Some v) (with_moved 0 x (list_for s.lists v.state) (with_payload x v a))) where
   on : is_on a 0 s.lists.free x ≡ true
-  on = front_on x (slots_on a 0 s.lists.free) front
+  on = back_on x (slots_on a 0 s.lists.free) back
 
   within : x < length a.payloads
   within = arena.within s.lists.free x on
@@ -215,8 +224,8 @@ module _ (a b : Slots) (s : GroupSlots) (x : ℕ) (v : Ticket) (arena : IsArena 
 pub not_free : (g : GroupLists) (r : TicketState) → IsNumbered g → g.free ≢ list_for g r
 not_free g r n = each_list (λ l. g.free ≢ l) g (λ e. absurd (omega (arith, e, n.queued))) (λ e. absurd (omega (arith, e, n.running))) (λ e. absurd (omega (arith, e, n.settled))) r
 
--- where a ticket can be added, there is a first free slot
-pub not_full : (a : Slots) (s : GroupSlots) (v : Ticket) → IsArena a 0 → IsGroupSlots a s → CanAdd s v → slice_get (slots_on a 0 s.lists.free) 0 ≡ None → ⊥
+-- where a ticket can be added, there is a last free slot
+pub not_full : (a : Slots) (s : GroupSlots) (v : Ticket) → IsArena a 0 → IsGroupSlots a s → CanAdd s v → slice_get (reverse (slots_on a 0 s.lists.free)) 0 ≡ None → ⊥
 not_full a s v arena group can none = absurd (omega (arith, can.room, all_taken a s arena group none))
 
 -- the list for a state is there
@@ -224,10 +233,10 @@ pub to_list : (a : Slots) (s : GroupSlots) (to : ℕ) (r : TicketState) → IsGr
 to_list a s to r group is = subst (λ l. l < length (lists_in a 0)) (sym is) (each_list (λ l. l < length (lists_in a 0)) s.lists (omega (arith, group.there, group.numbered.queued, group.numbered.settled)) (omega (arith, group.there, group.numbered.running, group.numbered.settled)) group.there r)
 
 -- as the code reads it
-pub add_from : (a b : Slots) (s : GroupSlots) (x to : ℕ) (v : Ticket) → IsArena a 0 → IsGroupSlots a s → slice_get (slots_on a 0 s.lists.free) 0 ≡ Some x → CanAdd s v → IsArena a 1 → IsArena a 2 → to ≡ list_for s.lists v.state
+pub add_from : (a b : Slots) (s : GroupSlots) (x to : ℕ) (v : Ticket) → IsArena a 0 → IsGroupSlots a s → slice_get (reverse (slots_on a 0 s.lists.free)) 0 ≡ Some x → CanAdd s v → IsArena a 1 → IsArena a 2 → to ≡ list_for s.lists v.state
     → b ≡ with_placed s.lists x (Some v) (with_moved 0 x to (with_payload x v a)) → (r : GroupSlots) → r ≡ record (counted_in v s) { slots = record s.slots { taken = s.slots.taken + 1 }; next = s.next + 1 } → IsAdded a s v b r
-add_from a b s x to v arena group front can serials names is moved r made =
-    add_is a b s x v arena group front can serials names (moved ∙ ap (λ l. with_placed s.lists x (Some v) (with_moved 0 x l (with_payload x v a))) is) r made
+add_from a b s x to v arena group back can serials names is moved r made =
+    add_is a b s x v arena group back can serials names (moved ∙ ap (λ l. with_placed s.lists x (Some v) (with_moved 0 x l (with_payload x v a))) is) r made
 
 -- a slot that was written, moved and placed, as the code reads it
 pub placed_from : (a z m b : Slots) (g : GroupLists) (x to : ℕ) (v : Ticket) → x < length a.payloads → z ≡ with_payload x v a → m ≡ with_moved 0 x to z → b ≡ with_placed g x (slice_get m.payloads x) m → b ≡ with_placed g x (Some v) (with_moved 0 x to (with_payload x v a))

@@ -155,7 +155,7 @@ pub fn change(
     }
 }
 
-/// A new ticket, in the first of the group's free slots.
+/// A new ticket, in the slot of the group that was freed last: what lies there was read lately, so it is near.
 pub fn add(arena: &mut Arena<Ticket, 3>, group: &mut GroupSlots, ticket: &Ticket)
     requires arena { IsArena arena.old 0 }
     requires group { IsGroupSlots arena.old group.old }
@@ -165,7 +165,7 @@ pub fn add(arena: &mut Arena<Ticket, 3>, group: &mut GroupSlots, ticket: &Ticket
     if !group.slots.try_take() {
         return;
     }
-    let Some(slot) = arena.front(0, group.lists.free) else {
+    let Some(slot) = arena.back(0, group.lists.free) else {
         return;
     };
     let to = list_for(&group.lists, &ticket.state);

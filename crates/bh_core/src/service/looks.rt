@@ -1,6 +1,6 @@
 //! Looks at the groups that change nothing, by what a step would be answered.
 
-ghost use Rattle.std.specs.Prelude.{◌≡◌, ℕ, length, slice_get, IfSome, IsNone, IsSomeAnd, None, Some, false};
+ghost use Rattle.std.specs.Prelude.{◌≡◌, ◌<◌, ℕ, [], length, slice_get, IfSome, IsNone, IsSomeAnd, None, Some, false};
 ghost use Rattle.bh_base.specs.declared.step.Op.{Op};
 ghost use Rattle.bh_base.specs.declared.step.Op.TheVariants as op;
 ghost use Rattle.bh_base.specs.Runs.{View};
@@ -83,9 +83,17 @@ impl Core {
         ensures unknown { slice_get self.now.views group.0 ≡ None → result ≡ false }
     {
         match find(&self.groups, group) {
-            Some(found) => found.is_due(&self.tickets, now),
+            Some(found) => self.has_tickets(group) && found.is_due(&self.tickets, now),
             None => false,
         }
+    }
+
+    /// Whether the registered group has a ticket. Of a group that has none nothing else has to be looked at.
+    fn has_tickets(&self, group: GroupId) -> bool
+        requires { group.0 < length self.now.views }
+        ensures { (v : View) → slice_get self.now.views group.0 ≡ Some v → result ≡ false → v.present.tickets ≡ [] }
+    {
+        self.tickets.len(group.0 as usize) > 0
     }
 }
 

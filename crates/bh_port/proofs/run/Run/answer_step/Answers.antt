@@ -9,10 +9,10 @@ on_ok (Ok x) p f = f p
 on_ok (Err e) p f = tt
 
 pub returns-clause-wrote : goal.returns-clause-wrote
-returns-clause-wrote c = on_ok c.put_reply.result c.put_reply.ensures.ok (λ put service before inside agrees.
+returns-clause-wrote c = on_ok c.append_reply.result c.append_reply.ensures.ok (λ put service before inside agrees.
     let is = reply_to-shown service _ before c.args.step _ inside agrees c.apply-reply.ensures.reply in
     put ∙ ap (λ reply. c.args.self.now.out.items ++ reply_line reply) is)
 
 pub returns-clause-agrees : goal.returns-clause-agrees
-returns-clause-agrees c = on_ok c.put_reply.result c.put_reply.ensures.ok (λ put service before agrees.
+returns-clause-agrees c = on_ok c.append_reply.result c.append_reply.ensures.ok (λ put service before agrees.
     agrees-after service _ _ before c.args.step _ agrees c.apply-reply.ensures)
