@@ -327,11 +327,6 @@ pub(crate) fn stopped_in<const A: u32, R: Wait>(rt: &R, lock: &Mutex<Locked<A>>)
     lock.lock(rt).stopped
 }
 
-/// How many groups are registered in all.
-pub(crate) fn groups_in<const A: u32, R: Wait>(rt: &R, lock: &Mutex<Locked<A>>) -> u64 {
-    lock.lock(rt).book.core().groups()
-}
-
 /// How many workers the group wants.
 pub(crate) fn workers_in<const A: u32, R: Wait>(
     rt: &R,

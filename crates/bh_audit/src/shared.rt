@@ -17,8 +17,7 @@ use crate::clock::Clock;
 use crate::error::AuditError;
 use crate::freed::Freed;
 use crate::locked::{
-    Locked, await_in, expire_in, first_due_in, groups_in, next_in, step_in, stop_in, stopped_in,
-    workers_in,
+    Locked, await_in, expire_in, first_due_in, next_in, step_in, stop_in, stopped_in, workers_in,
 };
 use crate::next::{Next, PassError, StepError};
 use crate::pass::Pass;
@@ -264,12 +263,11 @@ impl Shared {
         }
     }
 
-    /// How many groups are registered in all.
-    pub fn groups<R: Wait>(&self, rt: &R) -> u64 {
-        match &self.lock {
-            Lock::Audited(lock) => groups_in(rt, lock),
-            Lock::Plain(lock) => groups_in(rt, lock),
-        }
+    /// How many groups are registered in all. It takes no lock, since no group comes or goes.
+    pub fn groups<R: Wait>(&self, _rt: &R) -> u64
+        ensures { result ≡ self.now.groups }
+    {
+        self.waiting.len() as u64
     }
 
     /// How many workers the group wants: as many as its pool has where it runs in threads of its own, else 0; 0 where

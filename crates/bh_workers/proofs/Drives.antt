@@ -1,7 +1,7 @@
 -- What all threads of a drive add up to.
-use Rattle.std.proofs.Common.{◌≡◌, ℕ, zero, suc, ◌≤◌, Bool, true, false, List, [], ◌∷◌, ◌++◌, length, map, take, drop, slice_get, Some, None, ◌⊎◌, inl, inr, refl, sym, ap, ◌∙◌, append_assoc, append-nil, length-append, subst, arith}
-use Rattle.std.specs.Prelude.{IfOk, Ok, Err, Result, vec_items}
-use Rattle.std.specs.List.{AllByRecursion}
+use Rattle.std.proofs.Common.{◌≡◌, ◌≢◌, ℕ, zero, suc, ◌+◌, ◌*◌, ◌<◌, ◌≤◌, Bool, true, false, List, [], ◌∷◌, ◌++◌, length, map, take, drop, slice_get, Some, None, ◌⊎◌, inl, inr, refl, sym, ap, ◌∙◌, append_assoc, append-nil, length-append, subst, arith}
+use Rattle.std.specs.Prelude.{All, Any, HoldsAt, IfOk, MatchBool, Ok, Err, Result, if◌then◌else◌, vec_items}
+use Rattle.std.specs.List.{AllByRecursion, AllWithin}
 use Rattle.std.specs.declared.thread.PromisedHandle.{PromisedHandle}
 use Rattle.std.proofs.lemmas.List.{take-append-le, take_all}
 use Rattle.bh_base.specs.declared.step.GroupId.{GroupId}
@@ -18,13 +18,12 @@ use Rattle.bh_journal.specs.Passes.{PassView}
 use Rattle.bh_audit.proofs.Lists.{one_item}
 use Rattle.bh_workers.specs.declared.caller_threads.Called.{Called}
 use Rattle.bh_workers.specs.declared.caller_threads.CallerOf.{CallerOf}
-use Rattle.bh_workers.specs.declared.driving.DriveError.{DriveError}
 use Rattle.bh_workers.specs.declared.driving.Driven.{Driven}
 use Rattle.bh_workers.specs.declared.driving.RequestList.{RequestList}
 use Rattle.bh_workers.specs.Receipts.{Gains, kept}
 use Rattle.bh_workers.specs.Calls.{IsCall, MarksAre}
 use Rattle.bh_workers.specs.Callers.{AllCallers, CalledAs, IsCallerOf, MakesCall}
-use Rattle.bh_workers.specs.Driving.{AreCallers, AreCalls, IsCaller, IsDriven, IsMarked, IsTimerPass, IsWorkerPass}
+use Rattle.bh_workers.specs.Driving.{AreCallers, AreCalls, FindRoom, HasRoomFor, IsCaller, IsDriven, IsMarked, IsTimerPass, IsWorkerPass, NoneIsFull}
 use Rattle.bh_workers.specs.Timing.{AreExpiries, AreTimed}
 
 -- what was added to an empty pass is all that it has
@@ -159,16 +158,30 @@ module _ (ends : GroupId → List ℕ → RunEnd → Type 0) (fallback_ends : Gr
       longer xs x ys y e = let h = length-append xs (x ∷ []) in let k = length-append ys (y ∷ []) in omega arith
 
   -- each caller gave back what its promise says
-  pub callers_from : (a : Bool) (lists : List RequestList) (called : List Called) → length called ≡ length lists
-      → ((k : ℕ) (l : RequestList) (r : Called) → slice_get lists k ≡ Some l → slice_get called k ≡ Some r → CalledAs ends fallback_ends moments a l.group l.requests.items r)
+  abbrev pub AllCalled : Bool → ℕ → List RequestList → List Called → Type 0
+  AllCalled a room lists called =
+      (k : ℕ) (l : RequestList) (r : Called) → slice_get lists k ≡ Some l → slice_get called k ≡ Some r → CalledAs ends fallback_ends moments a l.group room l.requests.items r
+
+  -- so their answers and passes are those of callers
+  pub callers_from : (a : Bool) (room : ℕ) (lists : List RequestList) (called : List Called) → length called ≡ length lists → AllCalled a room lists called
       → AreCallers ends fallback_ends moments a lists (map vec_items (map (λ (r : Called). r.answers) called)) (map (λ (r : Called). r.pass) called)
-  callers_from a [] [] len each = tt
-  callers_from a [] (r ∷ rs) len each = absurd (let e = len in omega arith)
-  callers_from a (l ∷ ls) [] len each = absurd (let e = len in omega arith)
-  callers_from a (l ∷ ls) (r ∷ rs) len each = (each 0 l r refl refl, callers_from a ls rs (let e = len in omega arith) (λ k x y at is. each (suc k) x y at is))
+  callers_from a room [] [] len each = tt
+  callers_from a room [] (r ∷ rs) len each = absurd (let e = len in omega arith)
+  callers_from a room (l ∷ ls) [] len each = absurd (let e = len in omega arith)
+  callers_from a room (l ∷ ls) (r ∷ rs) len each =
+      ((each 0 l r refl refl).caller, callers_from a room ls rs (let e = len in omega arith) (λ k x y at is. each (suc k) x y at is))
+
+  -- and none of them was refused for want of room where there was some
+  pub room_found : (a : Bool) (room : ℕ) (lists : List RequestList) (called : List Called) → length called ≡ length lists → AllCalled a room lists called
+      → FindRoom a room lists (map vec_items (map (λ (r : Called). r.answers) called))
+  room_found a room [] [] len each = tt
+  room_found a room [] (r ∷ rs) len each = absurd (let e = len in omega arith)
+  room_found a room (l ∷ ls) [] len each = absurd (let e = len in omega arith)
+  room_found a room (l ∷ ls) (r ∷ rs) len each =
+      ((each 0 l r refl refl).unrefused, room_found a room ls rs (let e = len in omega arith) (λ k x y at is. each (suc k) x y at is))
 
   -- what all threads gave back is what comes back from a drive
-  pub driven_from : (a : Bool) (lists : List RequestList) (called : List Called) (workers timer : List PassView) (result : Result Driven DriveError)
+  pub driven_from : {E : Type 0} (a : Bool) (lists : List RequestList) (called : List Called) (workers timer : List PassView) (result : Result Driven E)
       → IfOk result (λ d. d.answers.items ≡ map (λ (r : Called). r.answers) called) → IfOk result (λ d. d.passes.items ≡ map (λ (r : Called). r.pass) called ++ (workers ++ timer))
       → AreCallers ends fallback_ends moments a lists (map vec_items (map (λ (r : Called). r.answers) called)) (map (λ (r : Called). r.pass) called)
       → AllByRecursion (IsWorkerPass ends moments) workers → AllByRecursion (IsTimerPass moments) timer → IfOk result (λ d. IsDriven ends fallback_ends moments a lists d)
@@ -190,24 +203,65 @@ get_snoc (x ∷ xs) y zero z e = inl e
 get_snoc (x ∷ xs) y (suc k) z e = elim (get_snoc xs y k z e) [ inl h ↦ inl h | inr h ↦ inr (ap suc h.0, h.1) ]
 
 -- one more caller was started
-pub callers_push : {D C : Type 0} (a : Bool) (lists : List RequestList) (hs : List (PromisedHandle Called (CallerOf D C))) (h : PromisedHandle Called (CallerOf D C)) (i : ℕ) (l : RequestList)
-    → AllCallers a lists hs → length hs ≡ i → slice_get lists i ≡ Some l → IsCallerOf a l h.promise → AllCallers a lists (hs ++ h ∷ [])
-callers_push {D} {C} a lists hs h i l all len here is k l' h' atl ath =
+pub callers_push : {D C : Type 0} (a : Bool) (room : ℕ) (lists : List RequestList) (hs : List (PromisedHandle Called (CallerOf D C))) (h : PromisedHandle Called (CallerOf D C)) (i : ℕ) (l : RequestList)
+    → AllCallers a room lists hs → length hs ≡ i → slice_get lists i ≡ Some l → IsCallerOf a room l h.promise → AllCallers a room lists (hs ++ h ∷ [])
+callers_push {D} {C} a room lists hs h i l all len here is k l' h' atl ath =
     elim (get_snoc hs h k h' ath) [
       | inl old ↦ all k l' h' atl old
       | inr w ↦
           let same : l ≡ l' = one_item (slice_get lists k) l l' (ap (slice_get lists) (w.0 ∙ len) ∙ here) atl in
-          let P : PromisedHandle Called (CallerOf D C) → Type 0 = λ x. IsCallerOf a l' x.promise in
-          let Q : RequestList → Type 0 = λ x. IsCallerOf a x h.promise in
+          let P : PromisedHandle Called (CallerOf D C) → Type 0 = λ x. IsCallerOf a room l' x.promise in
+          let Q : RequestList → Type 0 = λ x. IsCallerOf a room x h.promise in
           subst P w.1 (subst Q same is)
     ]
 
 -- the same in equal words
-pub called_as : (ends : GroupId → List ℕ → RunEnd → Type 0) (fallback_ends : GroupId → Cause → List ℕ → FallbackEnd → Type 0) (moments : ℕ → Type 0) (a a' : Bool) (g g' : GroupId) (qs qs' : List Request) (r r' : Called)
-    → a ≡ a' → g ≡ g' → qs ≡ qs' → r ≡ r' → CalledAs ends fallback_ends moments a g qs r → CalledAs ends fallback_ends moments a' g' qs' r'
-called_as ends fallback_ends moments a a' g g' qs qs' r r' ea eg eq er h =
-    let A : Bool → Type 0 = λ x. CalledAs ends fallback_ends moments x g' qs' r' in
-    let G : GroupId → Type 0 = λ x. CalledAs ends fallback_ends moments a x qs' r' in
-    let Q : List Request → Type 0 = λ x. CalledAs ends fallback_ends moments a g x r' in
-    let R : Called → Type 0 = λ x. CalledAs ends fallback_ends moments a g qs x in
-    subst A ea (subst G eg (subst Q eq (subst R er h)))
+pub called_as : (ends : GroupId → List ℕ → RunEnd → Type 0) (fallback_ends : GroupId → Cause → List ℕ → FallbackEnd → Type 0) (moments : ℕ → Type 0) (a a' : Bool) (g g' : GroupId) (n n' : ℕ) (qs qs' : List Request) (r r' : Called)
+    → a ≡ a' → g ≡ g' → n ≡ n' → qs ≡ qs' → r ≡ r' → CalledAs ends fallback_ends moments a g n qs r → CalledAs ends fallback_ends moments a' g' n' qs' r'
+called_as ends fallback_ends moments a a' g g' n n' qs qs' r r' ea eg en eq er h =
+    let A : Bool → Type 0 = λ x. CalledAs ends fallback_ends moments x g' n' qs' r' in
+    let G : GroupId → Type 0 = λ x. CalledAs ends fallback_ends moments a x n' qs' r' in
+    let N : ℕ → Type 0 = λ x. CalledAs ends fallback_ends moments a g x qs' r' in
+    let Q : List Request → Type 0 = λ x. CalledAs ends fallback_ends moments a g n x r' in
+    let R : Called → Type 0 = λ x. CalledAs ends fallback_ends moments a g n qs x in
+    subst A ea (subst G eg (subst N en (subst Q eq (subst R er h))))
+
+-- the room of a pass is what was asked for in an audited service, and in another none is needed
+pub with_room : (ends : GroupId → List ℕ → RunEnd → Type 0) (fallback_ends : GroupId → Cause → List ℕ → FallbackEnd → Type 0) (moments : ℕ → Type 0) (a : Bool) (g : GroupId) (room : ℕ) (qs : List Request) (r : Called)
+    → CalledAs ends fallback_ends moments a g (if a then room else 0) qs r → CalledAs ends fallback_ends moments a g room qs r
+with_room ends fallback_ends moments true g room qs r h = h
+with_room ends fallback_ends moments false g room qs r h = record { caller = h.caller; unrefused = λ has. h.unrefused (λ e. absurd (let f : false ≡ true = e in cc)) }
+
+-- so much room is left after so many calls
+pub room_after : (a : Bool) (p q : PassView) (made : List Receipt) → Gains a p q made → length made ≤ 5 → p.room ≤ q.room + 5
+room_after true p q made g few = (let h = g.room in omega arith)
+room_after false p q made g few = (let h = g.room in omega arith)
+
+-- there is room for one more call than were made
+pub room_for_one : (a : Bool) (first left calls : ℕ) (requests : List Request) → HasRoomFor a first requests → first ≤ left + 5 * calls → calls < length requests → (a ≡ true) × (left < 5) → ⊥
+room_for_one a first left calls requests has le lt full = (let h = has full.0 in let few = full.1 in omega arith)
+
+-- one more call was not refused for want of room
+pub none_push : (answers : List (Result Answer CallError)) (answer : Result Answer CallError) → NoneIsFull answers → answer ≢ Err error.PassFull → NoneIsFull (answers ++ answer ∷ [])
+none_push answers answer none one = all_push (λ (x : Result Answer CallError). x ≢ Err error.PassFull) answers answer none one
+
+-- what all threads gave back found room
+pub found_from : {E : Type 0} (a : Bool) (room : ℕ) (lists : List RequestList) (called : List Called) (result : Result Driven E)
+    → IfOk result (λ d. d.answers.items ≡ map (λ (r : Called). r.answers) called) → FindRoom a room lists (map vec_items (map (λ (r : Called). r.answers) called))
+    → IfOk result (λ d. FindRoom a room lists (map vec_items d.answers.items))
+found_from a room lists called (Ok d) answers found = rw answers found
+found_from a room lists called (Err e) answers found = tt
+
+-- a list that is so is found in all of them
+list_at : (IsSo : RequestList → Type 0) (lists : List RequestList) (k : ℕ) → k < length lists → HoldsAt IsSo lists k → Any IsSo lists
+list_at IsSo [] k lt so = absurd (omega arith)
+list_at IsSo (l ∷ lists) zero lt so = (zero, l, lt, refl, so l)
+list_at IsSo (l ∷ lists) (suc k) lt so =
+    let w = list_at IsSo lists k (omega arith) so in
+    (suc w.0, w.1, (let h = w.2 in omega arith), w.3, w.4)
+
+-- what was found of the lists, in other words
+pub found_or_all : (found : Bool) (IsSo Else : RequestList → Type 0) (lists : List RequestList)
+    → MatchBool found ((k : ℕ) × (k < length lists) × HoldsAt IsSo lists k) (AllWithin Else lists 0 (length lists)) → MatchBool found (Any IsSo lists) (All Else lists)
+found_or_all true IsSo Else lists h = list_at IsSo lists h.0 h.1 h.2
+found_or_all false IsSo Else lists h = λ k d lt. h k d (omega arith) lt

@@ -1,5 +1,5 @@
 -- What the threads of callers give back.
-use Rattle.std.specs.Prelude.{◌≡◌, ℕ, ◌∷◌, [], ◌++◌, Bool, List, Result, Some, slice_get}
+use Rattle.std.specs.Prelude.{◌≡◌, ℕ, ◌∷◌, [], ◌++◌, Bool, List, Result, Some, if◌then◌else◌, slice_get}
 use Rattle.std.specs.declared.thread.PromisedHandle.{PromisedHandle}
 use Rattle.bh_base.specs.declared.step.GroupId.{GroupId}
 use Rattle.bh_base.specs.declared.step.FallbackEnd.{FallbackEnd}
@@ -13,7 +13,7 @@ use Rattle.bh_workers.specs.declared.caller_threads.Called.{Called}
 use Rattle.bh_workers.specs.declared.caller_threads.CallerOf.{CallerOf}
 use Rattle.bh_workers.specs.declared.driving.RequestList.{RequestList}
 use Rattle.bh_workers.specs.Calls.{CallAdds, IsCall}
-use Rattle.bh_workers.specs.Driving.{IsCaller}
+use Rattle.bh_workers.specs.Driving.{HasRoomFor, IsCaller, NoneIsFull}
 
 module _ (ends : GroupId → List ℕ → RunEnd → Type 0) (fallback_ends : GroupId → Cause → List ℕ → FallbackEnd → Type 0) (moments : ℕ → Type 0) where
   -- a call was made, and its answer added to the others
@@ -21,17 +21,19 @@ module _ (ends : GroupId → List ℕ → RunEnd → Type 0) (fallback_ends : Gr
   MakesCall audited p answers request p' answers' =
       (answer : Result Answer CallError) × (answers' ≡ answers ++ answer ∷ []) × CallAdds audited p answer p' (IsCall ends fallback_ends moments p.group request answer)
 
-  -- the answers and the pass are those of a caller
-  abbrev pub CalledAs : Bool → GroupId → List Request → Called → Type 0
-  CalledAs audited g requests r = IsCaller ends fallback_ends moments audited g requests r.answers.items r.pass
+  -- the answers and the pass are those of a caller, whose pass had so much room
+  pub record CalledAs (audited : Bool) (g : GroupId) (room : ℕ) (requests : List Request) (r : Called) : Type 0 where
+    pub caller : IsCaller ends fallback_ends moments audited g requests r.answers.items r.pass
+    pub unrefused : HasRoomFor audited room requests → NoneIsFull r.answers.items
 
--- the promise is of the list
-pub record IsCallerOf {D C : Type 0} (audited : Bool) (l : RequestList) (p : CallerOf D C) : Type 0 where
+-- the promise is of the list, with so much room where the service is audited
+pub record IsCallerOf {D C : Type 0} (audited : Bool) (room : ℕ) (l : RequestList) (p : CallerOf D C) : Type 0 where
   pub kind : p.audited ≡ audited
   pub group : p.group ≡ l.group
+  pub room_is : p.room ≡ (if audited then room else 0)
   pub requests : p.requests.now ≡ l.requests.items
 
 -- the handles are of callers of the lists, in their order
-abbrev pub AllCallers : {D C : Type 0} → Bool → List RequestList → List (PromisedHandle Called (CallerOf D C)) → Type 0
-AllCallers {D} {C} audited lists handles =
-    (k : ℕ) (l : RequestList) (h : PromisedHandle Called (CallerOf D C)) → slice_get lists k ≡ Some l → slice_get handles k ≡ Some h → IsCallerOf audited l h.promise
+abbrev pub AllCallers : {D C : Type 0} → Bool → ℕ → List RequestList → List (PromisedHandle Called (CallerOf D C)) → Type 0
+AllCallers {D} {C} audited room lists handles =
+    (k : ℕ) (l : RequestList) (h : PromisedHandle Called (CallerOf D C)) → slice_get lists k ≡ Some l → slice_get handles k ≡ Some h → IsCallerOf audited room l h.promise

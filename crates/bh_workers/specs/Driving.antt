@@ -1,5 +1,5 @@
 -- What comes back from a drive.
-use Rattle.std.specs.Prelude.{◌≡◌, ℕ, Bool, true, List, [], ◌∷◌, ◌++◌, ◌⊎◌, Result, Err, Vec, IfOk, length, map, vec_items}
+use Rattle.std.specs.Prelude.{◌≡◌, ◌≢◌, ℕ, ◌*◌, ◌<◌, ◌≤◌, Bool, true, List, [], ◌∷◌, ◌++◌, ◌⊎◌, Result, Err, Vec, IfOk, length, map, vec_items}
 use Rattle.std.specs.List.{AllByRecursion}
 use Rattle.bh_base.specs.declared.step.GroupId.{GroupId}
 use Rattle.bh_base.specs.declared.step.FallbackEnd.{FallbackEnd}
@@ -12,11 +12,43 @@ use Rattle.bh_base.specs.declared.reply.Cause.{Cause}
 use Rattle.bh_journal.specs.declared.pass.Marks.{Marks}
 use Rattle.bh_journal.specs.declared.pass.Receipt.{Receipt}
 use Rattle.bh_journal.specs.Passes.{PassView}
+use Rattle.bh_workers.specs.declared.driving.DriveError.{DriveError}
+use Rattle.bh_workers.specs.declared.driving.DriveError.TheVariants as drive_error
 use Rattle.bh_workers.specs.declared.driving.Driven.{Driven}
 use Rattle.bh_workers.specs.declared.driving.RequestList.{RequestList}
+use Rattle.bh_workers.specs.declared.threads.ThreadError.{ThreadError}
+use Rattle.bh_workers.specs.declared.threads.ThreadError.TheVariants as thread_error
 use Rattle.bh_workers.specs.Calls.{EndsInFallback, IsCall}
 use Rattle.bh_workers.specs.Timing.{AreExpiries}
 use Rattle.bh_workers.specs.Work.{IsWork}
+
+-- the group of the list is not registered in a service of so many groups
+abbrev pub IsUnknown : ℕ → RequestList → Type 0
+IsUnknown groups l = groups ≤ l.group.0
+
+-- it is registered there
+abbrev pub IsKnown : ℕ → RequestList → Type 0
+IsKnown groups l = l.group.0 < groups
+
+-- what a drive answers where its threads give nothing back
+abbrev pub told_as : ThreadError → DriveError
+told_as thread_error.Memory = drive_error.Memory
+told_as thread_error.Spawn = drive_error.Spawn
+
+-- a pass of so much room has room for a call of each request: in an audited service five receipts for each
+abbrev pub HasRoomFor : Bool → ℕ → List Request → Type 0
+HasRoomFor audited room requests = audited ≡ true → 5 * length requests ≤ room
+
+-- no call was refused for want of room
+abbrev pub NoneIsFull : List (Result Answer CallError) → Type 0
+NoneIsFull answers = AllByRecursion (λ answer. answer ≢ Err error.PassFull) answers
+
+-- of no list for whose requests there is room was a call refused for want of it
+abbrev pub FindRoom : Bool → ℕ → List RequestList → List (List (Result Answer CallError)) → Type 0
+FindRoom audited room [] [] = Unit {0}
+FindRoom audited room (l ∷ lists) (answers ∷ others) =
+    (HasRoomFor audited room l.requests.items → NoneIsFull answers) × FindRoom audited room lists others
+FindRoom audited room lists answers = ⊥
 
 -- the pass of a worker has nothing but its work
 abbrev pub IsWorkerPass : (GroupId → List ℕ → RunEnd → Type 0) → (ℕ → Type 0) → PassView → Type 0

@@ -1,12 +1,14 @@
 //! The threads of callers: each makes the requests of one list.
 
-ghost use Rattle.std.specs.Prelude.{◌≡◌, ◌≤◌, [], IfOk, length, vec_capacity, vec_len};
+ghost use Rattle.std.specs.Prelude.{◌≡◌, ◌≤◌, [], All, IfOk, length, vec_capacity, vec_len};
 ghost use Rattle.bh_workers.specs.Callers.{AllCallers, CalledAs};
+ghost use Rattle.bh_workers.specs.Driving.{IsKnown};
 
 use crate::caller::call;
 use crate::dependency::Dependency;
-use crate::driving::{DriveError, RequestList};
+use crate::driving::RequestList;
 use crate::environment::Environment;
+use crate::threads::{ThreadError, pass_of};
 use bh_audit::{Clock, Pass, Shared};
 use bh_base::{Answer, CallError, GroupId, Request, push_within};
 use std::alloc::Global;
@@ -21,17 +23,18 @@ pub(crate) struct Called {
     pub(crate) pass: Pass,
 }
 
-/// The promise of a caller: its requests were made, in a service of this kind, with a pass of this group.
+/// The promise of a caller: its requests were made, in a service of this kind, with a pass of this group and room.
 #[derive(Drop)]
 pub(crate) struct CallerOf<'a, D, C> {
     audited: bool,
     group: GroupId,
+    room: u64,
     requests: &'a [Request],
     of: PhantomData<(D, C)>,
 }
 
 impl<'a, D: Dependency, C: Clock> Promise<Called> for CallerOf<'a, D, C> {
-    ghost kept_by = { λ p r. CalledAs D.ends D.fallback_ends C.moments p.audited p.group p.requests.now r };
+    ghost kept_by = { λ p r. CalledAs D.ends D.fallback_ends C.moments p.audited p.group p.room p.requests.now r };
 }
 
 /// Starts a caller for each list.
@@ -47,9 +50,10 @@ pub(crate) fn start_callers<
     alloc: Global,
     lists: &'e [RequestList],
     room: u64,
-) -> Result<Vec<PromisedHandle<Called, CallerOf<'e, D, C>>>, DriveError>
+) -> Result<Vec<PromisedHandle<Called, CallerOf<'e, D, C>>>, ThreadError>
+    requires { All (IsKnown environment.now.shared.now.groups) lists.now }
     ensures len { IfOk result (λ v. vec_len v ≡ length lists.now) }
-    ensures each { IfOk result (λ v. AllCallers environment.now.shared.now.audited lists.now v.items) }
+    ensures each { IfOk result (λ v. AllCallers environment.now.shared.now.audited room lists.now v.items) }
 {
     let mut handles = Vec::with_capacity(alloc, lists.len())?;
     let (rt, shared) = (environment.rt, environment.shared);
@@ -58,11 +62,12 @@ pub(crate) fn start_callers<
     for list in lists {
         let group = list.group;
         let requests = list.requests.as_slice();
-        let pass = shared.pass(alloc, group, room)?;
+        let pass = pass_of(shared, alloc, group, room)?;
         let answers = Vec::with_capacity(alloc, requests.len())?;
         let promise: CallerOf<'e, D, C> = CallerOf {
             audited,
             group,
+            room: pass.room_left(),
             requests,
             of: PhantomData,
         };
@@ -70,11 +75,11 @@ pub(crate) fn start_callers<
             promise,
             move || -> Called
                 requires { (pass.receipts ≡ []) × (answers.items ≡ []) × (length requests.now ≤ vec_capacity answers) }
-                ensures { CalledAs D.ends D.fallback_ends C.moments shared.entry.now.audited pass.group requests.entry.now result }
+                ensures { CalledAs D.ends D.fallback_ends C.moments shared.entry.now.audited pass.group pass.room requests.entry.now result }
             { make_calls(rt, shared, pass, answers, dependency, clock, requests) },
         );
         let Ok(handle) = spawned else {
-            return Err(DriveError::Spawn);
+            return Err(ThreadError::Spawn);
         };
         handles.push_reserved(handle);
     }
@@ -93,7 +98,7 @@ fn make_calls<D: Dependency, C: Clock, R: Wait>(
 ) -> Called
     requires empty { (pass.receipts ≡ []) × (answers.items ≡ []) }
     requires room { length requests.now ≤ vec_capacity answers }
-    ensures { CalledAs D.ends D.fallback_ends C.moments shared.now.audited pass.group requests.now result }
+    ensures { CalledAs D.ends D.fallback_ends C.moments shared.now.audited pass.group pass.room requests.now result }
 {
     for request in requests {
         let answer = call(rt, shared, &mut pass, dependency, clock, *request);

@@ -1,17 +1,19 @@
 //! A drive: all threads of a service, from the first request to the last answer.
 
-ghost use Rattle.std.specs.Prelude.{◌≡◌, ◌++◌, IfOk, map};
+ghost use Rattle.std.specs.Prelude.{◌≡◌, ◌↔◌, ◌++◌, All, Any, Err, IfOk, MatchBool, map, vec_items};
 ghost use Rattle.std.specs.List.{AllByRecursion};
-ghost use Rattle.bh_workers.specs.Driving.{IsDriven, IsWorked, IsWorkerPass};
+ghost use Rattle.bh_workers.specs.Driving.{FindRoom, IsDriven, IsKnown, IsUnknown, IsWorked, IsWorkerPass};
 ghost use Rattle.bh_workers.specs.declared.caller_threads.Called.{Called};
+ghost use Rattle.bh_workers.specs.declared.driving.DriveError.TheVariants.{NoGroup};
 
 use crate::caller_threads::{Called, start_callers};
 use crate::dependency::{Dependency, Pace};
 use crate::environment::Environment;
 use crate::service_threads::{Worked, start_timer, start_workers};
-use bh_audit::{Clock, Pass, PassError, Shared};
+use crate::threads::ThreadError;
+use bh_audit::{Clock, Pass, Shared};
 use bh_base::{Answer, CallError, GroupId, Request};
-use std::alloc::{AllocError, AllocFailed, Global};
+use std::alloc::{AllocError, Global};
 use std::sync::Wait;
 use std::thread;
 use std::thread::{Scope, Threads};
@@ -47,23 +49,16 @@ pub enum DriveError {
     Spawn,
 }
 
-impl From<AllocError> for DriveError {
-    fn from(_: AllocError) -> DriveError {
-        DriveError::Memory
-    }
-}
+impl From<ThreadError> for DriveError {
+    ghost use Rattle.std.specs.Prelude.{◌≡◌};
+    ghost use Rattle.bh_workers.specs.Driving.{told_as};
 
-impl<T: Drop> From<AllocFailed<T>> for DriveError {
-    fn from(_: AllocFailed<T>) -> DriveError {
-        DriveError::Memory
-    }
-}
+    ghost from_gives = { λ cause error. error ≡ told_as cause };
 
-impl From<PassError> for DriveError {
-    fn from(error: PassError) -> DriveError {
-        match error {
-            PassError::NoGroup => DriveError::NoGroup,
-            PassError::Memory => DriveError::Memory,
+    fn from(cause: ThreadError) -> DriveError {
+        match cause {
+            ThreadError::Memory => DriveError::Memory,
+            ThreadError::Spawn => DriveError::Spawn,
         }
     }
 }
@@ -72,8 +67,10 @@ impl From<PassError> for DriveError {
 /// and for each list one caller, which makes the list's requests one after another. Once all callers have ended it
 /// stops the service, and gives back the answers and all passes, each of which had room for so many receipts.
 ///
-/// `NoGroup` comes where the group of a list is not registered, before a thread starts. With `Memory` and `Spawn` the
-/// service is stopped, the threads have ended, and their passes are given up.
+/// No request is answered `PassFull` where that is room for five receipts for each request of its list.
+///
+/// `NoGroup` comes exactly where the group of a list is not registered, before a thread starts. With `Memory` and
+/// `Spawn` the service is stopped, the threads have ended, and their passes are given up.
 pub fn drive<
     D: Dependency + Sync,
     C: Clock + Sync,
@@ -89,10 +86,11 @@ pub fn drive<
     lists: &[RequestList],
     room: u64,
 ) -> Result<Driven, DriveError>
-    ensures { IfOk result (λ d. IsDriven D.ends D.fallback_ends C.moments shared.now.audited lists.now d) }
+    ensures driven { IfOk result (λ d. IsDriven D.ends D.fallback_ends C.moments shared.now.audited lists.now d) }
+    ensures unrefused { IfOk result (λ d. FindRoom shared.now.audited room lists.now (map vec_items d.answers.items)) }
+    ensures unknown { (result ≡ Err NoGroup) ↔ Any (IsUnknown shared.now.groups) lists.now }
 {
-    let groups = shared.groups(rt);
-    if lists.iter().any(|list| list.group.0 >= groups) {
+    if any_unknown(lists, shared.groups(rt)) {
         return Err(DriveError::NoGroup);
     }
     let environment = Environment {
@@ -101,7 +99,14 @@ pub fn drive<
         dependency,
         clock,
     };
-    run(&environment, alloc, pace, lists, room)
+    Ok(run(&environment, alloc, pace, lists, room)?)
+}
+
+/// Whether the group of a list is not registered in a service of so many groups.
+fn any_unknown(lists: &[RequestList], groups: u64) -> bool
+    ensures { MatchBool result (Any (IsUnknown groups) lists.now) (All (IsKnown groups) lists.now) }
+{
+    lists.iter().any(|list| list.group.0 >= groups)
 }
 
 /// Runs all threads in one scope. Where they give nothing back, the service is stopped.
@@ -111,14 +116,18 @@ fn run<D: Dependency + Sync, C: Clock + Sync, P: Pace + Send + Drop, R: Threads 
     pace: P,
     lists: &[RequestList],
     room: u64,
-) -> Result<Driven, DriveError>
-    ensures { IfOk result (λ d. IsDriven D.ends D.fallback_ends C.moments environment.now.shared.now.audited lists.now d) }
+) -> Result<Driven, ThreadError>
+    requires { All (IsKnown environment.now.shared.now.groups) lists.now }
+    ensures driven { IfOk result (λ d. IsDriven D.ends D.fallback_ends C.moments environment.now.shared.now.audited lists.now d) }
+    ensures unrefused { IfOk result (λ d. FindRoom environment.now.shared.now.audited room lists.now (map vec_items d.answers.items)) }
 {
     thread::scope(
         thread::scope_env(),
         environment.rt,
-        |scope| -> Result<Driven, DriveError>
-            ensures { IfOk result (λ d. IsDriven D.ends D.fallback_ends C.moments environment.entry.now.shared.now.audited lists.entry.now d) }
+        |scope| -> Result<Driven, ThreadError>
+            requires { All (IsKnown environment.now.shared.now.groups) lists.now }
+            ensures driven { IfOk result (λ d. IsDriven D.ends D.fallback_ends C.moments environment.entry.now.shared.now.audited lists.entry.now d) }
+            ensures unrefused { IfOk result (λ d. FindRoom environment.entry.now.shared.now.audited room lists.entry.now (map vec_items d.answers.items)) }
         {
             let driven = run_all(environment, scope, alloc, pace, lists, room);
             if driven.is_err() {
@@ -144,8 +153,10 @@ fn run_all<
     pace: P,
     lists: &'e [RequestList],
     room: u64,
-) -> Result<Driven, DriveError>
-    ensures { IfOk result (λ d. IsDriven D.ends D.fallback_ends C.moments environment.now.shared.now.audited lists.now d) }
+) -> Result<Driven, ThreadError>
+    requires { All (IsKnown environment.now.shared.now.groups) lists.now }
+    ensures driven { IfOk result (λ d. IsDriven D.ends D.fallback_ends C.moments environment.now.shared.now.audited lists.now d) }
+    ensures unrefused { IfOk result (λ d. FindRoom environment.now.shared.now.audited room lists.now (map vec_items d.answers.items)) }
 {
     let rt = environment.rt;
     let timer = start_timer(environment, scope, alloc, pace, room)?;
@@ -162,7 +173,7 @@ fn run_all<
 fn passes_of<D: Dependency, C: Clock>(
     alloc: Global,
     worked: Vec<Worked>,
-) -> Result<Vec<Pass>, DriveError>
+) -> Result<Vec<Pass>, ThreadError>
     requires { AllByRecursion (IsWorked D.ends C.moments) worked.items }
     ensures { IfOk result (λ all. AllByRecursion (IsWorkerPass D.ends C.moments) all.items) }
 {
@@ -179,7 +190,7 @@ fn gather(
     called: Vec<Called>,
     mut worked: Vec<Pass>,
     mut timed: Vec<Pass>,
-) -> Result<Driven, DriveError>
+) -> Result<Driven, ThreadError>
     ensures answers { IfOk result (λ d. d.answers.items ≡ map (λ (r : Called). r.answers) called.items) }
     ensures passes { IfOk result (λ d. d.passes.items ≡ map (λ (r : Called). r.pass) called.items ++ (worked.items ++ timed.items)) }
 {

@@ -8,6 +8,7 @@ pub mod driving;
 mod environment;
 pub mod laws;
 mod service_threads;
+mod threads;
 pub mod timer;
 pub mod worker;
 

@@ -1,13 +1,13 @@
 //! The threads that a service needs beside its callers: workers and a timer.
 
-ghost use Rattle.std.specs.Prelude.{◌≡◌, [], IfOk};
+ghost use Rattle.std.specs.Prelude.{◌≡◌, ◌<◌, ◌≤◌, [], IfOk};
 ghost use Rattle.std.specs.List.{AllByRecursion};
 ghost use Rattle.bh_workers.specs.Driving.{IsTimerPass, IsWorked, IsWorkerPass};
 ghost use Rattle.bh_journal.specs.Passes.{PassView};
 
 use crate::dependency::{Dependency, Pace};
-use crate::driving::DriveError;
 use crate::environment::Environment;
+use crate::threads::{ThreadError, pass_of};
 use crate::timer::timer_loop;
 use crate::worker::worker_loop;
 use bh_audit::{Clock, Pass, Shared};
@@ -28,7 +28,7 @@ impl<D: Dependency, C: Clock> Promise<Worked> for WorkerOf<D, C> {
 }
 
 /// What a worker gives back: its passes, of which all but the last are full, or why it could not go on.
-pub(crate) type Worked = Result<Vec<Pass>, DriveError>;
+pub(crate) type Worked = Result<Vec<Pass>, ThreadError>;
 
 /// Starts the workers of all groups.
 pub(crate) fn start_workers<
@@ -42,12 +42,12 @@ pub(crate) fn start_workers<
     scope: &'s Scope<'s, &'e ()>,
     alloc: Global,
     room: u64,
-) -> Result<Vec<PromisedHandle<Worked, WorkerOf<D, C>>>, DriveError> {
+) -> Result<Vec<PromisedHandle<Worked, WorkerOf<D, C>>>, ThreadError> {
     let mut handles = Vec::new(alloc);
     for number in 0..environment.shared.groups(environment.rt) {
         let group = GroupId(number);
         for _ in 0..environment.shared.workers(environment.rt, group) {
-            let pass = environment.shared.pass(alloc, group, room)?;
+            let pass = pass_of(environment.shared, alloc, group, room)?;
             handles.push(start_worker(environment, scope, alloc, pass)?)?;
         }
     }
@@ -60,8 +60,9 @@ fn start_worker<'s, 'e, D: Dependency + Sync, C: Clock + Sync, R: Threads + Wait
     scope: &'s Scope<'s, &'e ()>,
     alloc: Global,
     pass: Pass,
-) -> Result<PromisedHandle<Worked, WorkerOf<D, C>>, DriveError>
-    requires { pass.receipts ≡ [] }
+) -> Result<PromisedHandle<Worked, WorkerOf<D, C>>, ThreadError>
+    requires empty { pass.receipts ≡ [] }
+    requires known { pass.group.0 < environment.now.shared.now.groups }
 {
     let (rt, shared) = (environment.rt, environment.shared);
     let (dependency, clock) = (environment.dependency, environment.clock);
@@ -69,11 +70,11 @@ fn start_worker<'s, 'e, D: Dependency + Sync, C: Clock + Sync, R: Threads + Wait
     let spawned = scope.spawn_with(
         promise,
         move || -> Worked
-            requires { pass.receipts ≡ [] }
+            requires { (pass.receipts ≡ []) × (pass.group.0 < shared.now.groups) }
             ensures { IsWorked D.ends C.moments result }
         { work(rt, shared, alloc, pass, dependency, clock) },
     );
-    spawned.map_err(|_| DriveError::Spawn)
+    spawned.map_err(|_| ThreadError::Spawn)
 }
 
 /// Works until there is a reason to end. Where the worker cannot go on, it stops the service: whoever waits for a run
@@ -86,7 +87,8 @@ fn work<D: Dependency, C: Clock, R: Wait>(
     dependency: &D,
     clock: &C,
 ) -> Worked
-    requires { pass.receipts ≡ [] }
+    requires empty { pass.receipts ≡ [] }
+    requires known { pass.group.0 < shared.now.groups }
     ensures { IsWorked D.ends C.moments result }
 {
     let worked = work_on(rt, shared, alloc, pass, dependency, clock);
@@ -106,7 +108,8 @@ fn work_on<D: Dependency, C: Clock, R: Wait>(
     dependency: &D,
     clock: &C,
 ) -> Worked
-    requires { pass.receipts ≡ [] }
+    requires empty { pass.receipts ≡ [] }
+    requires known { pass.group.0 < shared.now.groups }
     ensures { IsWorked D.ends C.moments result }
 {
     let room = pass.room_left();
@@ -119,7 +122,7 @@ fn work_on<D: Dependency, C: Clock, R: Wait>(
         if is_last {
             return Ok(passes);
         }
-        pass = shared.pass(alloc, group, room)?;
+        pass = pass_of(shared, alloc, group, room)?;
     }
     unreachable!()
 }
@@ -133,7 +136,8 @@ fn fill<D: Dependency, C: Clock, R: Wait>(
     clock: &C,
 ) -> Pass
     requires { pass.receipts ≡ [] }
-    ensures { IsWorkerPass D.ends C.moments result }
+    ensures work { IsWorkerPass D.ends C.moments result }
+    ensures group { result.group ≡ pass.group }
 {
     worker_loop(rt, shared, &mut pass, dependency, clock);
     pass
@@ -169,7 +173,7 @@ pub(crate) fn start_timer<
     alloc: Global,
     pace: P,
     room: u64,
-) -> Result<PromisedHandle<Vec<Pass>, TimerOf<C>>, DriveError> {
+) -> Result<PromisedHandle<Vec<Pass>, TimerOf<C>>, ThreadError> {
     let groups = environment.shared.groups(environment.rt);
     let passes = timer_passes(alloc, environment.shared, groups, room)?;
     let promise: TimerOf<C> = TimerOf { of: PhantomData };
@@ -180,7 +184,7 @@ pub(crate) fn start_timer<
             ensures { AllByRecursion (IsTimerPass C.moments) result.items }
         { keep_time(environment, passes, pace) },
     );
-    spawned.map_err(|_| DriveError::Spawn)
+    spawned.map_err(|_| ThreadError::Spawn)
 }
 
 /// A pass of each group.
@@ -189,12 +193,13 @@ fn timer_passes(
     shared: &Shared,
     groups: u64,
     room: u64,
-) -> Result<Vec<Pass>, DriveError>
+) -> Result<Vec<Pass>, ThreadError>
+    requires { groups ≤ shared.now.groups }
     ensures { IfOk result (λ v. AllByRecursion (λ (p : PassView). p.receipts ≡ []) v.items) }
 {
     let mut passes = Vec::new(alloc);
     for number in 0..groups {
-        let pass = shared.pass(alloc, GroupId(number), room)?;
+        let pass = pass_of(shared, alloc, GroupId(number), room)?;
         passes.push(pass)?;
     }
     Ok(passes)

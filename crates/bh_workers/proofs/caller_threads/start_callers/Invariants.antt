@@ -8,5 +8,5 @@ invariant-loop-list g l = record {
   len : vec_len l.handles ≡ l.list-index;
   room : length l.lists ≤ vec_capacity l.handles;
   kind : l.audited ≡ l.shared.audited;
-  all : AllCallers l.shared.audited l.lists l.handles.items;
+  all : AllCallers l.shared.audited l.room l.lists l.handles.items;
 }

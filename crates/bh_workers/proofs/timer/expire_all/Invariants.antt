@@ -1,4 +1,4 @@
-use Rattle.std.proofs.Common.{length, ◌≡◌, ◌-◌}
+use Rattle.std.proofs.Common.{length, ◌-◌}
 use Rattle.bh_workers.specs.Timing.{AreTimed}
 use Rattle.bh_workers.proofs.timer.expire_all.Given as goal
 
