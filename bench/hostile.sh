@@ -29,7 +29,7 @@ end_hostile() {
     hostile=
 }
 
-cc -O2 -o "$work/client" "$here/serve_client.c"
+cc -O2 -pthread -o "$work/client" "$here/serve_client.c"
 cc -O2 -o "$work/hostile" "$here/hostile_client.c"
 # The last group is called by the hostile clients alone: those who call one group share its workers.
 list_settings "$((groups + 1))" "" >"$work/settings.toml"

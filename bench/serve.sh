@@ -24,7 +24,7 @@ while getopts n:g:r:s:o:p: option; do
 done
 shift $((OPTIND - 1))
 . "$here/service.sh"
-cc -O2 -o "$work/client" "$here/serve_client.c"
+cc -O2 -pthread -o "$work/client" "$here/serve_client.c"
 
 # Prints the figures of one run of a program over so many connections.
 run_once() {

@@ -2,18 +2,19 @@
  *
  *   serve_client PORT CONNECTIONS CALLS GROUPS PROCESS
  *
- * One thread waits for all connections by epoll, so that it is not the limit: it prints how busy it was. The calls go
- * to the groups g0, g1 .. in turn. Each answer has to be the echo of its argument. PROCESS is the service's number, of
+ * A thread waits for its connections by epoll, and from eight connections on there are two, so that they are not the
+ * limit: it prints how busy they were. The calls go to the groups g0, g1 .. in turn. Each answer has to be the echo of its argument. PROCESS is the service's number, of
  * whose threads the context switches are counted. It talks to 127.0.0.1 alone, and ends with status 1 where no answer
  * comes for ten seconds.
  *
  * It prints calls a second, the median and the 99th percentile of a call in milliseconds, context switches a call, and
- * how many percent of the time it was busy. */
+ * how many percent of the time its threads were busy. */
 #include <arpa/inet.h>
 #include <dirent.h>
 #include <errno.h>
 #include <netinet/in.h>
 #include <netinet/tcp.h>
+#include <pthread.h>
 #include <stdio.h>
 #include <stdlib.h>
 #include <string.h>
@@ -23,7 +24,7 @@
 #include <time.h>
 #include <unistd.h>
 
-enum { MOST_CONNECTIONS = 64, MOST_LINE = 256, PATIENCE_MS = 10000 };
+enum { MOST_CONNECTIONS = 64, MOST_THREADS = 2, FEW_CONNECTIONS = 8, MOST_LINE = 256, PATIENCE_MS = 10000 };
 
 typedef struct {
     int socket;
@@ -33,8 +34,17 @@ typedef struct {
     char answer[MOST_LINE];
 } Connection;
 
+/* A thread that makes the calls of some of the connections. */
+typedef struct {
+    pthread_t thread;
+    int poll;
+    long calls;         /* how many these are */
+} Caller;
+
 static Connection connections[MOST_CONNECTIONS];
-static long calls, groups, connection_count;
+static Caller callers[MOST_THREADS];
+static long calls, groups, connection_count, caller_count;
+static double *took;    /* the seconds of each call, by its number */
 
 static void fail(const char *why) {
     fprintf(stderr, "%s\n", why);
@@ -125,22 +135,50 @@ static int by_size(const void *a, const void *b) {
     return (x > y) - (x < y);
 }
 
-/* Makes all calls, and notes the seconds of each. */
-static void make_calls(int poll, double *took) {
+/* Makes the calls of a thread's connections, and notes the seconds of each. */
+static void *make_calls(void *argument) {
+    Caller *caller = argument;
     struct epoll_event events[MOST_CONNECTIONS];
-    long done = 0;
-    while (done < calls) {
-        int ready = epoll_wait(poll, events, MOST_CONNECTIONS, PATIENCE_MS);
+    for (long done = 0; done < caller->calls;) {
+        int ready = epoll_wait(caller->poll, events, MOST_CONNECTIONS, PATIENCE_MS);
         if (ready == 0) fail("no answer in ten seconds");
         if (ready < 0 && errno != EINTR) fail("cannot wait");
         for (int i = 0; i < ready; i++) {
             Connection *connection = events[i].data.ptr;
             if (!receive(connection)) continue;
-            took[done++] = seconds() - connection->sent;
+            took[connection->call] = seconds() - connection->sent;
+            done++;
             connection->call += connection_count;
             if (connection->call < calls) send_call(connection);
         }
     }
+    return NULL;
+}
+
+/* Gives the connections to the threads in turn. */
+static void connect_all(int port) {
+    for (long i = 0; i < caller_count; i++) {
+        callers[i].poll = epoll_create1(0);
+        if (callers[i].poll < 0) fail("no memory");
+    }
+    for (long i = 0; i < connection_count; i++) {
+        struct epoll_event event = {.events = EPOLLIN, .data.ptr = &connections[i]};
+        Caller *caller = &callers[i % caller_count];
+        connect_to(&connections[i], port);
+        epoll_ctl(caller->poll, EPOLL_CTL_ADD, connections[i].socket, &event);
+        connections[i].call = i;
+        caller->calls += (calls - i + connection_count - 1) / connection_count;
+    }
+}
+
+/* Makes all calls. */
+static void call_all(void) {
+    for (long i = 0; i < connection_count; i++) send_call(&connections[i]);
+    for (long i = 1; i < caller_count; i++) {
+        if (pthread_create(&callers[i].thread, NULL, make_calls, &callers[i]) != 0) fail("no thread");
+    }
+    make_calls(&callers[0]);
+    for (long i = 1; i < caller_count; i++) pthread_join(callers[i].thread, NULL);
 }
 
 int main(int argc, char **argv) {
@@ -151,24 +189,18 @@ int main(int argc, char **argv) {
     long process = atol(argv[5]);
     if (connection_count < 1 || connection_count > MOST_CONNECTIONS || calls < connection_count || groups < 1)
         fail("1 to 64 connections, a call for each, and a group");
-    double *took = malloc(calls * sizeof *took);
-    int poll = epoll_create1(0);
-    if (!took || poll < 0) fail("no memory");
-    for (long i = 0; i < connection_count; i++) {
-        struct epoll_event event = {.events = EPOLLIN, .data.ptr = &connections[i]};
-        connect_to(&connections[i], atoi(argv[1]));
-        epoll_ctl(poll, EPOLL_CTL_ADD, connections[i].socket, &event);
-        connections[i].call = i;
-    }
+    caller_count = connection_count < FEW_CONNECTIONS ? 1 : MOST_THREADS;
+    took = malloc(calls * sizeof *took);
+    if (!took) fail("no memory");
+    connect_all(atoi(argv[1]));
     long switches = switches_of(process);
     double began = seconds(), busy = busy_seconds();
-    for (long i = 0; i < connection_count; i++) send_call(&connections[i]);
-    make_calls(poll, took);
+    call_all();
     double whole = seconds() - began;
     busy = busy_seconds() - busy;
     switches = switches_of(process) - switches;
     qsort(took, calls, sizeof *took, by_size);
     printf("%.0f %.3f %.3f %.2f %.0f\n", calls / whole, took[calls / 2] * 1000, took[calls * 99 / 100] * 1000,
-           (double)switches / calls, 100 * busy / whole);
+           (double)switches / calls, 100 * busy / whole / caller_count);
     return 0;
 }
