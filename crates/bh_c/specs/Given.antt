@@ -72,9 +72,18 @@ op_in words.FallbackMissing s = Ok (op.FallbackDone s.ticket ends.Missing)
 op_in words.Close s = Ok (op.Close s.context)
 op_in words.Read s = Ok op.Read
 
+-- the step of an operation
+abbrev pub step_of : GivenStep → Op → Step
+step_of s o = record { group = record { 0 = s.group }; now = s.moment; op = o }
+
+-- the step of the operation that the word names
+abbrev pub made_in : OpWord → GivenStep → Result Step Outcome
+made_in word s = do
+  o ← op_in word s
+  Ok (step_of s o)
+
 -- the step that is given: its operation is looked at before its texts, and a key before an argument
 abbrev pub step_in : GivenStep → Result Step Outcome
 step_in s = do
   word ← or_no_operation (op_word s.operation)
-  o ← op_in word s
-  Ok (record { group = record { 0 = s.group }; now = s.moment; op = o })
+  made_in word s

@@ -1,10 +1,10 @@
 //! A step as C gives it.
 
 ghost use Rattle.std.specs.Prelude.{◌≡◌, ◌≤◌, length};
-ghost use Rattle.bh_c.specs.Given.{op_word, op_in, step_in, text_in};
+ghost use Rattle.bh_c.specs.Given.{op_word, text_in};
 
 use crate::outcome::Outcome;
-use bh_base::{FallbackEnd, GroupId, Op, Request, Step, Text};
+use bh_base::Text;
 use std::str;
 
 /// A step as C gives it. Which of the fields count depends on the operation.
@@ -50,7 +50,7 @@ pub enum OpWord {
 }
 
 /// The operation of a number.
-fn op_word(number: u32) -> Option<OpWord>
+pub fn op_word(number: u32) -> Option<OpWord>
     ensures { result ≡ op_word number }
 {
     match number {
@@ -71,69 +71,8 @@ fn op_word(number: u32) -> Option<OpWord>
     }
 }
 
-impl GivenStep {
-    /// The step that is given, or why there is none: its operation is looked at before its texts, and a key before an
-    /// argument.
-    pub fn step(&self) -> Result<Step, Outcome>
-        ensures { result ≡ step_in self.now }
-    {
-        let word = op_word(self.operation).ok_or(Outcome::NoSuchOperation)?;
-        let op = self.op(word)?;
-        Ok(Step {
-            group: GroupId(self.group),
-            now: self.moment,
-            op,
-        })
-    }
-
-    /// The operation of the word.
-    fn op(&self, word: OpWord) -> Result<Op, Outcome>
-        ensures { result ≡ op_in word self.now }
-    {
-        let serial = self.ticket;
-        match word {
-            OpWord::Submit => {
-                let arg = text_in::<64>(&self.text, self.text_length)?;
-                Ok(Op::Submit(Request { cache: None, arg }))
-            }
-            OpWord::SubmitShared => {
-                let key = text_in::<32>(&self.key, self.key_length)?;
-                let arg = text_in::<64>(&self.text, self.text_length)?;
-                let cache = Some((self.context, key));
-                Ok(Op::Submit(Request { cache, arg }))
-            }
-            OpWord::Start => Ok(Op::Start),
-            OpWord::Finish => {
-                let body = text_in::<256>(&self.text, self.text_length)?;
-                Ok(Op::Finish { serial, body })
-            }
-            OpWord::Fail => Ok(Op::Fail { serial, bad: false }),
-            OpWord::BadRequest => Ok(Op::Fail { serial, bad: true }),
-            OpWord::Expire => Ok(Op::Expire),
-            OpWord::Collect => Ok(Op::Collect { serial }),
-            OpWord::FallbackValue => {
-                let body = text_in::<256>(&self.text, self.text_length)?;
-                let end = FallbackEnd::Success(body);
-                Ok(Op::FallbackDone { serial, end })
-            }
-            OpWord::FallbackFailed => Ok(Op::FallbackDone {
-                serial,
-                end: FallbackEnd::Failure,
-            }),
-            OpWord::FallbackMissing => Ok(Op::FallbackDone {
-                serial,
-                end: FallbackEnd::Missing,
-            }),
-            OpWord::Close => Ok(Op::Close {
-                context: self.context,
-            }),
-            OpWord::Read => Ok(Op::Read),
-        }
-    }
-}
-
 /// The text of so many bytes in front, of at most `N`.
-fn text_in<const N: usize>(bytes: &[u8], count: u32) -> Result<Text<N>, Outcome>
+pub fn text_in<const N: usize>(bytes: &[u8], count: u32) -> Result<Text<N>, Outcome>
     requires { N ≤ length bytes.now }
     ensures { result ≡ text_in N count bytes.now }
 {

@@ -8,4 +8,5 @@ pub mod handle;
 pub mod loose;
 pub mod outcome;
 pub mod service;
+mod steps;
 pub mod told;

@@ -16,6 +16,7 @@ ghost use Rattle.bh_c.specs.Settings.{settings_in};
 use crate::buffers::put_front;
 use crate::given::GivenStep;
 use crate::outcome::Outcome;
+use crate::steps::make_given;
 use crate::told::ToldReply;
 use bh_base::Step;
 use bh_core::Core;
@@ -93,14 +94,7 @@ impl Service {
         ensures told { StepTold (step_in given.now) self.old.core self.new.core told.old told.new result }
         ensures settings { self.new.settings ≡ self.old.settings }
     {
-        match given.step() {
-            Ok(step) => {
-                let reply = self.core.apply(step);
-                told.show(&reply);
-                Outcome::Done
-            }
-            Err(outcome) => outcome,
-        }
+        make_given(&mut self.core, given, told)
     }
 
     /// Answers a line, which has no line feed, in front of the buffer, and tells the length of the answer or, where the
