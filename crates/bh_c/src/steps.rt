@@ -1,6 +1,6 @@
 //! The steps that C gives, made in their groups.
 //!
-//! A function pays at its entry for the room of its texts, so each operation with a text has a function of its own.
+//! A function pays at its entry for the room of every operation that it names, so each operation has a function of its own.
 
 ghost use Rattle.std.specs.Prelude.{Ok};
 ghost use Rattle.bh_c.specs.Calls.{StepTold};
@@ -27,25 +27,88 @@ pub fn make_given(core: &mut Core, given: &GivenStep, told: &mut ToldReply) -> O
 fn make_word(core: &mut Core, given: &GivenStep, word: OpWord, told: &mut ToldReply) -> Outcome
     ensures { StepTold (made_in word given.now) core.old core.new told.old told.new result }
 {
-    let serial = given.ticket;
     match word {
         OpWord::Submit => submit(core, given, told),
         OpWord::SubmitShared => submit_shared(core, given, told),
-        OpWord::Start => make(core, given, Op::Start, told),
+        OpWord::Start => start(core, given, told),
         OpWord::Finish => finish(core, given, told),
-        OpWord::Fail => make(core, given, Op::Fail { serial, bad: false }, told),
-        OpWord::BadRequest => make(core, given, Op::Fail { serial, bad: true }, told),
-        OpWord::Expire => make(core, given, Op::Expire, told),
-        OpWord::Collect => make(core, given, Op::Collect { serial }, told),
+        OpWord::Fail => fail(core, given, false, told),
+        OpWord::BadRequest => fail(core, given, true, told),
+        OpWord::Expire => expire(core, given, told),
+        OpWord::Collect => collect(core, given, told),
         OpWord::FallbackValue => fallback_value(core, given, told),
-        OpWord::FallbackFailed => end_fallback(core, given, FallbackEnd::Failure, told),
-        OpWord::FallbackMissing => end_fallback(core, given, FallbackEnd::Missing, told),
-        OpWord::Close => {
-            let context = given.context;
-            make(core, given, Op::Close { context }, told)
-        }
-        OpWord::Read => make(core, given, Op::Read, told),
+        OpWord::FallbackFailed => fallback_failed(core, given, told),
+        OpWord::FallbackMissing => fallback_missing(core, given, told),
+        OpWord::Close => close(core, given, told),
+        OpWord::Read => read(core, given, told),
     }
+}
+
+/// A worker asks for a run.
+#[inline(never)]
+fn start(core: &mut Core, given: &GivenStep, told: &mut ToldReply) -> Outcome
+    ensures { StepTold (made_in OpWord.Start given.now) core.old core.new told.old told.new result }
+{
+    make(core, given, Op::Start, told)
+}
+
+/// The end of a run without a body.
+#[inline(never)]
+fn fail(core: &mut Core, given: &GivenStep, bad: bool, told: &mut ToldReply) -> Outcome
+    ensures { StepTold (Ok (step_of given.now (Op.Fail given.now.ticket bad))) core.old core.new told.old told.new result }
+{
+    let serial = given.ticket;
+    make(core, given, Op::Fail { serial, bad }, told)
+}
+
+/// Times out what is due.
+#[inline(never)]
+fn expire(core: &mut Core, given: &GivenStep, told: &mut ToldReply) -> Outcome
+    ensures { StepTold (made_in OpWord.Expire given.now) core.old core.new told.old told.new result }
+{
+    make(core, given, Op::Expire, told)
+}
+
+/// A holder asks for the answer.
+#[inline(never)]
+fn collect(core: &mut Core, given: &GivenStep, told: &mut ToldReply) -> Outcome
+    ensures { StepTold (made_in OpWord.Collect given.now) core.old core.new told.old told.new result }
+{
+    let serial = given.ticket;
+    make(core, given, Op::Collect { serial }, told)
+}
+
+/// A fallback that failed.
+#[inline(never)]
+fn fallback_failed(core: &mut Core, given: &GivenStep, told: &mut ToldReply) -> Outcome
+    ensures { StepTold (made_in OpWord.FallbackFailed given.now) core.old core.new told.old told.new result }
+{
+    end_fallback(core, given, FallbackEnd::Failure, told)
+}
+
+/// A fallback that there is not.
+#[inline(never)]
+fn fallback_missing(core: &mut Core, given: &GivenStep, told: &mut ToldReply) -> Outcome
+    ensures { StepTold (made_in OpWord.FallbackMissing given.now) core.old core.new told.old told.new result }
+{
+    end_fallback(core, given, FallbackEnd::Missing, told)
+}
+
+/// Ends a request context.
+#[inline(never)]
+fn close(core: &mut Core, given: &GivenStep, told: &mut ToldReply) -> Outcome
+    ensures { StepTold (made_in OpWord.Close given.now) core.old core.new told.old told.new result }
+{
+    let context = given.context;
+    make(core, given, Op::Close { context }, told)
+}
+
+/// Asks for the metrics.
+#[inline(never)]
+fn read(core: &mut Core, given: &GivenStep, told: &mut ToldReply) -> Outcome
+    ensures { StepTold (made_in OpWord.Read given.now) core.old core.new told.old told.new result }
+{
+    make(core, given, Op::Read, told)
 }
 
 /// A submit that shares nothing.
