@@ -42,7 +42,7 @@ static void open_groups(bulkhead_service *service, unsigned groups, unsigned slo
     for (unsigned i = 0; i < groups; i++)
         end += sprintf(end, "\"g%u\",", i);
     end += sprintf(end, "]\n");
-    uint8_t why[256];
+    uint8_t why[256] = {0};
     size_t why_length = 0;
     if (bulkhead_open(service, (uint8_t *)settings, (size_t)(end - settings), why, sizeof why, &why_length) != BULKHEAD_DONE) {
         fprintf(stderr, "%.*s\n", (int)why_length, why);

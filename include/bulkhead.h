@@ -9,7 +9,7 @@
  * - All calls on a service are made from one thread, the one that opened it. Another thread hands its steps to that
  *   one. Two services know nothing of one another.
  * - No pointer may be null, also where its length is 0. What a pointer leads to has to be there until the call returns,
- *   initialized, and may not overlap what another parameter of the same call leads to.
+ *   initialized as a whole, as {0} does it, and may not overlap what another parameter of the same call leads to.
  * - A length is the number of bytes at the pointer before it, and is below 2^63.
  * - Nothing is called from a signal handler, or from the forked child of a process with threads.
  * - Memory comes from malloc, realloc and free of the program, which belong together.

@@ -40,7 +40,7 @@ static int request(bulkhead_service *service, uint64_t group) {
 /* A line, answered by a line. */
 static int line(bulkhead_service *service) {
     static const char text[] = "{\"op\":\"submit\",\"group\":\"catalog\",\"now\":30,\"arg\":\"item 7\"}";
-    uint8_t answer[BULKHEAD_ANSWER_ROOM];
+    uint8_t answer[BULKHEAD_ANSWER_ROOM] = {0};
     size_t length = 0;
     uint32_t code = bulkhead_line(service, (const uint8_t *)text, sizeof text - 1, answer, sizeof answer, &length);
     if (code != BULKHEAD_DONE)
@@ -51,7 +51,7 @@ static int line(bulkhead_service *service) {
 
 int main(void) {
     bulkhead_service service = {0};
-    uint8_t why[256];
+    uint8_t why[256] = {0};
     size_t why_length = 0;
     if (bulkhead_version() != BULKHEAD_VERSION)
         return 1;

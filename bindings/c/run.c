@@ -33,7 +33,7 @@ static uint8_t *read_file(const char *path, size_t *length) {
 
 /* Answers one line, and gives 0 or the exit status. */
 static int answer_line(bulkhead_service *service, const uint8_t *line, size_t length) {
-    uint8_t answer[BULKHEAD_ANSWER_ROOM];
+    uint8_t answer[BULKHEAD_ANSWER_ROOM] = {0};
     size_t answer_length = 0;
     switch (bulkhead_line(service, line, length, answer, sizeof answer, &answer_length)) {
     case BULKHEAD_DONE:
@@ -76,10 +76,10 @@ static int run(bulkhead_service *service) {
 
 /* Prints what is in force, and gives the exit status. */
 static int check(bulkhead_service *service) {
-    uint8_t none[1];
+    uint8_t none[1] = {0};
     size_t length = 0;
     uint32_t code = bulkhead_check(service, none, 0, &length);
-    uint8_t *text = code == BULKHEAD_NO_ROOM ? malloc(length) : NULL;
+    uint8_t *text = code == BULKHEAD_NO_ROOM ? calloc(length, 1) : NULL;
     if (!text || bulkhead_check(service, text, length, &length) != BULKHEAD_DONE)
         return fault("memory");
     int status = fwrite(text, 1, length, stdout) == length && fflush(stdout) == 0 ? 0 : fault("write");
@@ -90,7 +90,7 @@ static int check(bulkhead_service *service) {
 /* Opens the service, or gives the exit status. */
 static int open_file(bulkhead_service *service, const char *path) {
     size_t length = 0, why_length = 0;
-    uint8_t why[256], *settings = read_file(path, &length);
+    uint8_t why[256] = {0}, *settings = read_file(path, &length);
     if (!settings)
         return fault("file");
     uint32_t code = bulkhead_open(service, settings, length, why, sizeof why, &why_length);

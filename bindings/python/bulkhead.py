@@ -10,6 +10,7 @@ A service is used from the thread that opened it alone. include/bulkhead.h tells
 import ctypes
 import os
 from ctypes import POINTER, byref, c_char_p, c_size_t, c_uint8, c_uint32, c_uint64, c_void_p
+from threading import get_ident
 
 VERSION = 1
 ANSWER_ROOM = 2048
@@ -222,7 +223,7 @@ class Service:
         if code == 1:
             raise Refused(bytes(why[: min(why_length.value, len(why))]).decode())
         _raise_unless_done(code)
-        self._held = held
+        self._held, self._thread = held, get_ident()
         self._answer, self._length = (c_uint8 * ANSWER_ROOM)(), c_size_t()
 
     def __enter__(self):
@@ -234,12 +235,15 @@ class Service:
     def close(self):
         """Gives the memory back. The service is of no further use."""
         if self._held:
-            held, self._held = self._held, None
-            _library.bulkhead_close(byref(held))
+            held = self._open()
+            self._held = None
+            _library.bulkhead_close(held)
 
     def _open(self):
         if not self._held:
             raise ValueError("the service is closed")
+        if self._thread != get_ident():
+            raise RuntimeError("a service is used from the thread that opened it alone")
         return byref(self._held)
 
     def group(self, name):
