@@ -6,7 +6,7 @@
 set -euo pipefail
 
 here=$(cd "$(dirname "$0")" && pwd)
-steps=4000000 runs=3
+steps=1000000 runs=20
 while getopts n:r: option; do
     case $option in
     n) steps=$OPTARG ;;
