@@ -1,0 +1,24 @@
+#!/usr/bin/env python3
+"""A service of two groups: steps, a line, and settings that are refused.
+
+bindings/build.sh && bindings/python/example.py
+"""
+
+from bulkhead import Refused, Service
+
+SETTINGS = b"""
+service.groups = ["catalog", "payment"]
+hystrix.threadpool.payment.coreSize = 1
+"""
+
+with Service(SETTINGS) as service:
+    ticket = service.step("submit", group="payment", now=0, text="order 3").number
+    print(service.step("start", group="payment", now=1))
+    print(service.step("finish", group="payment", now=20, ticket=ticket, text="paid"))
+    print(service.step("collect", group="payment", now=20, ticket=ticket))
+    print(service.line(b'{"op":"submit","group":"catalog","now":30,"arg":"item 7"}').decode(), end="")
+
+try:
+    Service(b"service.groups = []")
+except Refused as refusal:
+    print(refusal)

@@ -1,0 +1,117 @@
+#!/bin/bash
+# Gives scripts of lines to the program, to the program in C over the library (c/run.c) and to the one in Python
+# (python/run.py), and compares what each writes, byte for byte, and its exit status: the scripts of examples/ and of
+# crates/bulkhead/data, if any, a script of every operation, and inputs that end a script early.
+#
+#   bindings/rows.sh [PROGRAM LIBRARY]     both are proved and built where none are given
+set -euo pipefail
+
+here=$(cd "$(dirname "$0")" && pwd)
+top=$here/..
+program=${1:-$top/crates/bulkhead/out/bulkhead}
+if [ $# -eq 0 ]; then
+    (cd "$top/crates/bulkhead" && rt run -- --help >/dev/null)
+    "$here/build.sh"
+else
+    "$here/build.sh" "$2"
+fi
+work=$(mktemp -d)
+trap 'rm -r "$work"' EXIT
+same=0 differ=0
+
+# Runs the words by a program, and keeps output, errors and status.
+keep() {
+    local to=$1 status=0
+    shift
+    "$@" <"$work/input" >"$work/$to.out" 2>"$work/$to.err" || status=$?
+    echo "$status" >"$work/$to.status"
+}
+
+# Compares the program's answers with those by the library: `compare NAME WORD SETTINGS`, with the input in $work/input.
+compare() {
+    local by kind
+    keep program "$program" "$2" "$3"
+    keep c "$here/out/run" "$2" "$3"
+    keep python python3 "$here/python/run.py" "$2" "$3"
+    for by in c python; do
+        for kind in out err status; do
+            if cmp -s "$work/program.$kind" "$work/$by.$kind"; then
+                same=$((same + 1))
+            else
+                differ=$((differ + 1))
+                echo "$1: $kind of $by differs"
+            fi
+        done
+    done
+}
+
+for settings in "$top"/examples/*/settings.toml; do
+    name=$(basename "$(dirname "$settings")")
+    : >"$work/input"
+    compare "check of $name" check "$settings"
+    for script in "$(dirname "$settings")"/*.jsonl; do
+        [ -f "$script" ] || continue
+        cp "$script" "$work/input"
+        compare "$name" run "$settings"
+    done
+done
+
+cat >"$work/settings.toml" <<'END'
+service.groups = ["catalog", "payment"]
+service.slots.payment = 2
+hystrix.command.payment.execution.isolation.strategy = "SEMAPHORE"
+END
+cat >"$work/every" <<'END'
+{"op":"submit","group":"catalog","now":0,"arg":"item 7","context":1,"key":"k"}
+{"op":"submit","group":"catalog","now":1,"arg":"item 7","context":1,"key":"k"}
+{"op":"start","group":"catalog","now":2}
+{"op":"collect","group":"catalog","now":2,"ticket":1}
+{"op":"finish","group":"catalog","now":3,"ticket":1,"body":"\u0001 \" \\ é"}
+{"op":"collect","group":"catalog","now":4,"ticket":1}
+{"op":"submit","group":"catalog","now":5,"arg":"x"}
+{"op":"start","group":"catalog","now":5}
+{"op":"fail","group":"catalog","now":6,"ticket":2,"bad":false}
+{"op":"collect","group":"catalog","now":6,"ticket":2}
+{"op":"fallback","group":"catalog","now":7,"ticket":2,"end":"success","body":"stock"}
+{"op":"collect","group":"catalog","now":7,"ticket":2}
+{"op":"submit","group":"payment","now":0,"arg":"a"}
+{"op":"submit","group":"payment","now":0,"arg":"b"}
+{"op":"submit","group":"payment","now":0,"arg":"c"}
+{"op":"fail","group":"payment","now":1,"ticket":1,"bad":true}
+{"op":"collect","group":"payment","now":1,"ticket":1}
+{"op":"expire","group":"payment","now":5000}
+{"op":"collect","group":"payment","now":5000,"ticket":2}
+{"op":"fallback","group":"payment","now":5000,"ticket":2,"end":"missing"}
+{"op":"collect","group":"payment","now":5000,"ticket":2}
+{"op":"close","group":"catalog","now":9,"context":1}
+{"op":"read","group":"catalog","now":10}
+{"op":"read","group":"nobody","now":10}
+{"op":"none","group":"catalog","now":10}
+{"op":"read","group":"catalog"}
+nothing
+
+END
+cp "$work/every" "$work/input"
+compare "every operation" run "$work/settings.toml"
+sed 's/$/\r/' "$work/every" >"$work/input"
+compare "carriage returns" run "$work/settings.toml"
+printf '%s' "$(head -n 3 "$work/every")" >"$work/input"
+compare "no line feed at the end" run "$work/settings.toml"
+{ head -n 2 "$work/every"; printf '%1100s\n' x; head -n 2 "$work/every"; } >"$work/input"
+compare "a line that is too long" run "$work/settings.toml"
+{ head -n 2 "$work/every"; printf '\xff\n'; head -n 2 "$work/every"; } >"$work/input"
+compare "a line that is not UTF-8" run "$work/settings.toml"
+: >"$work/input"
+compare "no line" run "$work/settings.toml"
+compare "no file" run "$work/nowhere.toml"
+for refused in '' 'service.groups = []' 'service.groups = ["a", "a"]' 'service.groups = ["a"]
+service.slots.a = 5000' '= ='; do
+    printf '%s' "$refused" >"$work/refused.toml"
+    compare "refused settings" run "$work/refused.toml"
+    compare "refused settings, checked" check "$work/refused.toml"
+done
+printf '\xff' >"$work/refused.toml"
+compare "settings that are not UTF-8" check "$work/refused.toml"
+
+echo "$same agree, $differ differ"
+[ "$differ" -eq 0 ]

@@ -1,0 +1,11 @@
+use Rattle.bh_c.proofs.Texts.{settings-none, settings-text}
+use Rattle.bh_c.proofs.service.settings_in.Goals as goal
+
+pub returns-in_default-clause-refused : goal.returns-in_default-clause-refused
+returns-in_default-clause-refused c = λ _. settings-none _ c.in_default.ensures.cases.0
+
+pub returns-clause-ok : goal.returns-clause-ok
+returns-clause-ok c = rw (settings-text _ _ c.in-Ok.ensures.cases) c.read.ensures.ok
+
+pub returns-clause-refused : goal.returns-clause-refused
+returns-clause-refused c = rw (settings-text _ _ c.in-Ok.ensures.cases) c.read.ensures.refused

@@ -1,0 +1,37 @@
+-- What the calls that C makes do.
+use Rattle.std.specs.Prelude.{◌≡◌, ℕ, [], Option, Some, None, Result, Ok, IsErr, IsSomeAnd}
+use Rattle.bh_port.specs.Script.{GroupsShow}
+use Rattle.bh_props.specs.SettingsView.{SettingsView}
+use Rattle.bh_props.specs.Shown.{settings_view}
+use Rattle.bh_props.specs.declared.error.SettingsError.{SettingsError}
+use Rattle.bh_c.specs.declared.outcome.Outcome.{Outcome}
+use Rattle.bh_c.specs.declared.outcome.Outcome.TheVariants.{Done, Refused, NoMemory}
+use Rattle.bh_c.specs.declared.service.Service.{Service}
+use Rattle.bh_c.specs.Outcomes.{code_of}
+
+-- the number is that of an outcome for which this holds
+abbrev pub Answers : ℕ → (Outcome → Type 0) → Type 0
+Answers code Holds = (outcome : Outcome) × (code ≡ code_of outcome) × Holds outcome
+
+-- a service was held, and one of the same settings is held now, to which the call did this
+abbrev pub Works : Option Service → Option Service → (Service → Service → Type 0) → Type 0
+Works (Some was) (Some is) Does = (is.settings ≡ was.settings) × Does was is
+Works (Some was) None Does = ⊥
+Works None is Does = ⊥
+
+-- a service was held, and is held now as it was, and the call told this of it
+abbrev pub Keeps : Option Service → Option Service → (Service → Type 0) → Type 0
+Keeps (Some was) is Tells = (is ≡ Some was) × Tells was
+Keeps None is Tells = ⊥
+
+-- the settings that were read are those of a service of new groups
+pub record IsOpened (said : Result SettingsView SettingsError) (service : Service) : Type 0 where
+  pub settings : said ≡ Ok (settings_view service.settings)
+  pub groups : GroupsShow (settings_view service.settings) service.core []
+
+-- a service of the settings was opened; or they are refused or memory was, and what was held is as it was
+abbrev pub OpenTold : Result SettingsView SettingsError → Option Service → Option Service → Outcome → Type 0
+OpenTold said was is Done = IsSomeAnd is (IsOpened said)
+OpenTold said was is Refused = IsErr said × (is ≡ was)
+OpenTold said was is NoMemory = is ≡ was
+OpenTold said was is _ = ⊥

@@ -1,0 +1,10 @@
+pub mod Buffers
+pub mod Calls
+pub mod Exports
+pub mod Given
+pub mod Held
+pub mod Lines
+pub mod Names
+pub mod Outcomes
+pub mod Settings
+pub mod Told

@@ -1,0 +1,101 @@
+-- The fields of a reply as C is told it. Fields that a reply does not name stay as they were.
+use Rattle.std.specs.Prelude.{ℕ, List, length, min, take}
+use Rattle.bh_base.specs.declared.circuit.CircuitState.{CircuitState}
+use Rattle.bh_base.specs.declared.circuit.CircuitState.TheVariants as circuit
+use Rattle.bh_base.specs.declared.reply.Cause.{Cause}
+use Rattle.bh_base.specs.declared.reply.Cause.TheVariants as cause
+use Rattle.bh_base.specs.declared.reply.FallbackFault.{FallbackFault}
+use Rattle.bh_base.specs.declared.reply.FallbackFault.TheVariants as fault
+use Rattle.bh_base.specs.declared.reply.Answer.{Answer}
+use Rattle.bh_base.specs.declared.reply.Answer.TheVariants as answer
+use Rattle.bh_base.specs.declared.reply.Metrics.{Metrics}
+use Rattle.bh_base.specs.declared.reply.Reply.{Reply}
+use Rattle.bh_base.specs.declared.reply.Reply.TheVariants as reply
+use Rattle.bh_c.specs.declared.told.ToldReply.{ToldReply}
+use Rattle.bh_c.specs.declared.told.ToldMetrics.{ToldMetrics}
+use Rattle.bh_c.specs.Buffers.{front_replaced}
+
+-- the number of each cause of a fallback
+abbrev pub cause_number : Cause → ℕ
+cause_number cause.ShortCircuited = 1
+cause_number cause.PoolRejected = 2
+cause_number cause.SemaphoreRejected = 3
+cause_number cause.Failure = 4
+cause_number cause.Timeout = 5
+
+-- the number of each reason why no fallback gave a value
+abbrev pub fallback_number : FallbackFault → ℕ
+fallback_number fault.Failed = 1
+fallback_number fault.Rejected = 2
+fallback_number fault.Missing = 3
+fallback_number fault.Disabled = 4
+
+-- the number of each state of a circuit
+abbrev pub circuit_number : CircuitState → ℕ
+circuit_number circuit.Closed = 1
+circuit_number (circuit.Open since) = 2
+circuit_number (circuit.HalfOpen since serial) = 3
+
+-- the metrics, field by field
+abbrev pub metrics_shown : Metrics → ToldMetrics
+metrics_shown m = record {
+  circuit = circuit_number m.circuit;
+  errors = m.errors;
+  total = m.total;
+  percent = m.percent;
+  busy = m.busy;
+  queued = m.queued;
+  free = m.free;
+  bad_request = m.counts.bad_request;
+  exception_thrown = m.counts.exception_thrown;
+  failure = m.counts.failure;
+  fallback_failure = m.counts.fallback_failure;
+  fallback_missing = m.counts.fallback_missing;
+  fallback_rejection = m.counts.fallback_rejection;
+  fallback_success = m.counts.fallback_success;
+  response_from_cache = m.counts.response_from_cache;
+  semaphore_rejected = m.counts.semaphore_rejected;
+  short_circuited = m.counts.short_circuited;
+  success = m.counts.success;
+  thread_pool_rejected = m.counts.thread_pool_rejected;
+  timeout = m.counts.timeout;
+}
+
+-- the text, of which there is room for 256 bytes, and its length
+abbrev pub body_shown : List ℕ → ToldReply → ToldReply
+body_shown text told =
+    let count = min (length text) 256 in record told { text_length = count; text = front_replaced (take count text) told.text }
+
+-- a kind and a number
+abbrev pub number_shown : ℕ → ℕ → ToldReply → ToldReply
+number_shown kind number told = record told { kind = kind; number = number }
+
+-- the answer to a request
+abbrev pub answer_shown : Answer → ToldReply → ToldReply
+answer_shown (answer.Value body) told = body_shown body (record told { kind = 14 })
+answer_shown (answer.FallbackValue why body) told = body_shown body (record told { kind = 15; cause = cause_number why })
+answer_shown (answer.Error why fallback) told = record told { kind = 16; cause = cause_number why; fallback = fallback_number fallback }
+answer_shown answer.BadRequest told = record told { kind = 17 }
+
+-- the reply
+abbrev pub shown : Reply → ToldReply → ToldReply
+shown (reply.Queued serial) told = number_shown 1 serial told
+shown (reply.Inline serial) told = number_shown 2 serial told
+shown (reply.FallbackDue serial why) told = record told { kind = 3; number = serial; cause = cause_number why }
+shown (reply.Joined serial) told = number_shown 4 serial told
+shown reply.GroupFull told = record told { kind = 5 }
+shown (reply.Assigned serial arg) told = body_shown arg (number_shown 6 serial told)
+shown reply.Idle told = record told { kind = 7 }
+shown reply.Done told = record told { kind = 8 }
+shown reply.Late told = record told { kind = 9 }
+shown reply.NotRunning told = record told { kind = 10 }
+shown (reply.Expired count) told = number_shown 11 count told
+shown reply.Pending told = record told { kind = 12 }
+shown (reply.RunFallback why) told = record told { kind = 13; cause = cause_number why }
+shown (reply.Answered answer) told = answer_shown answer told
+shown reply.NoTicket told = record told { kind = 18 }
+shown reply.NotInFallback told = record told { kind = 19 }
+shown (reply.Closed count) told = number_shown 20 count told
+shown (reply.Metrics metrics) told = record told { kind = 21; metrics = metrics_shown metrics }
+shown reply.Worn told = record told { kind = 22 }
+shown reply.NoGroup told = record told { kind = 23 }

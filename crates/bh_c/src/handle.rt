@@ -1,0 +1,56 @@
+//! What C holds of a service.
+
+ghost use Rattle.std.specs.Prelude.{◌≡◌, IsSome, Option, Some, None};
+ghost use Rattle.bh_c.specs.declared.service.Service.{Service as ServiceValue};
+ghost use Rattle.bh_c.specs.Held.{held_code, held_owns};
+
+use crate::loose::Loose;
+use crate::service::Service;
+use std::alloc::Global;
+use std::marker::Model;
+
+/// What C holds of a service: the address of its memory, of which C sees nothing. It is open where a service is held.
+#[repr(C)]
+pub struct Handle {
+    at: *mut u8,
+    /// The service, where one is held.
+    pub ghost held: { Option ServiceValue } by { held_code },
+}
+
+impl Model for Handle {
+    ghost also_owns = { λ h. held_owns h.at h.held };
+}
+
+/// Takes the service out of the handle, which is closed then.
+pub fn take(handle: &mut Handle, alloc: Global) -> Box<Service>
+    requires { IsSome handle.old.held }
+    ensures taken { handle.old.held ≡ Some result.value }
+    ensures closed { handle.new.held ≡ None }
+{
+    take_loose(handle, alloc).into_box()
+}
+
+/// Puts the service into the handle, which holds it then.
+pub fn put(handle: &mut Handle, service: Box<Service>)
+    ensures { handle.new.held ≡ Some service.value }
+{
+    put_loose(handle, Loose::of(service));
+}
+
+/// Takes the service out of the handle as its pointer.
+fn take_loose(handle: &mut Handle, alloc: Global) -> Loose<Service, Global>
+    requires { IsSome handle.old.held }
+    ensures taken { handle.old.held ≡ Some result.value }
+    ensures closed { handle.new.held ≡ None }
+{
+    let at = handle.at as *mut Service;
+    Loose { at, alloc }
+}
+
+/// Puts a pointer to a service into the handle.
+fn put_loose(handle: &mut Handle, service: Loose<Service, Global>)
+    ensures { handle.new.held ≡ Some service.value }
+{
+    let Loose { at, alloc: _ } = service;
+    handle.at = at as *mut u8;
+}
