@@ -23,7 +23,7 @@ use std::thread;
 use std::thread::Threads;
 
 /// The seeds of the runs.
-const SEEDS: u64 = 3;
+const SEEDS: u64 = 20;
 
 /// Ends each run by chance: a success, perhaps after a while, a failure or a bad request; and so each fallback.
 #[derive(Drop)]
