@@ -11,15 +11,22 @@ use std::sync::{Mutex, Wait};
 use std::thread;
 use std::thread::Threads;
 
-/// The settings of a service of two groups.
-pub(super) const TWO_GROUPS: &str = r#"
-service.groups = ["a", "b"]
-hystrix.command.a.execution.isolation.thread.timeoutInMilliseconds = 300
+/// The settings of a service of three groups, of which one times out alone: a machine that stalls changes no answer of
+/// the others.
+pub(super) const THREE_GROUPS: &str = r#"
+service.groups = ["a", "b", "timed"]
+hystrix.command.default.execution.timeout.enabled = false
+hystrix.command.default.metrics.rollingStats.timeInMilliseconds = 3600000
 hystrix.command.b.execution.isolation.strategy = "SEMAPHORE"
+hystrix.command.timed.execution.timeout.enabled = true
+hystrix.command.timed.execution.isolation.thread.timeoutInMilliseconds = 100
 "#;
 
 /// The settings of a service of eight groups.
-const EIGHT_GROUPS: &str = r#"service.groups = ["g0", "g1", "g2", "g3", "g4", "g5", "g6", "g7"]"#;
+const EIGHT_GROUPS: &str = r#"
+service.groups = ["g0", "g1", "g2", "g3", "g4", "g5", "g6", "g7"]
+hystrix.command.default.execution.timeout.enabled = false
+"#;
 
 /// How many connections call at once.
 const CONNECTIONS: usize = 64;
@@ -131,7 +138,7 @@ fn ask_for_groups<R: Net<Listener = TcpListener, Stream = TcpStream> + Abort + A
         rt,
         &stream,
         r#"ups"}"#,
-        r#"{"groups":["a","b"],"reply":"groups"}"#,
+        r#"{"groups":["a","b","timed"],"reply":"groups"}"#,
     );
     assert_call(rt, &stream, "a", "hi", r#"{"body":"hi","reply":"value"}"#);
 }
@@ -164,7 +171,7 @@ fn ask_echo(rt: &(impl Abort + AllocGlobal), stream: &TcpStream) {
 
 /// What else may be asked, and the replies.
 const ASKED: &str =
-    r#"{"op":"call","group":"a","arg":"sleep 1500"} = {"body":"fallback","cause":"timeout","reply":"fallback-value"}
+    r#"{"op":"call","group":"timed","arg":"sleep 4000"} = {"body":"fallback","cause":"timeout","reply":"fallback-value"}
 {"op":"call","group":"z","arg":"x"} = {"error":"group"}
 {"op":"call","group":"b","arg":"kept","context":7,"key":"k"} = {"body":"kept","reply":"value"}
 {"op":"call","group":"b","arg":"kept","context":7,"key":"k"} = {"body":"kept","reply":"value"}
@@ -308,12 +315,12 @@ fn assert_served<
 
 #[test]
 fn groups_are_listed_and_a_call_is_answered(rt: HostRuntime) {
-    assert_served(&rt, TWO_GROUPS, 1, Talk::Groups, "");
+    assert_served(&rt, THREE_GROUPS, 1, Talk::Groups, "");
 }
 
 #[test]
 fn the_echo_answers_as_its_table_says(rt: HostRuntime) {
-    assert_served(&rt, TWO_GROUPS, 1, Talk::Everything, "");
+    assert_served(&rt, THREE_GROUPS, 1, Talk::Everything, "");
 }
 
 #[test]
@@ -323,5 +330,5 @@ fn connections_that_call_at_once_get_their_own_answers(rt: HostRuntime) {
 
 #[test]
 fn a_connection_that_breaks_off_ends_alone(rt: HostRuntime) {
-    assert_served(&rt, TWO_GROUPS, 5, Talk::BrokenOff, "fault: line\n");
+    assert_served(&rt, THREE_GROUPS, 5, Talk::BrokenOff, "fault: line\n");
 }

@@ -1,6 +1,6 @@
 //! How connections are accepted, and how a service begins and ends.
 
-use super::serve::{TWO_GROUPS, assert_call, assert_heard, connect, listen, say};
+use super::serve::{THREE_GROUPS, assert_call, assert_heard, connect, listen, say};
 use super::{assert_bytes, assert_end};
 use crate::serve::watch;
 use crate::settings_file::settings_in;
@@ -161,7 +161,7 @@ impl<R: Net<Listener = TcpListener, Stream = TcpStream> + Wait + Clock + Abort +
         say(self.rt, &last, br#"{"op":"groups"}"#);
         let mut input: &[u8] = b"what stands on standard input does not matter";
         watch(self.rt, &mut input, self.acceptor, self.address);
-        let groups = "{\"groups\":[\"a\",\"b\"],\"reply\":\"groups\"}\n";
+        let groups = "{\"groups\":[\"a\",\"b\",\"timed\"],\"reply\":\"groups\"}\n";
         assert_heard(self.rt, &last, groups, "half a line before the end");
         assert_heard(self.rt, &last, "", "the end");
     }
@@ -232,7 +232,7 @@ fn failures_to_accept_that_pass_are_waited_out(rt: HostRuntime) {
         failures: &passing,
         tries: AtomicU64::new(0),
     };
-    assert_service(&rt, &failing, TWO_GROUPS, in_all(1), Visit::Call, 0, "");
+    assert_service(&rt, &failing, THREE_GROUPS, in_all(1), Visit::Call, 0, "");
     assert_eq!(rt; failing.tries.load(Ordering::SeqCst), 18);
 }
 
@@ -244,7 +244,7 @@ fn a_listener_that_does_not_listen_ends_the_service(rt: HostRuntime) {
     assert_service(
         &rt,
         &deaf,
-        TWO_GROUPS,
+        THREE_GROUPS,
         at_a_time(2),
         Visit::None,
         3,
@@ -264,7 +264,7 @@ fn a_fault_is_told_at_once_and_open_connections_are_answered(rt: HostRuntime) {
     assert_service(
         &rt,
         &failing,
-        TWO_GROUPS,
+        THREE_GROUPS,
         in_all(2),
         Visit::OpenAtFault,
         3,
@@ -278,7 +278,7 @@ fn a_service_that_keeps_serving_ends_with_its_input(rt: HostRuntime) {
     assert_service(
         &rt,
         &listener,
-        TWO_GROUPS,
+        THREE_GROUPS,
         at_a_time(2),
         Visit::Several,
         0,
@@ -337,5 +337,5 @@ fn a_service_of_many_threads_says_how_many(rt: HostRuntime) {
 
 #[test]
 fn a_service_that_cannot_be_announced_ends(rt: HostRuntime) {
-    assert_announced(&rt, TWO_GROUPS, &mut Closed, 3, "fault: write\n");
+    assert_announced(&rt, THREE_GROUPS, &mut Closed, 3, "fault: write\n");
 }

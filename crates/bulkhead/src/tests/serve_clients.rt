@@ -1,6 +1,6 @@
 //! Clients of a service that are silent, slow or broken, beside others that are answered.
 
-use super::serve::{TWO_GROUPS, assert_call, assert_heard, connect, hear, listen, say};
+use super::serve::{THREE_GROUPS, assert_call, assert_heard, connect, hear, listen, say};
 use super::serve_acceptor::{Scene, at_a_time, in_all};
 use super::{assert_bytes, assert_end};
 use crate::settings_file::settings_in;
@@ -48,6 +48,9 @@ fn many_groups<R: Abort + AllocGlobal>(rt: &R) -> String {
         .expect(rt, "memory");
     settings
         .push_str("hystrix.command.default.execution.isolation.strategy = \"SEMAPHORE\"\n")
+        .expect(rt, "memory");
+    settings
+        .push_str("hystrix.command.default.execution.timeout.enabled = false\n")
         .expect(rt, "memory");
     settings
 }
