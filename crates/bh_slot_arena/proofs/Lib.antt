@@ -5,3 +5,4 @@ pub mod Parted
 pub mod Lasts
 pub mod Families
 pub mod Backward
+pub mod Appended

@@ -10,12 +10,14 @@ use Rattle.bh_index_lists.proofs.Segments.{NoRepeat-linked, linked-below}
 use Rattle.bh_slot_arena.specs.Lists.{IsPartition}
 use Rattle.bh_slot_arena.specs.Linked.{IsLinked, head_at}
 
-IsIn-at : (xs : List ℕ) (k x : ℕ) → slice_get xs k ≡ Some x → IsIn x xs
+-- what stands at a place of a list is one of it
+pub IsIn-at : (xs : List ℕ) (k x : ℕ) → slice_get xs k ≡ Some x → IsIn x xs
 IsIn-at [] k x e = let none : None ≡ Some x = e in cc
 IsIn-at (y ∷ ys) zero x e = let same : y ≡ x = cc in inl same
 IsIn-at (y ∷ ys) (suc k) x e = inr (IsIn-at ys k x e)
 
-place_of : (x : ℕ) (xs : List ℕ) → IsIn x xs → (k : ℕ) × (slice_get xs k ≡ Some x)
+-- and what is one of a list stands at a place of it
+pub place_of : (x : ℕ) (xs : List ℕ) → IsIn x xs → (k : ℕ) × (slice_get xs k ≡ Some x)
 place_of x [] h = absurd h
 place_of x (y ∷ ys) (inl e) = (0, ap Some e)
 place_of x (y ∷ ys) (inr h) = let r = place_of x ys h in (suc r.0, r.1)

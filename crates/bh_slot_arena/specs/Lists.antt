@@ -14,6 +14,10 @@ put_last slots to lists = slice_set lists to (list_at lists to ++ slots)
 abbrev pub moved : ℕ → ℕ → List (List ℕ) → List (List ℕ)
 moved slot to lists = put_last (slot ∷ []) to (map (without slot) lists)
 
+-- the slots of a list put at the end of another, in their order; none is on the first then
+abbrev pub appended : ℕ → ℕ → List (List ℕ) → List (List ℕ)
+appended from to lists = slice_set (put_last (list_at lists from) to lists) from []
+
 -- each of so many slots is at exactly one place of exactly one list, and nothing else is on the lists
 pub record IsPartition (slots : ℕ) (lists : List (List ℕ)) : Type 0 where
   pub within : (l k x : ℕ) → slice_get (list_at lists l) k ≡ Some x → x < slots

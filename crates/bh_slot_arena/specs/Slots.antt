@@ -1,7 +1,7 @@
 -- What callers see of an arena.
 use Rattle.std.specs.Prelude.{ℕ, List, [], ◌++◌, length, map, replicate, slice_index_or, slice_set}
 use Rattle.std.specs.List.{range_with_len, zip}
-use Rattle.bh_slot_arena.specs.Lists.{list_at, moved, put_last}
+use Rattle.bh_slot_arena.specs.Lists.{appended, list_at, moved, put_last}
 
 -- the payload of each slot, the lists of each family, and how many slots there may be
 pub record ArenaView (T : Type 0) : Type 0 where
@@ -28,6 +28,10 @@ with_new_lists family count a = with_lists family (lists_in a family ++ replicat
 -- with a slot put last on a list of a family
 abbrev pub with_moved : {T : Type 0} → ℕ → ℕ → ℕ → ArenaView T → ArenaView T
 with_moved family slot to a = with_lists family (moved slot to (lists_in a family)) a
+
+-- with the slots of a list of a family put at the end of another
+abbrev pub with_appended : {T : Type 0} → ℕ → ℕ → ℕ → ArenaView T → ArenaView T
+with_appended family from to a = with_lists family (appended from to (lists_in a family)) a
 
 -- with another payload in a slot
 abbrev pub with_payload : {T : Type 0} → ℕ → T → ArenaView T → ArenaView T

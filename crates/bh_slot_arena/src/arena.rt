@@ -2,7 +2,7 @@
 
 ghost use Rattle.std.specs.Prelude.{◌≡◌, ℕ, ◌+◌, ◌<◌, ◌≤◌, ◌↔◌, ◌≢◌, ◌^◌, [], ◌++◌, Contains, length, nat_le, replicate, reverse, slice_get, slice_index, vec_len, vec_capacity, IfOk, OnOk, OnErr, Err, Some};
 ghost use Rattle.bh_slot_arena.specs.Lists.{IsPartition};
-ghost use Rattle.bh_slot_arena.specs.Slots.{lists_in, slots_on, with_moved, with_new_lists, with_new_slots, with_payload};
+ghost use Rattle.bh_slot_arena.specs.Slots.{lists_in, slots_on, with_appended, with_moved, with_new_lists, with_new_slots, with_payload};
 ghost use Rattle.bh_slot_arena.specs.Family.{AddsSlots, CanAddSlots, but_room, family_at, no_lists};
 ghost use Rattle.std.specs.Borrow.{Lends, sem};
 ghost use Rattle.bh_slot_arena.specs.contracts.arena.Arena.{the_row};
@@ -120,6 +120,18 @@ impl<T: Copy, const K: usize> Arena<T, K> {
         ensures others { (l : ℕ) → l ≢ to → ¬ (Contains (slots_on self.old family l) slot) → slots_on self.new family l ≡ slots_on self.old family l }
     {
         self.families[family].move_to_back(slot, to);
+    }
+
+    /// Puts the slots of the list `from` at the end of another list of the family, in their order. No slot is on `from`
+    /// then, and all else stays.
+    pub fn append(&mut self, family: usize, from: usize, to: usize)
+        requires family { family < K }
+        requires from { from < length (lists_in self.old family) }
+        requires to { to < length (lists_in self.old family) }
+        requires differ { from ≢ to }
+        ensures { self.new ≡ with_appended family from to self.old }
+    {
+        self.families[family].append(from, to);
     }
 
     /// The first slot of a list; None where the list is empty.

@@ -1,9 +1,9 @@
 //! One family of lists over the slots.
 
-ghost use Rattle.std.specs.Prelude.{◌≡◌, ℕ, ◌+◌, ◌<◌, ◌≤◌, ◌^◌, List, [], ◌∷◌, ◌++◌, length, map, replicate, reverse, slice_get, IfOk, OnOk, OnErr, Some, vec_len, vec_capacity};
+ghost use Rattle.std.specs.Prelude.{◌≡◌, ◌≢◌, ℕ, ◌+◌, ◌<◌, ◌≤◌, ◌^◌, List, [], ◌∷◌, ◌++◌, length, map, replicate, reverse, slice_get, IfOk, OnOk, OnErr, Some, vec_len, vec_capacity};
 ghost use Rattle.std.specs.List.{range_with_len};
 ghost use Rattle.bh_index_lists.specs.Lists.{list_of, no_list, without};
-ghost use Rattle.bh_slot_arena.specs.Lists.{IsPartition, list_at, moved, put_last};
+ghost use Rattle.bh_slot_arena.specs.Lists.{IsPartition, appended, list_at, moved, put_last};
 ghost use Rattle.bh_slot_arena.specs.Family.{AddsSlots, CanAddSlots, but_room, no_lists};
 ghost use Rattle.bh_slot_arena.specs.Linked.{IsLinked};
 
@@ -97,6 +97,34 @@ impl Family {
             slot,
             to,
         );
+    }
+
+    /// Puts the slots of the list `from` at the end of another, in their order.
+    pub fn append(&mut self, from: usize, to: usize)
+        requires from { from < length self.old.lists }
+        requires to { to < length self.old.lists }
+        requires differ { from ≢ to }
+        ensures slots { self.new.slots ≡ self.old.slots }
+        ensures lists { self.new.lists ≡ appended from to self.old.lists }
+    {
+        for _ in 0..self.len_of(from) {
+            self.move_front(from, to);
+        }
+    }
+
+    /// Puts the first slot of the list `from`, which has one, at the end of another.
+    fn move_front(&mut self, from: usize, to: usize)
+        requires from { from < length self.old.lists }
+        requires to { to < length self.old.lists }
+        requires some { 0 < length (list_at self.old.lists from) }
+        ensures slots { self.new.slots ≡ self.old.slots }
+        ensures lists { (x : ℕ) → slice_get (list_at self.old.lists from) 0 ≡ Some x → self.new.lists ≡ moved x to self.old.lists }
+        ensures parted { IsPartition self.old.slots self.old.lists }
+    {
+        self.partition();
+        if let Some(slot) = self.front(from) {
+            self.move_to_back(slot, to);
+        }
     }
 
     /// The first slot of a list.
