@@ -15,8 +15,8 @@
  * - Memory comes from malloc, realloc and free of the program, which belong together.
  *
  * Every function but bulkhead_version and bulkhead_close answers one of the numbers under "What a call comes to".
- * Wherever it is neither BULKHEAD_DONE nor BULKHEAD_NOT_TOLD, nothing was done: the service, the reply and the bytes of
- * a buffer are as they were, save that a refused opening writes its reason.
+ * Wherever it is not BULKHEAD_DONE, nothing was done: the service, the reply and the bytes of a buffer are as they were,
+ * save that a refused opening writes its reason.
  */
 #ifndef BULKHEAD_H
 #define BULKHEAD_H
@@ -42,7 +42,6 @@ extern "C" {
 #define BULKHEAD_NOT_TEXT 6u          /* a text is not UTF-8 */
 #define BULKHEAD_TOO_LONG 7u          /* a text of a step is longer than it may be */
 #define BULKHEAD_NO_SUCH_OPERATION 8u /* no operation has the number */
-#define BULKHEAD_NOT_TOLD 9u          /* of bulkhead_line alone, see there */
 
 /* What a program holds of a service. Begin with {0}, let bulkhead_open fill it, and neither read nor write nor copy it:
  * it is open from then until bulkhead_close, and every call below but bulkhead_open wants one that is open. */
@@ -102,6 +101,7 @@ typedef struct bulkhead_step {
 #define BULKHEAD_METRICS 21u         /* the metrics of the group [metrics] */
 #define BULKHEAD_WORN 22u            /* the group has done all the steps that it may; nothing changed */
 #define BULKHEAD_NO_GROUP 23u        /* no group has the number; nothing changed */
+#define BULKHEAD_NO_COMMAND 24u      /* the group has no such command; nothing changed */
 
 /* Why a fallback is due. */
 #define BULKHEAD_CAUSE_SHORT_CIRCUITED 1u
@@ -191,9 +191,7 @@ uint32_t bulkhead_make_step(bulkhead_service *service, const bulkhead_step *step
  * at `answer`, and its length at `length`.
  *
  * BULKHEAD_BAD_LINE: where the program would stop. BULKHEAD_NO_ROOM: `answer_room` is below BULKHEAD_ANSWER_ROOM, which
- * stands at `length` then. BULKHEAD_NO_MEMORY.
- * BULKHEAD_NOT_TOLD: the step was made, and memory for its answer was refused. The memory is taken before the step is
- * made, so this is not to be expected; but no proof rules it out. */
+ * stands at `length` then. BULKHEAD_NO_MEMORY: the memory for the longest answer is taken before the step is made. */
 uint32_t bulkhead_line(bulkhead_service *service, const uint8_t *line, size_t line_length,
                        uint8_t *answer, size_t answer_room, size_t *length);
 

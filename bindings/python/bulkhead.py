@@ -56,6 +56,7 @@ KINDS = (
     "metrics",
     "worn",
     "no-group",
+    "no-command",
 )
 CAUSES = ("short-circuited", "thread-pool-rejected", "semaphore-rejected", "failure", "timeout")
 FALLBACKS = ("failed", "rejected", "missing", "disabled")
@@ -86,10 +87,6 @@ class BadStep(Error):
     """No operation has the name, or a text is not UTF-8 or too long."""
 
 
-class NotTold(Error):
-    """The step of a line was made, and memory for its answer was refused."""
-
-
 ERRORS = {
     1: (Refused, "settings refused"),
     2: (NoMemory, "memory was refused"),
@@ -99,7 +96,6 @@ ERRORS = {
     6: (BadStep, "a text is not UTF-8"),
     7: (BadStep, "a text is too long"),
     8: (BadStep, "no operation has the number"),
-    9: (NotTold, "the step was made, and memory for its answer was refused"),
 }
 
 METRICS = (

@@ -18,7 +18,8 @@ use Rattle.bh_base.specs.declared.circuit.End.{End}
 use Rattle.bh_base.specs.declared.event.EventKind.{EventKind}
 use Rattle.bh_base.specs.declared.event.Rolling.{Rolling}
 use Rattle.bh_base.specs.Circuit.{Asked, asked}
-use Rattle.bh_base.specs.Machine.{Present, Outcome, admitted, cached_as, circuit_asked, circuit_said, collected, collected_in, fallback_done, fallback_done_in, free_count, in_fallback_count, is_admitted, outcome, placed, rejected, run_ended, started, submitted}
+use Rattle.bh_base.specs.Commands.{is_known, props_of}
+use Rattle.bh_base.specs.Machine.{Present, Outcome, admitted, cached_as, circuit_asked, circuit_of, circuit_said, with_circuit, collected, collected_in, fallback_done, fallback_done_in, free_count, in_fallback_count, is_admitted, outcome, placed, rejected, run_ended, started, submitted}
 use Rattle.bh_base.specs.Order.{Rise}
 use Rattle.bh_base.specs.Runs.{View, begun, is_worn}
 use Rattle.bh_base.specs.Seen.{view_after, view_outcome, view_recorded, view_reply, view_rolling}
@@ -176,7 +177,7 @@ rejected_keeps strategy.Semaphore request test g serial h = pend_added serial _ 
 rejected_keeps strategy.Thread request test g serial h = pend_added serial _ g.tickets h
 
 placed_keeps : (request : Request) (test : Bool) (g : Present) (serial : ℕ) → pend serial g.tickets ≡ true → pend serial (placed request test g).present.tickets ≡ true
-placed_keeps request test g serial h = either serial (is_admitted g g.props.strategy) _ _ (admitted_keeps g.props.strategy request test g serial h) (rejected_keeps g.props.strategy request test g serial h)
+placed_keeps request test g serial h = either serial (is_admitted g request.command (props_of request.command g.props).strategy) _ _ (admitted_keeps (props_of request.command g.props).strategy request test g serial h) (rejected_keeps (props_of request.command g.props).strategy request test g serial h)
 
 said_keeps : (a : Admit) (request : Request) (g : Present) (serial : ℕ) → pend serial g.tickets ≡ true → pend serial (circuit_said a request g).present.tickets ≡ true
 said_keeps admit.Short request g serial h = pend_added serial _ g.tickets h
@@ -184,11 +185,11 @@ said_keeps admit.Test request g serial h = placed_keeps request true g serial h
 said_keeps admit.Pass request g serial h = placed_keeps request false g serial h
 
 asked_keeps : (a : Asked) (request : Request) (g : Present) (serial : ℕ) → pend serial g.tickets ≡ true → pend serial (circuit_asked a request g).present.tickets ≡ true
-asked_keeps a request g serial h = said_keeps a.says request (record g { circuit = a.circuit }) serial h
+asked_keeps a request g serial h = said_keeps a.says request (with_circuit request.command a.circuit g) serial h
 
 submitted_keeps : (t : Option Ticket) (request : Request) (rolling : Rolling) (g : Present) (serial next : ℕ) → Rise 1 g.tickets next → pend serial g.tickets ≡ true → pend serial (submitted t request rolling g).present.tickets ≡ true
 submitted_keeps (Some t) request rolling g serial next rise h = pend_joined _ serial 1 next g.tickets rise h
-submitted_keeps None request rolling g serial next rise h = either serial (free_count g == 0) _ _ h (asked_keeps (asked g.props g.latest rolling.health g.serial g.circuit) request g serial h)
+submitted_keeps None request rolling g serial next rise h = either serial (free_count g == 0) _ _ h (asked_keeps (asked (props_of request.command g.props) g.latest rolling.health g.serial (circuit_of request.command g)) request g serial h)
 
 -- a collect
 
@@ -215,24 +216,24 @@ collect_keeps : (found : Option Ticket) (s : ℕ) (g : Present) (serial : ℕ) �
 collect_keeps None s g serial is h = h
 collect_keeps (Some t) s g serial is h = by (s == serial) refl
   where
-    another : (s == serial) ≡ false → (state : TicketState) → pend serial (collected_in state s g).present.tickets ≡ true
+    another : (s == serial) ≡ false → (state : TicketState) → pend serial (collected_in state t.command s g).present.tickets ≡ true
     another differs (ticket.Answered a) = pend_other s serial (is_held_at s) _ differs (λ t is. left_of _ _ is) (λ u. refl) g.tickets h
     another differs (ticket.NeedsFallback c) =
-        either serial (not g.props.fallback_on) _ _ (pend_other s serial (is_held_at s) _ differs (λ t is. left_of _ _ is) (λ u. refl) g.tickets h)
-        (either serial (nat_le g.props.fallback_permits (in_fallback_count g)) _ _ (pend_other s serial (is_held_at s) _ differs (λ t is. left_of _ _ is) (λ u. refl) g.tickets h)
+        either serial (not (props_of t.command g.props).fallback_on) _ _ (pend_other s serial (is_held_at s) _ differs (λ t is. left_of _ _ is) (λ u. refl) g.tickets h)
+        (either serial (nat_le (props_of t.command g.props).fallback_permits (in_fallback_count t.command g)) _ _ (pend_other s serial (is_held_at s) _ differs (λ t is. left_of _ _ is) (λ u. refl) g.tickets h)
         (pend_other s serial (is_held_at s) _ differs (λ t is. left_of _ _ is) (λ u. refl) g.tickets h))
     another differs ticket.Queued = h
     another differs ticket.Running = h
     another differs (ticket.InFallback c) = h
 
-    own : (state : TicketState) → is_unanswered (in_state state t) ≡ true → pend serial (collected_in state s g).present.tickets ≡ true
+    own : (state : TicketState) → is_unanswered (in_state state t) ≡ true → pend serial (collected_in state t.command s g).present.tickets ≡ true
     own (ticket.Answered a) waits = absurd cc
     own (ticket.NeedsFallback c) waits = absurd cc
     own ticket.Queued waits = h
     own ticket.Running waits = h
     own (ticket.InFallback c) waits = h
 
-    by : (b : Bool) → (s == serial) ≡ b → pend serial (collected_in t.state s g).present.tickets ≡ true
+    by : (b : Bool) → (s == serial) ≡ b → pend serial (collected_in t.state t.command s g).present.tickets ≡ true
     by true e = own t.state (sym (pend_found s g.tickets t is) ∙ ap (λ n. pend n g.tickets) (same_serial s serial e) ∙ h)
     by false e = another e t.state
 
@@ -251,7 +252,7 @@ pend_closed context serial (t ∷ ts) =
 -- the cases of all operations
 
 outcome_keeps : (o : Op) (rolling : Rolling) (g : Present) (serial next : ℕ) → frees_caller (frees_by o) serial ≡ false → Rise 1 g.tickets next → pend serial g.tickets ≡ true → pend serial (outcome o rolling g).present.tickets ≡ true
-outcome_keeps (op.Submit request) rolling g serial next other rise h = submitted_keeps (cached_as request.cache g) request rolling g serial next rise h
+outcome_keeps (op.Submit request) rolling g serial next other rise h = submitted_keeps (cached_as request.command request.cache g) request rolling g serial next rise h
 outcome_keeps op.Start rolling g serial next other rise h = pend_started _ g serial h
 outcome_keeps (op.Finish s body) rolling g serial next other rise h = run_keeps _ _ _ _ _ g serial other h
 outcome_keeps (op.Fail s true) rolling g serial next other rise h = run_keeps _ _ _ _ _ g serial other h
@@ -260,7 +261,7 @@ outcome_keeps op.Expire rolling g serial next other rise h = absurd cc
 outcome_keeps (op.Collect s) rolling g serial next other rise h = collect_keeps _ s g serial refl h
 outcome_keeps (op.FallbackDone s e) rolling g serial next other rise h = fallback_keeps _ _ e g serial other h
 outcome_keeps (op.Close context) rolling g serial next other rise h = sym (pend_closed context serial g.tickets) ∙ h
-outcome_keeps op.Read rolling g serial next other rise h = h
+outcome_keeps (op.Read command) rolling g serial next other rise h = h
 
 -- tickets that are released have no holder
 
@@ -291,14 +292,17 @@ pend_seen v serial m fresh = at (find (is_held_at serial) v.present.tickets) ref
 pub still_waits : (v : View) (o : Op) (now serial next m m' : ℕ) → is_worn (view_after v o now).present ≡ false → frees_caller (frees_by o) serial ≡ false → Rise 1 v.present.tickets next → is_pending (view_reply v (op.Collect serial) m) ≡ true → is_pending (view_reply (view_after v o now) (op.Collect serial) m') ≡ true
 still_waits v o now serial next m m' fresh' other rise h = by (is_worn v.present) refl
   where
+    after : (known : Bool) → is_worn v.present ≡ false → pend serial (if known then (if is_worn v.present then v else view_recorded v (view_outcome v o now)) else v).present.tickets ≡ true
+    after false fresh = pend_seen v serial m fresh ∙ h
+    after true fresh =
+        let there : (if is_worn v.present then v else view_recorded v (view_outcome v o now)).present.tickets ≡ filter is_kept (view_outcome v o now).present.tickets = ap (λ b. (if b then v else view_recorded v (view_outcome v o now)).present.tickets) fresh in
+        let waits : pend serial v.present.tickets ≡ true = pend_seen v serial m fresh ∙ h in
+        ap (pend serial) there ∙ pend_released serial _ ∙ outcome_keeps o (view_rolling v (begun now v.present).latest) (begun now v.present) serial next other rise waits
+
     by : (b : Bool) → is_worn v.present ≡ b → is_pending (view_reply (view_after v o now) (op.Collect serial) m') ≡ true
     by true worn =
         let both : false ≡ true = sym (ap (λ b. is_pending (if b then reply.Worn else (view_outcome v (op.Collect serial) m).reply)) worn) ∙ h in absurd cc
-    by false fresh =
-        let there : (view_after v o now).present.tickets ≡ filter is_kept (view_outcome v o now).present.tickets = ap (λ b. (if b then v else view_recorded v (view_outcome v o now)).present.tickets) fresh in
-        let waits : pend serial v.present.tickets ≡ true = pend_seen v serial m fresh ∙ h in
-        let after : pend serial (view_outcome v o now).present.tickets ≡ true = outcome_keeps o (view_rolling v (begun now v.present).latest) (begun now v.present) serial next other rise waits in
-        sym (pend_seen (view_after v o now) serial m' fresh') ∙ ap (pend serial) there ∙ pend_released serial _ ∙ after
+    by false fresh = sym (pend_seen (view_after v o now) serial m' fresh') ∙ after (is_known o v.present.props) fresh
 
 -- whom the code says to free, where the group is not worn after the step, is enough
 pub frees_enough : (v : View) (o : Op) (now serial next m m' : ℕ) → is_worn (view_after v o now).present ≡ false → Rise 1 v.present.tickets next → is_pending (view_reply v (op.Collect serial) m) ≡ true → is_pending (view_reply (view_after v o now) (op.Collect serial) m') ≡ false → frees_caller (frees_by o) serial ≡ true
@@ -309,10 +313,10 @@ frees_enough v o now serial next m m' fresh rise before after = at (frees_caller
     at false is = let both : true ≡ false = sym (still_waits v o now serial next m m' fresh is rise before) ∙ after in absurd cc
 
 -- a look that says whether the group is worn
-pub worn_look : (v : View) (look : Bool) → ((o : Op) (moment : ℕ) → look ≡ is_worn_out (view_reply v o moment)) → look ≡ is_worn v.present
-worn_look v look says = says op.Read 0 ∙ at (is_worn v.present)
+pub worn_look : (v : View) (look : Bool) → ((o : Op) (moment : ℕ) → is_known o v.present.props ≡ true → look ≡ is_worn_out (view_reply v o moment)) → look ≡ is_worn v.present
+worn_look v look says = says (op.Close 0) 0 refl ∙ at (is_worn v.present)
   where
-    at : (worn : Bool) → is_worn_out (if worn then reply.Worn else (view_outcome v op.Read 0).reply) ≡ worn
+    at : (worn : Bool) → is_worn_out (if worn then reply.Worn else (view_outcome v (op.Close 0) 0).reply) ≡ worn
     at true = refl
     at false = refl
 

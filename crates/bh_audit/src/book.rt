@@ -65,8 +65,8 @@ impl Book {
 
     /// Applies a step, and in an audited book writes it in the journal of its group. It takes no memory.
     ///
-    /// The place is the number of the step in its group, from 1. A step that is answered `Worn` or `NoGroup` has no
-    /// place, and changes nothing.
+    /// The place is the number of the step in its group, from 1. A step that is answered `Worn`, `NoGroup` or
+    /// `NoCommand` has no place, and changes nothing.
     pub fn apply(&mut self, step: Step) -> (Option<u64>, Reply)
         // The groups go as in the core.
         ensures groups { IsStep self.old.groups step result.1 self.new.groups }
@@ -155,7 +155,7 @@ impl Book {
 fn is_refused(reply: &Reply) -> bool
     ensures { result ≡ is_refusal reply.now }
 {
-    matches!(reply, Reply::Worn | Reply::NoGroup)
+    matches!(reply, Reply::Worn | Reply::NoGroup | Reply::NoCommand)
 }
 
 /// Writes the step with its reply at the end of the journal.

@@ -83,7 +83,7 @@ impl FreedCallers {
             Op::Finish { serial, .. } | Op::Fail { serial, .. } | Op::FallbackDone { serial, .. } =>
                 { FreedCallers::Of(*serial) }
             Op::Expire => FreedCallers::All,
-            Op::Submit(_) | Op::Start | Op::Collect { .. } | Op::Close { .. } | Op::Read => {
+            Op::Submit(_) | Op::Start | Op::Collect { .. } | Op::Close { .. } | Op::Read { .. } => {
                 FreedCallers::Nobody
             }
         }

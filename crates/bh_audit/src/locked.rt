@@ -12,7 +12,7 @@ ghost use Rattle.bh_core.specs.Step.{IsStep};
 ghost use Rattle.std.specs.List.{position_from};
 ghost use Rattle.bh_journal.specs.Passes.{Adds, PassView, added, receipt_of};
 ghost use Rattle.bh_audit.specs.Books.{IsAudited, IsWritten};
-ghost use Rattle.bh_audit.specs.Calls.{AddsCollect, AddsExpire, AddsNext, NeedsNoWait, is_due, workers_of};
+ghost use Rattle.bh_audit.specs.Calls.{AddsCollect, AddsExpire, AddsNext, CanBeMissing, NeedsNoWait, is_due, workers_of};
 ghost use Rattle.bh_audit.specs.Waking.{IsEverybody, KeepsWakeUps, frees_by, frees_one, is_told_again};
 
 use crate::book::Book;
@@ -125,8 +125,13 @@ impl<const A: u32> Locked<A> {
         let op = Op::Start;
         let (reply, freed) = self.step(pass, Step { group, now, op });
         let next = match &reply {
-            Reply::Assigned { serial, arg } => Next::Assigned {
+            Reply::Assigned {
+                serial,
+                command,
+                arg,
+            } => Next::Assigned {
                 serial: *serial,
+                command: *command,
                 arg: *arg,
             },
             Reply::Worn => Next::Worn,
@@ -147,6 +152,7 @@ impl<const A: u32> Locked<A> {
         requires { (A == 1) ≡ true → 0 < pass.old.room }
         ensures adds { IfSome result (λ r. AddsCollect C.moments (A == 1) pass.old serial r.0 pass.new) }
         ensures kinds { IfSome result (λ r. can_reply (op.Collect serial) r.0 ≡ true) }
+        ensures known { IfSome result (λ r. r.0 ≢ reply.NoCommand) }
         ensures told { IfSome result (λ r. r.0 ≡ reply.Pending → self.old.stopped ≡ true) }
         ensures waits { IsNone result → (v : View) (moment : ℕ) → slice_get self.old.book.groups.views pass.old.group.0 ≡ Some v → is_pending (view_reply v (op.Collect serial) moment) ≡ true }
         ensures waits_on { IsNone result → self.old.stopped ≡ false }
@@ -252,6 +258,7 @@ pub(crate) fn await_in<const A: u32, R: Wait, C: Clock>(
     requires { (A == 1) ≡ true → 0 < pass.old.room }
     ensures adds { AddsCollect C.moments (A == 1) pass.old serial result.0 pass.new }
     ensures kinds { can_reply (op.Collect serial) result.0 ≡ true }
+    ensures known { result.0 ≢ reply.NoCommand }
 {
     let mut guard = lock.lock(rt);
     for _ in rt.forever() {
@@ -285,6 +292,7 @@ pub(crate) fn step_in<const A: u32, R: Wait>(
     requires { (A == 1) ≡ true → 0 < pass.old.room }
     ensures adds { Adds (A == 1) pass.old step result.0 pass.new }
     ensures kinds { can_reply step.op result.0 ≡ true }
+    ensures missing { result.0 ≡ reply.NoCommand → CanBeMissing step.op }
 {
     lock.lock(rt).step(pass, step)
 }
@@ -340,13 +348,13 @@ pub(crate) fn workers_in<const A: u32, R: Wait>(
 fn workers_of(props: &GroupProps) -> u64
     ensures { result ≡ workers_of props.now }
 {
-    match props.strategy {
+    match props.command.strategy {
         Strategy::Thread => props.core,
         Strategy::Semaphore => 0,
     }
 }
 
-/// Sets the mark of a refusal.
+/// Sets the mark of a refusal. `NoCommand` has none.
 fn mark(pass: &mut Pass, reply: &Reply)
     requires { is_refusal reply.now ≡ true }
     ensures { (audited : Bool) (step : Step) → Adds audited pass.old step reply.now pass.new }
@@ -354,6 +362,7 @@ fn mark(pass: &mut Pass, reply: &Reply)
     match reply {
         Reply::Worn => pass.mark_worn(),
         Reply::NoGroup => pass.mark_no_group(),
+        Reply::NoCommand => {}
         _ => unreachable!(),
     }
 }

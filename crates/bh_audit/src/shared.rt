@@ -1,13 +1,14 @@
 //! One service, which threads share.
 
 ghost use Rattle.std.specs.Prelude.{◌≡◌, ◌≢◌, ◌↔◌, ◌<◌, ◌≤◌, ◌&&◌, length, nat_lt, vec_len, IfOk, IfErr, IfSome, OnErr, Err, true, false, if◌then◌else◌};
+ghost use Rattle.bh_base.specs.declared.reply.Reply.TheVariants as reply;
 ghost use Rattle.bh_base.specs.declared.step.Op.TheVariants as op;
 ghost use Rattle.bh_base.specs.Replies.{can_reply};
 ghost use Rattle.bh_journal.specs.Passes.{Adds, blank};
 ghost use Rattle.bh_audit.specs.declared.error.AuditError.TheVariants.{NotAudited};
 ghost use Rattle.bh_audit.specs.declared.next.PassError.TheVariants.{Memory, NoGroup};
 ghost use Rattle.bh_audit.specs.declared.next.StepError.TheVariants.{OtherGroup, PassFull};
-ghost use Rattle.bh_audit.specs.Calls.{AddsCollect, AddsExpire, AddsNext};
+ghost use Rattle.bh_audit.specs.Calls.{AddsCollect, AddsExpire, AddsNext, CanBeMissing};
 ghost use Rattle.bh_audit.specs.Finish.{FinishSays};
 ghost use Rattle.bh_audit.specs.Service.{is_audited};
 
@@ -101,14 +102,15 @@ impl Shared {
         Ok(Pass::new(alloc, group, room)?)
     }
 
-    /// Makes one step. Its receipt is added to the pass in an audited service, save where it is answered `Worn` or
-    /// `NoGroup`, which set their marks.
+    /// Makes one step. Its receipt is added to the pass in an audited service, save where it is refused: `Worn` and
+    /// `NoGroup` set their marks, and `NoCommand` leaves the pass as it is.
     ///
     /// The errors are, in this order, `OtherGroup` where the step is of another group than the pass, and `PassFull`
     /// where the service is audited and no receipt is free. Both come before any step, with nothing changed.
     pub fn step<R: Wait>(&self, rt: &R, pass: &mut Pass, step: Step) -> Result<Reply, StepError>
         ensures adds { IfOk result (λ r. Adds self.now.audited pass.old step r pass.new) }
         ensures kinds { IfOk result (λ r. can_reply step.op r ≡ true) }
+        ensures missing { IfOk result (λ r. r ≡ reply.NoCommand → CanBeMissing step.op) }
         ensures group { IfOk result (λ r. step.group ≡ pass.old.group) }
         ensures room { IfOk result (λ r. self.now.audited ≡ true → 1 ≤ pass.old.room) }
         ensures other { (result ≡ Err OtherGroup) ↔ (step.group ≢ pass.old.group) }
@@ -163,8 +165,8 @@ impl Shared {
     /// one such Collect. The moment of it is read under the lock.
     ///
     /// Its receipt and marks are those of `step`; a reply `Pending`, which comes only where the service is stopped,
-    /// sets the stop mark too. `PassFull` comes where the service is audited and no receipt is free; nothing has
-    /// changed then.
+    /// sets the stop mark too. A Collect names no command, so `NoCommand` is no reply to it. `PassFull` comes where the
+    /// service is audited and no receipt is free; nothing has changed then.
     pub fn await_answer<R: Wait, C: Clock>(
         &self,
         rt: &R,
@@ -174,6 +176,7 @@ impl Shared {
     ) -> Result<Reply, StepError>
         ensures adds { IfOk result (λ r. AddsCollect C.moments self.now.audited pass.old serial r pass.new) }
         ensures kinds { IfOk result (λ r. can_reply (op.Collect serial) r ≡ true) }
+        ensures known { IfOk result (λ r. r ≢ reply.NoCommand) }
         ensures room { IfOk result (λ r. self.now.audited ≡ true → 1 ≤ pass.old.room) }
         ensures other { result ≢ Err OtherGroup }
         ensures full { (result ≡ Err PassFull) ↔ ((self.now.audited ≡ true) × (pass.old.room ≡ 0)) }
@@ -270,7 +273,7 @@ impl Shared {
         self.waiting.len() as u64
     }
 
-    /// How many workers the group wants: as many as its pool has where it runs in threads of its own, else 0; 0 where
+    /// How many workers the group wants: as many as its pool has where its command runs in that pool, else 0; 0 where
     /// it is not registered.
     pub fn workers<R: Wait>(&self, rt: &R, group: GroupId) -> u64 {
         match &self.lock {
@@ -309,6 +312,7 @@ impl Shared {
         requires { self.now.audited ≡ true → 0 < pass.old.room }
         ensures adds { Adds self.now.audited pass.old step result.0 pass.new }
         ensures kinds { can_reply step.op result.0 ≡ true }
+        ensures missing { result.0 ≡ reply.NoCommand → CanBeMissing step.op }
     {
         match &self.lock {
             Lock::Audited(lock) => step_in(rt, lock, pass, step),

@@ -18,7 +18,8 @@ use Rattle.bh_base.specs.declared.ticket.TicketState.{TicketState}
 use Rattle.bh_base.specs.declared.ticket.TicketState.TheVariants as ticket
 use Rattle.bh_base.specs.Circuit.{Asked, asked}
 use Rattle.bh_base.specs.Tickets.{changed_first, is_running, is_cached_in, in_state}
-use Rattle.bh_base.specs.Machine.{Present, Outcome, outcome, placed, admitted, rejected, is_admitted, circuit_said, submitted, started, run_ended, collected, collected_in, fallback_done, fallback_done_in, cached_as, free_count, in_fallback_count, is_due}
+use Rattle.bh_base.specs.Commands.{props_of}
+use Rattle.bh_base.specs.Machine.{circuit_of, with_circuit, Present, Outcome, outcome, placed, admitted, rejected, is_admitted, circuit_said, submitted, started, run_ended, collected, collected_in, fallback_done, fallback_done_in, cached_as, free_count, in_fallback_count, is_due}
 use Rattle.bh_base.specs.Bounds.{HeldBy}
 
 abbrev Held : ℕ → Present → Type 0
@@ -67,7 +68,7 @@ rejected_held strategy.Thread request test g most held = held_added _ most g.tic
 
 placed_held : (request : Request) (test : Bool) (g : Present) (most : ℕ) → Held most g → Held (most + 1) (placed request test g).present
 placed_held request test g most held =
-    either (is_admitted g g.props.strategy) _ _ (most + 1) (admitted_held g.props.strategy request test g most held) (rejected_held g.props.strategy request test g most held)
+    either (is_admitted g request.command (props_of request.command g.props).strategy) _ _ (most + 1) (admitted_held (props_of request.command g.props).strategy request test g most held) (rejected_held (props_of request.command g.props).strategy request test g most held)
 
 said_held : (a : Admit) (request : Request) (g : Present) (most : ℕ) → Held most g → Held (most + 1) (circuit_said a request g).present
 said_held admit.Short request g most held = held_added _ most g.tickets refl held
@@ -80,8 +81,8 @@ same_held g most held = held_more most (most + 1) g.tickets (omega arith) held
 submitted_held : (t : Option Ticket) (request : Request) (rolling : Rolling) (g : Present) (most : ℕ) → Held most g → Held (most + 1) (submitted t request rolling g).present
 submitted_held (Some t) request rolling g most held = held_changed _ _ (λ u. omega arith) most g.tickets held
 submitted_held None request rolling g most held =
-    let a : Asked = asked g.props g.latest rolling.health g.serial g.circuit in
-    either (free_count g == 0) _ _ (most + 1) (same_held g most held) (said_held a.says request (record g { circuit = a.circuit }) most held)
+    let a : Asked = asked (props_of request.command g.props) g.latest rolling.health g.serial (circuit_of request.command g) in
+    either (free_count g == 0) _ _ (most + 1) (same_held g most held) (said_held a.says request (with_circuit request.command a.circuit g) most held)
 
 started_held : (t : Option Ticket) (g : Present) (most : ℕ) → Held most g → Held (most + 1) (started t g).present
 started_held None g most held = same_held g most held
@@ -96,11 +97,11 @@ collected_held : (t : Option Ticket) (n : ℕ) (g : Present) (most : ℕ) → He
 collected_held None n g most held = same_held g most held
 collected_held (Some t) n g most held = at t.state
   where
-    at : (s : TicketState) → Held (most + 1) (collected_in s n g).present
+    at : (s : TicketState) → Held (most + 1) (collected_in s t.command n g).present
     at (ticket.Answered a) = held_changed _ _ (λ u. omega arith) most g.tickets held
     at (ticket.NeedsFallback c) =
-        either (not g.props.fallback_on) _ _ (most + 1) (held_changed _ _ (λ u. omega arith) most g.tickets held)
-        (either (nat_le g.props.fallback_permits (in_fallback_count g)) _ _ (most + 1) (held_changed _ _ (λ u. omega arith) most g.tickets held) (held_changed _ _ (λ u. omega arith) most g.tickets held))
+        either (not (props_of t.command g.props).fallback_on) _ _ (most + 1) (held_changed _ _ (λ u. omega arith) most g.tickets held)
+        (either (nat_le (props_of t.command g.props).fallback_permits (in_fallback_count t.command g)) _ _ (most + 1) (held_changed _ _ (λ u. omega arith) most g.tickets held) (held_changed _ _ (λ u. omega arith) most g.tickets held))
     at ticket.Queued = same_held g most held
     at ticket.Running = same_held g most held
     at (ticket.InFallback c) = same_held g most held
@@ -122,7 +123,7 @@ same_if false f t e = refl
 
 -- a step adds at most one holder to a ticket
 pub outcome_held : (o : Op) (rolling : Rolling) (g : Present) (most : ℕ) → Held most g → Held (most + 1) (outcome o rolling g).present
-outcome_held (op.Submit request) rolling g most held = submitted_held (cached_as request.cache g) request rolling g most held
+outcome_held (op.Submit request) rolling g most held = submitted_held (cached_as request.command request.cache g) request rolling g most held
 outcome_held op.Start rolling g most held = started_held _ g most held
 outcome_held (op.Finish serial body) rolling g most held = run_held _ _ _ _ _ g most held
 outcome_held (op.Fail serial true) rolling g most held = run_held _ _ _ _ _ g most held
@@ -131,4 +132,4 @@ outcome_held op.Expire rolling g most held = same_held (outcome op.Expire rollin
 outcome_held (op.Collect serial) rolling g most held = collected_held _ _ g most held
 outcome_held (op.FallbackDone serial e) rolling g most held = fallback_held _ _ e g most held
 outcome_held (op.Close context) rolling g most held = same_held (outcome (op.Close context) rolling g).present most (held_mapped _ (λ t. same_if (is_cached_in context t) (λ t. record t { cached = false }) t refl) most g.tickets held)
-outcome_held op.Read rolling g most held = same_held g most held
+outcome_held (op.Read command) rolling g most held = same_held g most held

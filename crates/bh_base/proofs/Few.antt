@@ -20,7 +20,8 @@ use Rattle.bh_base.specs.declared.ticket.TicketState.{TicketState}
 use Rattle.bh_base.specs.declared.ticket.TicketState.TheVariants as ticket
 use Rattle.bh_base.specs.Circuit.{Asked, asked}
 use Rattle.bh_base.specs.Tickets.{is_running}
-use Rattle.bh_base.specs.Machine.{Present, Outcome, outcome, placed, admitted, rejected, is_admitted, circuit_said, submitted, started, run_ended, collected, collected_in, fallback_done, fallback_done_in, fallback_events, cached_as, free_count, in_fallback_count, is_due}
+use Rattle.bh_base.specs.Commands.{props_of}
+use Rattle.bh_base.specs.Machine.{circuit_of, with_circuit, Present, Outcome, outcome, placed, admitted, rejected, is_admitted, circuit_said, submitted, started, run_ended, collected, collected_in, fallback_done, fallback_done_in, fallback_events, cached_as, free_count, in_fallback_count, is_due}
 
 -- the events of an outcome are so few
 abbrev IsFew : ℕ → Outcome → Type 0
@@ -49,7 +50,7 @@ rejected_few strategy.Thread request test g most = omega arith
 
 placed_few : (request : Request) (test : Bool) (g : Present) (most : ℕ) → IsFew most (placed request test g)
 placed_few request test g most =
-    either (is_admitted g g.props.strategy) most _ _ (admitted_few g.props.strategy request test g most) (rejected_few g.props.strategy request test g most)
+    either (is_admitted g request.command (props_of request.command g.props).strategy) most _ _ (admitted_few (props_of request.command g.props).strategy request test g most) (rejected_few (props_of request.command g.props).strategy request test g most)
 
 said_few : (a : Admit) (request : Request) (g : Present) (most : ℕ) → IsFew most (circuit_said a request g)
 said_few admit.Short request g most = omega arith
@@ -59,8 +60,8 @@ said_few admit.Pass request g most = placed_few request false g most
 submitted_few : (t : Option Ticket) (request : Request) (rolling : Rolling) (g : Present) (most : ℕ) → IsFew most (submitted t request rolling g)
 submitted_few (Some t) request rolling g most = omega arith
 submitted_few None request rolling g most =
-    let a : Asked = asked g.props g.latest rolling.health g.serial g.circuit in
-    either (free_count g == 0) most _ _ (omega arith) (said_few a.says request (record g { circuit = a.circuit }) most)
+    let a : Asked = asked (props_of request.command g.props) g.latest rolling.health g.serial (circuit_of request.command g) in
+    either (free_count g == 0) most _ _ (omega arith) (said_few a.says request (with_circuit request.command a.circuit g) most)
 
 started_few : (t : Option Ticket) (g : Present) (most : ℕ) → IsFew most (started t g)
 started_few None g most = omega arith
@@ -74,10 +75,10 @@ collected_few : (t : Option Ticket) (n : ℕ) (g : Present) (most : ℕ) → IsF
 collected_few None n g most = omega arith
 collected_few (Some t) n g most = at t.state
   where
-    at : (s : TicketState) → IsFew most (collected_in s n g)
+    at : (s : TicketState) → IsFew most (collected_in s t.command n g)
     at (ticket.Answered a) = omega arith
     at (ticket.NeedsFallback c) =
-        either (not g.props.fallback_on) most _ _ (omega arith) (either (nat_le g.props.fallback_permits (in_fallback_count g)) most _ _ (omega arith) (omega arith))
+        either (not (props_of t.command g.props).fallback_on) most _ _ (omega arith) (either (nat_le (props_of t.command g.props).fallback_permits (in_fallback_count t.command g)) most _ _ (omega arith) (omega arith))
     at ticket.Queued = omega arith
     at ticket.Running = omega arith
     at (ticket.InFallback c) = omega arith
@@ -100,7 +101,7 @@ fallback_few (Some t) n e g most = at t.state
 
 -- an operation records at most two events beside a timeout for each ticket
 pub outcome_few : (o : Op) (rolling : Rolling) (g : Present) → IsFew (length g.tickets) (outcome o rolling g)
-outcome_few (op.Submit request) rolling g = submitted_few (cached_as request.cache g) request rolling g _
+outcome_few (op.Submit request) rolling g = submitted_few (cached_as request.command request.cache g) request rolling g _
 outcome_few op.Start rolling g = started_few _ g _
 outcome_few (op.Finish serial body) rolling g = run_few _ _ _ _ _ g _
 outcome_few (op.Fail serial true) rolling g = run_few _ _ _ _ _ g _
@@ -109,4 +110,4 @@ outcome_few op.Expire rolling g = omega (arith, filter_few (is_due g) g.tickets,
 outcome_few (op.Collect serial) rolling g = collected_few _ _ g _
 outcome_few (op.FallbackDone serial e) rolling g = fallback_few _ _ e g _
 outcome_few (op.Close context) rolling g = omega arith
-outcome_few op.Read rolling g = omega arith
+outcome_few (op.Read command) rolling g = omega arith

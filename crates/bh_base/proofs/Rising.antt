@@ -19,7 +19,8 @@ use Rattle.bh_base.specs.declared.event.Rolling.{Rolling}
 use Rattle.bh_base.specs.History.{window_of, rolling}
 use Rattle.bh_base.specs.Circuit.{Asked, asked}
 use Rattle.bh_base.specs.Tickets.{changed_first, is_running, is_kept, is_cached_in, in_state}
-use Rattle.bh_base.specs.Machine.{Present, Outcome, outcome, placed, admitted, rejected, is_admitted, circuit_said, circuit_asked, submitted, started, run_ended, collected, collected_in, fallback_done, fallback_done_in, cached_as, free_count, in_fallback_count, is_due}
+use Rattle.bh_base.specs.Commands.{props_of, is_known}
+use Rattle.bh_base.specs.Machine.{circuit_of, with_circuit, Present, Outcome, outcome, placed, admitted, rejected, is_admitted, circuit_said, circuit_asked, submitted, started, run_ended, collected, collected_in, fallback_done, fallback_done_in, cached_as, free_count, in_fallback_count, is_due}
 use Rattle.bh_base.specs.Runs.{State, stepped, begun, outcome_in, is_worn}
 use Rattle.bh_base.specs.Order.{Rise, IsRising, SerialsRise}
 
@@ -72,7 +73,7 @@ rejected_rise strategy.Semaphore request test g rise = rise_added _ 1 g.serial g
 rejected_rise strategy.Thread request test g rise = rise_added _ 1 g.serial g.tickets refl rise
 
 placed_rise : (request : Request) (test : Bool) (g : Present) → Rises g → Rises (placed request test g).present
-placed_rise request test g rise = either (is_admitted g g.props.strategy) _ _ (admitted_rise g.props.strategy request test g rise) (rejected_rise g.props.strategy request test g rise)
+placed_rise request test g rise = either (is_admitted g request.command (props_of request.command g.props).strategy) _ _ (admitted_rise (props_of request.command g.props).strategy request test g rise) (rejected_rise (props_of request.command g.props).strategy request test g rise)
 
 said_rise : (a : Admit) (request : Request) (g : Present) → Rises g → Rises (circuit_said a request g).present
 said_rise admit.Short request g rise = rise_added _ 1 g.serial g.tickets refl rise
@@ -80,11 +81,11 @@ said_rise admit.Test request g rise = placed_rise request true g rise
 said_rise admit.Pass request g rise = placed_rise request false g rise
 
 asked_rise : (a : Asked) (request : Request) (g : Present) → Rises g → Rises (circuit_asked a request g).present
-asked_rise a request g rise = said_rise a.says request (record g { circuit = a.circuit }) rise
+asked_rise a request g rise = said_rise a.says request (with_circuit request.command a.circuit g) rise
 
 submitted_rise : (t : Option Ticket) (request : Request) (rolling : Rolling) (g : Present) → Rises g → Rises (submitted t request rolling g).present
 submitted_rise (Some t) request rolling g rise = rise_changed _ _ (λ u. refl) 1 g.serial g.tickets rise
-submitted_rise None request rolling g rise = either (free_count g == 0) _ _ rise (asked_rise (asked g.props g.latest rolling.health g.serial g.circuit) request g rise)
+submitted_rise None request rolling g rise = either (free_count g == 0) _ _ rise (asked_rise (asked (props_of request.command g.props) g.latest rolling.health g.serial (circuit_of request.command g)) request g rise)
 
 started_rise : (t : Option Ticket) (g : Present) → Rises g → Rises (started t g).present
 started_rise None g rise = rise
@@ -98,11 +99,11 @@ collected_rise : (t : Option Ticket) (n : ℕ) (g : Present) → Rises g → Ris
 collected_rise None n g rise = rise
 collected_rise (Some t) n g rise = at t.state
   where
-    at : (s : TicketState) → Rises (collected_in s n g).present
+    at : (s : TicketState) → Rises (collected_in s t.command n g).present
     at (ticket.Answered a) = rise_changed _ _ (λ u. refl) 1 g.serial g.tickets rise
     at (ticket.NeedsFallback c) =
-        either (not g.props.fallback_on) _ _ (rise_changed _ _ (λ u. refl) 1 g.serial g.tickets rise)
-        (either (nat_le g.props.fallback_permits (in_fallback_count g)) _ _ (rise_changed _ _ (λ u. refl) 1 g.serial g.tickets rise) (rise_changed _ _ (λ u. refl) 1 g.serial g.tickets rise))
+        either (not (props_of t.command g.props).fallback_on) _ _ (rise_changed _ _ (λ u. refl) 1 g.serial g.tickets rise)
+        (either (nat_le (props_of t.command g.props).fallback_permits (in_fallback_count t.command g)) _ _ (rise_changed _ _ (λ u. refl) 1 g.serial g.tickets rise) (rise_changed _ _ (λ u. refl) 1 g.serial g.tickets rise))
     at ticket.Queued = rise
     at ticket.Running = rise
     at (ticket.InFallback c) = rise
@@ -119,7 +120,7 @@ fallback_rise (Some t) n e g rise = at t.state
     at ticket.Running = rise
 
 outcome_rise : (o : Op) (rolling : Rolling) (g : Present) → Rises g → Rises (outcome o rolling g).present
-outcome_rise (op.Submit request) rolling g rise = submitted_rise (cached_as request.cache g) request rolling g rise
+outcome_rise (op.Submit request) rolling g rise = submitted_rise (cached_as request.command request.cache g) request rolling g rise
 outcome_rise op.Start rolling g rise = started_rise _ g rise
 outcome_rise (op.Finish serial body) rolling g rise = run_rise _ _ _ _ _ g rise
 outcome_rise (op.Fail serial true) rolling g rise = run_rise _ _ _ _ _ g rise
@@ -128,16 +129,17 @@ outcome_rise op.Expire rolling g rise = rise_mapped _ (λ t. same_if (is_due g t
 outcome_rise (op.Collect serial) rolling g rise = collected_rise _ _ g rise
 outcome_rise (op.FallbackDone serial e) rolling g rise = fallback_rise _ _ e g rise
 outcome_rise (op.Close context) rolling g rise = rise_mapped _ (λ t. same_if (is_cached_in context t) (λ t. record t { cached = false }) t refl) 1 g.serial g.tickets rise
-outcome_rise op.Read rolling g rise = rise
+outcome_rise (op.Read command) rolling g rise = rise
 
 -- a new group's tickets stand by rising serial, and each step keeps them so
 pub serials_rise : SerialsRise
 serials_rise = record {
   opened = λ props limit. omega arith;
-  stepped = λ s o now rise. at s o now (is_worn s.present) rise;
+  stepped = λ s o now rise. at s o now (is_known o s.present.props) (is_worn s.present) rise;
 }
   where
-    at : (s : State) (o : Op) (now : ℕ) (worn : Bool) → IsRising s → IsRising (stepped worn s (outcome_in s o now)).state
-    at s o now true rise = rise
-    at s o now false rise =
-        rise_filtered is_kept 1 _ _ (outcome_rise o (rolling (window_of s.present.props) s.history s.health_from (begun now s.present).latest) (begun now s.present) rise)
+    at : (s : State) (o : Op) (now : ℕ) (known worn : Bool) → IsRising s → IsRising (stepped known worn s (outcome_in s o now)).state
+    at s o now false worn rise = rise
+    at s o now true true rise = rise
+    at s o now true false rise =
+        rise_filtered is_kept 1 _ _ (outcome_rise o (rolling (window_of s.present.props.command) s.history s.health_from (begun now s.present).latest) (begun now s.present) rise)

@@ -1,7 +1,9 @@
 -- The words of the worked examples: settings, steps, replies and texts in short forms, by the words of lines.
-use Rattle.std.proofs.Common.{◌≡◌, ℕ, true, false, List, [], ◌∷◌, map, filter, Some, None}
+use Rattle.std.proofs.Common.{◌≡◌, ℕ, Bool, true, false, List, [], ◌∷◌, map, filter, Option, Some, None}
 use Rattle.std.specs.Prelude.{◌==◌}
+use Rattle.bh_base.specs.declared.props.CommandProps.{CommandProps}
 use Rattle.bh_base.specs.declared.props.GroupProps.{GroupProps}
+use Rattle.bh_base.specs.declared.props.Strategy.{Strategy}
 use Rattle.bh_base.specs.declared.props.Strategy.TheVariants as strategy
 use Rattle.bh_base.specs.declared.step.Step.{Step}
 use Rattle.bh_base.specs.declared.step.Op.{Op}
@@ -20,8 +22,62 @@ use Rattle.bh_base.specs.declared.reply.FallbackFault.{FallbackFault}
 use Rattle.bh_base.specs.declared.reply.FallbackFault.TheVariants as fault
 use Rattle.bh_base.specs.Runs.{opened, replies, own}
 
+-- the settings of a group and of its command
+pub record Settings : Type 0 where
+  pub slots : ℕ
+  pub strategy : Strategy
+  pub timeout_ms : ℕ
+  pub timeout_on : Bool
+  pub semaphore : ℕ
+  pub fallback_permits : ℕ
+  pub fallback_on : Bool
+  pub circuit_on : Bool
+  pub volume : ℕ
+  pub sleep_ms : ℕ
+  pub percent : ℕ
+  pub force_open : Bool
+  pub force_closed : Bool
+  pub window_ms : ℕ
+  pub buckets : ℕ
+  pub health_ms : ℕ
+  pub cache_on : Bool
+  pub core : ℕ
+  pub max_queue : Option ℕ
+  pub queue_threshold : ℕ
+
+-- the properties of the command
+abbrev pub command_props : Settings → CommandProps
+command_props x = record {
+  strategy = x.strategy;
+  timeout_ms = x.timeout_ms;
+  timeout_on = x.timeout_on;
+  semaphore = x.semaphore;
+  fallback_permits = x.fallback_permits;
+  fallback_on = x.fallback_on;
+  circuit_on = x.circuit_on;
+  volume = x.volume;
+  sleep_ms = x.sleep_ms;
+  percent = x.percent;
+  force_open = x.force_open;
+  force_closed = x.force_closed;
+  window_ms = x.window_ms;
+  buckets = x.buckets;
+  health_ms = x.health_ms;
+  cache_on = x.cache_on;
+}
+
+-- the properties of the group
+abbrev pub group_props : Settings → GroupProps
+group_props x = record {
+  slots = x.slots;
+  command = command_props x;
+  core = x.core;
+  max_queue = x.max_queue;
+  queue_threshold = x.queue_threshold;
+}
+
 -- the built-in settings
-abbrev pub plain : GroupProps
+abbrev pub plain : Settings
 plain = record {
   slots = 64;
   strategy = strategy.Thread;
@@ -59,9 +115,9 @@ abbrev pub ◌⇒◌ : Step → Reply → Line
 does ⇒ says = record { step = does; reply = says }
 
 -- the machine, newly opened, answers the group's own steps as the lines say
-abbrev pub IsAnswered : GroupProps → ℕ → ℕ → List Line → Type 0
-IsAnswered props limit group lines =
-    replies (opened props limit) (own group (map (λ line. line.step) lines)) ≡ map (λ line. line.reply) (filter (λ line. line.step.group.0 == group) lines)
+abbrev pub IsAnswered : Settings → ℕ → ℕ → List Line → Type 0
+IsAnswered settings limit group lines =
+    replies (opened (group_props settings) limit) (own group (map (λ line. line.step) lines)) ≡ map (λ line. line.reply) (filter (λ line. line.step.group.0 == group) lines)
 
 -- the operation in the group at the moment
 abbrev pub step_in : ℕ → ℕ → Op → Step
@@ -76,11 +132,11 @@ b = 1
 
 -- steps, by the words of their lines; each begins with the group and the moment
 abbrev pub submit : ℕ → ℕ → List ℕ → Step
-submit group moment arg = step_in group moment (op.Submit (record { cache = None; arg = arg }))
+submit group moment arg = step_in group moment (op.Submit (record { command = 0; cache = None; arg = arg }))
 
 -- a submit with a context and a key of the request cache
 abbrev pub submit_cached : ℕ → ℕ → List ℕ → ℕ → List ℕ → Step
-submit_cached group moment arg context key = step_in group moment (op.Submit (record { cache = Some (context, key); arg = arg }))
+submit_cached group moment arg context key = step_in group moment (op.Submit (record { command = 0; cache = Some (context, key); arg = arg }))
 
 abbrev pub start : ℕ → ℕ → Step
 start group moment = step_in group moment op.Start
@@ -108,7 +164,18 @@ abbrev pub close : ℕ → ℕ → ℕ → Step
 close group moment context = step_in group moment (op.Close context)
 
 abbrev pub read : ℕ → ℕ → Step
-read group moment = step_in group moment op.Read
+read group moment = step_in group moment (op.Read 0)
+
+-- the operation, of the command in place of the group's own
+abbrev op_of : Op → ℕ → Op
+op_of (op.Submit request) command = op.Submit (record request { command = command })
+op_of (op.Read own) command = op.Read command
+op_of o command = o
+
+-- the step, of the command in place of the group's own
+infix 75 ◌▷◌
+abbrev pub ◌▷◌ : Step → ℕ → Step
+does ▷ command = record does { op = op_of does.op command }
 
 -- ends of fallbacks
 abbrev pub success : List ℕ → FallbackEnd
@@ -165,7 +232,7 @@ abbrev pub group_full : Reply
 group_full = reply.GroupFull
 
 abbrev pub assigned : ℕ → List ℕ → Reply
-assigned ticket arg = reply.Assigned ticket arg
+assigned ticket arg = reply.Assigned ticket 0 arg
 
 abbrev pub idle : Reply
 idle = reply.Idle
@@ -211,6 +278,9 @@ closed number = reply.Closed number
 
 abbrev pub worn : Reply
 worn = reply.Worn
+
+abbrev pub no_command : Reply
+no_command = reply.NoCommand
 
 -- states of the circuit breaker
 abbrev pub circuit_closed : CircuitState

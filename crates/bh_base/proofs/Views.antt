@@ -11,6 +11,7 @@ use Rattle.bh_base.specs.declared.step.Op.{Op}
 use Rattle.bh_base.specs.declared.reply.Reply.TheVariants as reply
 use Rattle.bh_base.specs.declared.event.Window.{Window}
 use Rattle.bh_base.specs.History.{window_of, rolling, rolling_by, health_by, table, health_events, is_of_health}
+use Rattle.bh_base.specs.Commands.{is_known}
 use Rattle.bh_base.specs.Machine.{Outcome, outcome}
 use Rattle.bh_base.specs.Runs.{State, IsSound, StaysSound, view, step, stepped, left_by, outcome_in, events_at, begun, released, is_worn}
 use Rattle.bh_base.specs.Tables.{no_rows, later_table}
@@ -55,11 +56,11 @@ past_later latest moment [] [] later past = past
 past_later latest moment [] (k ∷ kinds) later past = (omega arith, past_later latest moment [] kinds later past)
 past_later latest moment (e ∷ history) kinds later past = (omega (arith, past.0), past_later latest moment history kinds later past.1)
 
-rolling_seen : (s : State) (moment : ℕ) → IsSound s → s.present.latest ≤ moment → view_rolling (view s) moment ≡ rolling (window_of s.present.props) s.history s.health_from moment
+rolling_seen : (s : State) (moment : ℕ) → IsSound s → s.present.latest ≤ moment → view_rolling (view s) moment ≡ rolling (window_of s.present.props.command) s.history s.health_from moment
 rolling_seen s moment sound later =
     rolling_by_same _ _ _ _
-    (λ k. count_from_table (window_of s.present.props) s.history s.present.latest moment k sound.past later)
-    (λ k. count_from_table (window_of s.present.props) (health_events s.health_from s.history) s.present.latest moment k (past_health _ _ _ sound.past) later)
+    (λ k. count_from_table (window_of s.present.props.command) s.history s.present.latest moment k sound.past later)
+    (λ k. count_from_table (window_of s.present.props.command) (health_events s.health_from s.history) s.present.latest moment k (past_health _ _ _ sound.past) later)
 
 outcome_seen : (s : State) (o : Op) (now : ℕ) → IsSound s → view_outcome (view s) o now ≡ outcome_in s o now
 outcome_seen s o now sound =
@@ -94,34 +95,36 @@ health_at false props history from latest moment kinds past inside later =
 recorded_seen : (s : State) (out : Outcome) → IsSound s → out.present.props ≡ s.present.props → s.present.latest ≤ out.present.latest → view (left_by s out) ≡ view_recorded (view s) out
 recorded_seen s out sound kept later = λ i. record {
   present = released out.present;
-  table = (ap (λ p. table (window_of p) (s.history ++ events_at out.present.latest out.events) out.present.latest) kept
-      ∙ table_later (window_of s.present.props) s.history s.present.latest out.present.latest out.events sound.past later) i;
-  health = (ap (λ p. table (window_of p) (health_events (if out.closed then length (s.history ++ events_at out.present.latest out.events) else s.health_from) (s.history ++ events_at out.present.latest out.events)) out.present.latest) kept
-      ∙ health_at out.closed (window_of s.present.props) s.history s.health_from s.present.latest out.present.latest out.events sound.past sound.from later) i;
+  table = (ap (λ p. table (window_of p.command) (s.history ++ events_at out.present.latest out.events) out.present.latest) kept
+      ∙ table_later (window_of s.present.props.command) s.history s.present.latest out.present.latest out.events sound.past later) i;
+  health = (ap (λ p. table (window_of p.command) (health_events (if out.closed then length (s.history ++ events_at out.present.latest out.events) else s.health_from) (s.history ++ events_at out.present.latest out.events)) out.present.latest) kept
+      ∙ health_at out.closed (window_of s.present.props.command) s.history s.health_from s.present.latest out.present.latest out.events sound.past sound.from later) i;
 }
 
 -- the reply of a step is the one that the view of the state says
 pub reply_seen : (s : State) (o : Op) (now : ℕ) → IsSound s → (step s o now).reply ≡ view_reply (view s) o now
-reply_seen s o now sound = at (is_worn s.present) (outcome_seen s o now sound)
+reply_seen s o now sound = at (is_known o s.present.props) (is_worn s.present) (outcome_seen s o now sound)
   where
-    at : (worn : Bool) → view_outcome (view s) o now ≡ outcome_in s o now → (stepped worn s (outcome_in s o now)).reply ≡ (if worn then reply.Worn else (view_outcome (view s) o now).reply)
-    at true e = refl
-    at false e = ap (λ (x : Outcome). x.reply) (sym e)
+    at : (known worn : Bool) → view_outcome (view s) o now ≡ outcome_in s o now → (stepped known worn s (outcome_in s o now)).reply ≡ (if known then (if worn then reply.Worn else (view_outcome (view s) o now).reply) else reply.NoCommand)
+    at false worn e = refl
+    at true true e = refl
+    at true false e = ap (λ (x : Outcome). x.reply) (sym e)
 
 -- the view after a step is the one that the view before it says
 pub after_seen : (s : State) (o : Op) (now : ℕ) → IsSound s → view (step s o now).state ≡ view_after (view s) o now
-after_seen s o now sound = at (is_worn s.present)
+after_seen s o now sound = at (is_known o s.present.props) (is_worn s.present)
   where
     keeps : Keeps (begun now s.present) (outcome_in s o now).present
     keeps = outcome_keeps o _ (begun now s.present)
 
-    at : (worn : Bool) → view (stepped worn s (outcome_in s o now)).state ≡ (if worn then view s else view_recorded (view s) (view_outcome (view s) o now))
-    at true = refl
-    at false = recorded_seen s (outcome_in s o now) sound keeps.props (omega (arith, keeps.latest)) ∙ ap (view_recorded (view s)) (sym (outcome_seen s o now sound))
+    at : (known worn : Bool) → view (stepped known worn s (outcome_in s o now)).state ≡ (if known then (if worn then view s else view_recorded (view s) (view_outcome (view s) o now)) else view s)
+    at false worn = refl
+    at true true = refl
+    at true false = recorded_seen s (outcome_in s o now) sound keeps.props (omega (arith, keeps.latest)) ∙ ap (view_recorded (view s)) (sym (outcome_seen s o now sound))
 
 -- a step keeps a state sound
 pub step_sound : (s : State) (o : Op) (now : ℕ) → IsSound s → IsSound (step s o now).state
-step_sound s o now sound = at (is_worn s.present)
+step_sound s o now sound = at (is_known o s.present.props) (is_worn s.present)
   where
     keeps : Keeps (begun now s.present) (outcome_in s o now).present
     keeps = outcome_keeps o _ (begun now s.present)
@@ -130,9 +133,10 @@ step_sound s o now sound = at (is_worn s.present)
     from_inside true n h = omega arith
     from_inside false n h = h
 
-    at : (worn : Bool) → IsSound (stepped worn s (outcome_in s o now)).state
-    at true = sound
-    at false = record {
+    at : (known worn : Bool) → IsSound (stepped known worn s (outcome_in s o now)).state
+    at false worn = sound
+    at true true = sound
+    at true false = record {
       past = past_later s.present.latest (outcome_in s o now).present.latest s.history (outcome_in s o now).events (omega (arith, keeps.latest)) sound.past;
       from = from_inside (outcome_in s o now).closed (length (s.history ++ events_at (outcome_in s o now).present.latest (outcome_in s o now).events)) (omega (arith, sound.from, length-append s.history (events_at (outcome_in s o now).present.latest (outcome_in s o now).events)));
     }
@@ -146,14 +150,15 @@ equal_views s t o now sound_s sound_t same = (
 
 -- no step changes the properties
 pub step_props : (s : State) (o : Op) (now : ℕ) → (step s o now).state.present.props ≡ s.present.props
-step_props s o now = at (is_worn s.present)
+step_props s o now = at (is_known o s.present.props) (is_worn s.present)
   where
     keeps : Keeps (begun now s.present) (outcome_in s o now).present
     keeps = outcome_keeps o _ (begun now s.present)
 
-    at : (worn : Bool) → (stepped worn s (outcome_in s o now)).state.present.props ≡ s.present.props
-    at true = refl
-    at false = keeps.props
+    at : (known worn : Bool) → (stepped known worn s (outcome_in s o now)).state.present.props ≡ s.present.props
+    at false worn = refl
+    at true true = refl
+    at true false = keeps.props
 
 -- a new group's state is sound, and each step keeps it so
 pub stays_sound : StaysSound

@@ -1,6 +1,6 @@
--- The circuit of a group: what it says of a submit, and what a test's ending does to it.
+-- The circuit of a command: what it says of a submit, and what a test's ending does to it.
 use Rattle.std.specs.Prelude.{ℕ, ◌-◌, ◌≤◌, Bool, false, ◌&&◌, not, ◌==◌, nat_le, Option, Some, None, if◌then◌else◌}
-use Rattle.bh_base.specs.declared.props.GroupProps.{GroupProps}
+use Rattle.bh_base.specs.declared.props.CommandProps.{CommandProps}
 use Rattle.bh_base.specs.declared.circuit.CircuitState.{CircuitState}
 use Rattle.bh_base.specs.declared.circuit.CircuitState.TheVariants as state
 use Rattle.bh_base.specs.declared.circuit.Snapshot.{Snapshot}
@@ -11,7 +11,7 @@ use Rattle.bh_base.specs.declared.circuit.End.{End}
 use Rattle.bh_base.specs.declared.circuit.End.TheVariants as end
 use Rattle.bh_base.specs.History.{percent}
 
--- a group's circuit breaker: its state, and the health snapshot that it last took, if any since it closed
+-- a command's circuit breaker: its state, and the health snapshot that it last took, if any since it closed
 pub record Circuit : Type 0 where
   pub state : CircuitState
   pub snapshot : Option Snapshot
@@ -30,24 +30,24 @@ abbrev pub unchanged : Admit → Circuit → Asked
 unchanged says c = record { says = says; circuit = c }
 
 -- the snapshot that is kept, or one that is taken now
-abbrev pub snapshot_at : GroupProps → ℕ → Health → Option Snapshot → Snapshot
+abbrev pub snapshot_at : CommandProps → ℕ → Health → Option Snapshot → Snapshot
 snapshot_at props now health None = record { taken = now; health = health }
 snapshot_at props now health (Some s) =
     if nat_le props.health_ms (now - s.taken) then record { taken = now; health = health } else s
 
 -- whether the request volume and the error percentage both reach their thresholds, which opens the circuit
-abbrev pub is_unhealthy : GroupProps → Health → Bool
+abbrev pub is_unhealthy : CommandProps → Health → Bool
 is_unhealthy props h = nat_le props.volume h.total && nat_le props.percent (percent h)
 
 -- a closed circuit opens on an unhealthy snapshot and short-circuits the submit itself, else it lets it pass
-abbrev pub asked_closed : GroupProps → ℕ → Snapshot → Asked
+abbrev pub asked_closed : CommandProps → ℕ → Snapshot → Asked
 asked_closed props now s =
     if is_unhealthy props s.health
     then record { says = admit.Short; circuit = record { state = state.Open now; snapshot = Some s } }
     else record { says = admit.Pass; circuit = record { state = state.Closed; snapshot = Some s } }
 
 -- a closed circuit goes by health; an open one lets a single test call pass once the sleep window is over
-abbrev pub asked_at : CircuitState → GroupProps → ℕ → Health → ℕ → Circuit → Asked
+abbrev pub asked_at : CircuitState → CommandProps → ℕ → Health → ℕ → Circuit → Asked
 asked_at state.Closed props now health serial c = asked_closed props now (snapshot_at props now health c.snapshot)
 asked_at (state.Open opened) props now health serial c =
     if nat_le props.sleep_ms (now - opened)
@@ -56,7 +56,7 @@ asked_at (state.Open opened) props now health serial c =
 asked_at (state.HalfOpen opened test) props now health serial c = unchanged admit.Short c
 
 -- asked for the ticket of the serial, the first case that holds
-abbrev pub asked : GroupProps → ℕ → Health → ℕ → Circuit → Asked
+abbrev pub asked : CommandProps → ℕ → Health → ℕ → Circuit → Asked
 asked props now health serial c =
     if not props.circuit_on then unchanged admit.Pass c else
     if props.force_open then unchanged admit.Short c else

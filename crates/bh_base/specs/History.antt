@@ -5,7 +5,7 @@ use Rattle.bh_base.specs.declared.event.EventKind.{EventKind}
 use Rattle.bh_base.specs.declared.event.EventKind.TheVariants as kind
 use Rattle.bh_base.specs.declared.event.Event.{Event}
 use Rattle.bh_base.specs.declared.event.Counts.{Counts}
-use Rattle.bh_base.specs.declared.props.GroupProps.{GroupProps}
+use Rattle.bh_base.specs.declared.props.CommandProps.{CommandProps}
 use Rattle.bh_base.specs.declared.event.Health.{Health}
 use Rattle.bh_base.specs.declared.event.Rolling.{Rolling}
 use Rattle.bh_base.specs.declared.event.Window.{Window}
@@ -73,8 +73,8 @@ count_in c kind.Success = c.success
 count_in c kind.ThreadPoolRejected = c.thread_pool_rejected
 count_in c kind.Timeout = c.timeout
 
--- the buckets of a group's window
-abbrev pub window_of : GroupProps → Window
+-- the buckets of a command's window
+abbrev pub window_of : CommandProps → Window
 window_of props = record { buckets = props.buckets; width = props.window_ms / props.buckets }
 
 -- the number of the bucket that a moment lies in

@@ -26,9 +26,10 @@ use Rattle.bh_base.specs.declared.circuit.End.TheVariants as end
 use Rattle.bh_base.specs.declared.event.EventKind.{EventKind}
 use Rattle.bh_base.specs.declared.event.EventKind.TheVariants as kind
 use Rattle.bh_base.specs.declared.event.Rolling.{Rolling}
+use Rattle.bh_base.specs.Commands.{props_of}
 use Rattle.bh_base.specs.History.{percent}
 use Rattle.bh_base.specs.Circuit.{Circuit, Asked, asked, ended, closes, is_test}
-use Rattle.bh_base.specs.Tickets.{is_queued, is_running, is_in_fallback, is_busy_at, is_held_at, is_in_fallback_at, is_cached_as, is_cached_in, changed_first, in_state}
+use Rattle.bh_base.specs.Tickets.{is_of, is_queued, is_running, is_in_fallback, is_busy_at, is_held_at, is_in_fallback_at, is_cached_as, is_cached_in, changed_first, in_state}
 
 -- all that a group has beside its history
 pub record Present : Type 0 where
@@ -53,17 +54,34 @@ pub record Outcome : Type 0 where
 abbrev pub answers : Reply → List EventKind → Present → Outcome
 answers r events g = record { reply = r; present = g; events = events; closed = false }
 
--- how many workers or permits are in use, also by runs that timed out and have not ended yet
-abbrev pub busy_count : Present → ℕ
-busy_count g = count_by (λ t. t.busy) g.tickets
+-- how many permits or workers the command's runs have, also those that timed out and have not ended yet
+abbrev pub busy_count : ℕ → Present → ℕ
+busy_count command g = count_by (λ t. is_of command t && t.busy) g.tickets
 
--- how many tickets wait for a worker of the thread pool
-abbrev pub queued_count : Present → ℕ
-queued_count g = count_by is_queued g.tickets
+-- how many tickets of the command wait for a worker of the thread pool
+abbrev pub queued_count : ℕ → Present → ℕ
+queued_count command g = count_by (λ t. is_of command t && is_queued t) g.tickets
 
--- how many fallbacks are under way, which have permits of their own, apart from those of runs
-abbrev pub in_fallback_count : Present → ℕ
-in_fallback_count g = count_by is_in_fallback g.tickets
+-- how many fallbacks of the command are under way, which have permits of their own, apart from those of runs
+abbrev pub in_fallback_count : ℕ → Present → ℕ
+in_fallback_count command g = count_by (λ t. is_of command t && is_in_fallback t) g.tickets
+
+-- whether the isolation strategy is the group's thread pool
+abbrev pub is_pooled : Strategy → Bool
+is_pooled strategy.Thread = true
+is_pooled strategy.Semaphore = false
+
+-- whether the ticket is of a command that runs in the group's thread pool
+abbrev pub runs_in_pool : GroupProps → Ticket → Bool
+runs_in_pool props t = is_pooled (props_of t.command props).strategy
+
+-- how many workers of the group's thread pool are at a run, of whichever command
+abbrev pub pool_busy_count : Present → ℕ
+pool_busy_count g = count_by (λ t. t.busy && runs_in_pool g.props t) g.tickets
+
+-- how many tickets wait for a worker of the group's thread pool, of whichever command
+abbrev pub pool_queued_count : Present → ℕ
+pool_queued_count g = count_by is_queued g.tickets
 
 -- how many slots are free for new tickets, where each ticket that is still needed takes one
 abbrev pub free_count : Present → ℕ
@@ -73,20 +91,29 @@ free_count g = g.props.slots - length g.tickets
 abbrev pub changed : (Ticket → Bool) → (Ticket → Ticket) → Present → Present
 changed p f g = record g { tickets = changed_first p f g.tickets }
 
--- the group after its circuit breaker was told, at the step's moment, how the ticket of the serial ended
-abbrev pub ended_in : Present → ℕ → End → Present
-ended_in g serial e = record g { circuit = ended serial e g.latest g.circuit }
+-- the circuit breaker of the command
+abbrev pub circuit_of : ℕ → Present → Circuit
+circuit_of command g = g.circuit
+
+-- the group with another circuit breaker of the command
+abbrev pub with_circuit : ℕ → Circuit → Present → Present
+with_circuit command c g = record g { circuit = c }
+
+-- the group after the command's circuit breaker was told, at the step's moment, how its ticket of the serial ended
+abbrev pub ended_in : Present → ℕ → ℕ → End → Present
+ended_in g command serial e = with_circuit command (ended serial e g.latest (circuit_of command g)) g
 
 -- Submit
 
--- the tickets that a request of the name may join
-abbrev pub is_joined_by : Option (ℕ × List ℕ) → Ticket → Bool
-is_joined_by None t = false
-is_joined_by (Some name) t = is_cached_as name t
+-- the tickets that a request of the command and of the name may join
+abbrev pub is_joined_by : ℕ → Option (ℕ × List ℕ) → Ticket → Bool
+is_joined_by command None t = false
+is_joined_by command (Some name) t = is_cached_as command name t
 
--- the cached ticket of the name
-abbrev pub cached_as : Option (ℕ × List ℕ) → Present → Option Ticket
-cached_as name g = if g.props.cache_on then find (is_joined_by name) g.tickets else None
+-- the cached ticket of the command and of the name
+abbrev pub cached_as : ℕ → Option (ℕ × List ℕ) → Present → Option Ticket
+cached_as command name g =
+    if (props_of command g.props).cache_on then find (is_joined_by command name) g.tickets else None
 
 -- how many may wait for a worker
 abbrev pub queue_limit : Option ℕ → ℕ → ℕ
@@ -97,10 +124,12 @@ queue_limit (Some most) threshold = min most threshold
 abbrev pub pool_admits : ℕ → ℕ → ℕ → Option ℕ → ℕ → Bool
 pool_admits busy queued core max_queue threshold = nat_lt (busy + queued) (core + queue_limit max_queue threshold)
 
--- whether the isolation strategy allows one more run: a permit is free, or the thread pool has room
-abbrev pub is_admitted : Present → Strategy → Bool
-is_admitted g strategy.Semaphore = nat_lt (busy_count g) g.props.semaphore
-is_admitted g strategy.Thread = pool_admits (busy_count g) (queued_count g) g.props.core g.props.max_queue g.props.queue_threshold
+-- whether the isolation strategy allows the command one more run: one of its permits is free, or the thread pool of
+-- the group has room
+abbrev pub is_admitted : Present → ℕ → Strategy → Bool
+is_admitted g command strategy.Semaphore = nat_lt (busy_count command g) (props_of command g.props).semaphore
+is_admitted g command strategy.Thread =
+    pool_admits (pool_busy_count g) (pool_queued_count g) g.props.core g.props.max_queue g.props.queue_threshold
 
 -- with a ticket of the next serial
 abbrev pub with_ticket : Request → TicketState → Bool → Bool → Present → Present
@@ -108,13 +137,14 @@ with_ticket request state busy test g = record g {
   serial = g.serial + 1;
   tickets = g.tickets ++ record {
     serial = g.serial;
+    command = request.command;
     arg = request.arg;
     cache = request.cache;
     submitted = g.latest;
     state = state;
     busy = busy;
     holders = 1;
-    cached = g.props.cache_on && is_some request.cache;
+    cached = (props_of request.command g.props).cache_on && is_some request.cache;
     test = test;
   } ∷ [];
 }
@@ -127,9 +157,9 @@ due_fallback cause event request test g =
 -- a test that is rejected has failed
 abbrev pub rejected : Strategy → Request → Bool → Present → Outcome
 rejected strategy.Semaphore request test g =
-    due_fallback cause.SemaphoreRejected kind.SemaphoreRejected request test (ended_in g g.serial end.Error)
+    due_fallback cause.SemaphoreRejected kind.SemaphoreRejected request test (ended_in g request.command g.serial end.Error)
 rejected strategy.Thread request test g =
-    due_fallback cause.PoolRejected kind.ThreadPoolRejected request test (ended_in g g.serial end.Error)
+    due_fallback cause.PoolRejected kind.ThreadPoolRejected request test (ended_in g request.command g.serial end.Error)
 
 -- the new ticket waits for a worker or, under a permit, is run by the caller at once
 abbrev pub admitted : Strategy → Request → Bool → Present → Outcome
@@ -139,7 +169,8 @@ admitted strategy.Thread request test g = answers (reply.Queued g.serial) [] (wi
 -- a submit that the circuit breaker lets pass is run, or rejected where the isolation strategy has no room
 abbrev pub placed : Request → Bool → Present → Outcome
 placed request test g =
-    if is_admitted g g.props.strategy then admitted g.props.strategy request test g else rejected g.props.strategy request test g
+    let strategy = (props_of request.command g.props).strategy in
+    if is_admitted g request.command strategy then admitted strategy request test g else rejected strategy request test g
 
 -- a submit is short-circuited to its fallback, or goes on, perhaps as the test call
 abbrev pub circuit_said : Admit → Request → Present → Outcome
@@ -149,16 +180,16 @@ circuit_said admit.Pass request g = placed request false g
 
 -- a submit goes on as the circuit breaker says, whose state and snapshot may have changed by being asked
 abbrev pub circuit_asked : Asked → Request → Present → Outcome
-circuit_asked a request g = circuit_said a.says request (record g { circuit = a.circuit })
+circuit_asked a request g = circuit_said a.says request (with_circuit request.command a.circuit g)
 
 -- a submit may join a cached ticket without asking for a slot or the circuit breaker; else it asks for both
 abbrev pub submitted : Option Ticket → Request → Rolling → Present → Outcome
 submitted (Some t) request rolling g =
-    answers (reply.Joined t.serial) (kind.ResponseFromCache ∷ []) (changed (is_joined_by request.cache) (λ u. record u { holders = u.holders + 1 }) g)
+    answers (reply.Joined t.serial) (kind.ResponseFromCache ∷ []) (changed (is_joined_by request.command request.cache) (λ u. record u { holders = u.holders + 1 }) g)
 submitted None request rolling g =
     if free_count g == 0
     then answers reply.GroupFull [] g
-    else circuit_asked (asked g.props g.latest rolling.health g.serial g.circuit) request g
+    else circuit_asked (asked (props_of request.command g.props) g.latest rolling.health g.serial (circuit_of request.command g)) request g
 
 -- Start
 
@@ -166,7 +197,7 @@ submitted None request rolling g =
 abbrev pub started : Option Ticket → Present → Outcome
 started None g = answers reply.Idle [] g
 started (Some t) g =
-    answers (reply.Assigned t.serial t.arg) [] (changed is_queued (λ t. record t { state = ticket.Running; busy = true }) g)
+    answers (reply.Assigned t.serial t.command t.arg) [] (changed is_queued (λ t. record t { state = ticket.Running; busy = true }) g)
 
 -- Finish and Fail
 
@@ -177,17 +208,19 @@ run_ended (Some t) serial state e event g =
     if is_running t
     then record {
       reply = reply.Done;
-      present = ended_in (changed (is_busy_at serial) (λ t. record t { state = state; busy = false }) g) serial e;
+      present = ended_in (changed (is_busy_at serial) (λ t. record t { state = state; busy = false }) g) t.command serial e;
       events = event ∷ [];
-      closed = closes serial e g.circuit.state;
+      closed = closes serial e (circuit_of t.command g).state;
     }
     else answers reply.Late [] (changed (is_busy_at serial) (λ t. record t { busy = false }) g)
 
 -- Expire
 
--- whether timeouts are on and the timeout has passed since the submit of a ticket that is queued or running
+-- whether timeouts of its command are on and the timeout has passed since the submit of a ticket that is queued or running
 abbrev pub is_due : Present → Ticket → Bool
-is_due g t = g.props.timeout_on && (is_queued t || is_running t) && nat_le g.props.timeout_ms (g.latest - t.submitted)
+is_due g t =
+    let props = props_of t.command g.props in
+    props.timeout_on && (is_queued t || is_running t) && nat_le props.timeout_ms (g.latest - t.submitted)
 
 -- the circuit after tickets timed out: where the test call is among them, it is told of an error
 abbrev pub test_timed_out : Option Ticket → Present → Circuit
@@ -213,19 +246,20 @@ without_fallback serial cause fault events g =
     let a : Answer = answer.Error cause fault in
     answers (reply.Answered a) events (changed (is_held_at serial) (λ t. released_by_one (in_state (ticket.Answered a) t)) g)
 
--- what a holder that collects gets: the answer, the fallback to run, an error in its place, or no answer yet
-abbrev pub collected_in : TicketState → ℕ → Present → Outcome
-collected_in (ticket.Answered a) serial g = answers (reply.Answered a) [] (changed (is_held_at serial) released_by_one g)
-collected_in (ticket.NeedsFallback cause) serial g =
-    if not g.props.fallback_on then without_fallback serial cause fault.Disabled (kind.ExceptionThrown ∷ []) g else
-    if nat_le g.props.fallback_permits (in_fallback_count g) then without_fallback serial cause fault.Rejected (kind.FallbackRejection ∷ kind.ExceptionThrown ∷ []) g else
+-- what a holder that collects gets of a ticket of the command: the answer, the fallback to run, an error in its place,
+-- or no answer yet
+abbrev pub collected_in : TicketState → ℕ → ℕ → Present → Outcome
+collected_in (ticket.Answered a) command serial g = answers (reply.Answered a) [] (changed (is_held_at serial) released_by_one g)
+collected_in (ticket.NeedsFallback cause) command serial g =
+    if not (props_of command g.props).fallback_on then without_fallback serial cause fault.Disabled (kind.ExceptionThrown ∷ []) g else
+    if nat_le (props_of command g.props).fallback_permits (in_fallback_count command g) then without_fallback serial cause fault.Rejected (kind.FallbackRejection ∷ kind.ExceptionThrown ∷ []) g else
     answers (reply.RunFallback cause) [] (changed (is_held_at serial) (in_state (ticket.InFallback cause)) g)
-collected_in _ serial g = answers reply.Pending [] g
+collected_in _ command serial g = answers reply.Pending [] g
 
 -- a collect goes by the state of the ticket that is held under the serial, if there is one
 abbrev pub collected : Option Ticket → ℕ → Present → Outcome
 collected None serial g = answers reply.NoTicket [] g
-collected (Some t) serial g = collected_in t.state serial g
+collected (Some t) serial g = collected_in t.state t.command serial g
 
 -- FallbackDone
 
@@ -262,16 +296,16 @@ context_closed context g = answers (reply.Closed (count_by (is_cached_in context
 
 -- Read
 
--- the metrics of a group; health is that of the step's moment, not that of the circuit breaker's snapshot
-abbrev pub metrics : Rolling → Present → Reply
-metrics rolling g = reply.Metrics (record {
-  circuit = g.circuit.state;
+-- the metrics of a command, and the free slots of its group; health is that of the step's moment, not that of the circuit breaker's snapshot
+abbrev pub metrics : ℕ → Rolling → Present → Reply
+metrics command rolling g = reply.Metrics (record {
+  circuit = (circuit_of command g).state;
   counts = rolling.counts;
   errors = rolling.health.errors;
   total = rolling.health.total;
   percent = percent rolling.health;
-  busy = busy_count g;
-  queued = queued_count g;
+  busy = busy_count command g;
+  queued = queued_count command g;
   free = free_count g;
 })
 
@@ -279,8 +313,8 @@ metrics rolling g = reply.Metrics (record {
 
 -- what an operation does in a group whose step has begun, given the rolling counts and health
 abbrev pub outcome : Op → Rolling → Present → Outcome
-outcome (op.Submit request) rolling g = submitted (cached_as request.cache g) request rolling g
-outcome op.Start rolling g = started (if nat_lt (busy_count g) g.props.core then find is_queued g.tickets else None) g
+outcome (op.Submit request) rolling g = submitted (cached_as request.command request.cache g) request rolling g
+outcome op.Start rolling g = started (if nat_lt (pool_busy_count g) g.props.core then find is_queued g.tickets else None) g
 outcome (op.Finish serial body) rolling g =
     run_ended (find (is_busy_at serial) g.tickets) serial (ticket.Answered (answer.Value body)) end.Success kind.Success g
 outcome (op.Fail serial true) rolling g =
@@ -291,4 +325,4 @@ outcome op.Expire rolling g = expired (filter (is_due g) g.tickets) g
 outcome (op.Collect serial) rolling g = collected (find (is_held_at serial) g.tickets) serial g
 outcome (op.FallbackDone serial e) rolling g = fallback_done (find (is_in_fallback_at serial) g.tickets) serial e g
 outcome (op.Close context) rolling g = context_closed context g
-outcome op.Read rolling g = answers (metrics rolling g) [] g
+outcome (op.Read command) rolling g = answers (metrics command rolling g) [] g

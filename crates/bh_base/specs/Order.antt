@@ -1,8 +1,10 @@
--- The tickets of a group stand by rising serial.
-use Rattle.std.specs.Prelude.{ℕ, ◌+◌, ◌≤◌, List, [], ◌∷◌}
+-- The tickets of a group stand by rising serial, and each is of one of its commands.
+use Rattle.std.specs.Prelude.{ℕ, ◌+◌, ◌<◌, ◌≤◌, List, [], ◌∷◌}
+use Rattle.std.specs.List.{AllByRecursion}
 use Rattle.bh_base.specs.declared.ticket.Ticket.{Ticket}
 use Rattle.bh_base.specs.declared.step.Op.{Op}
 use Rattle.bh_base.specs.declared.props.GroupProps.{GroupProps}
+use Rattle.bh_base.specs.Commands.{command_count}
 use Rattle.bh_base.specs.Runs.{State, opened, step}
 
 -- the serials rise, from `from` on, and stay below `next`
@@ -18,3 +20,12 @@ IsRising s = Rise 1 s.present.tickets s.present.serial
 pub record SerialsRise : Type 0 where
   pub opened : (props : GroupProps) (limit : ℕ) → IsRising (opened props limit)
   pub stepped : (s : State) (op : Op) (now : ℕ) → IsRising s → IsRising (step s op now).state
+
+-- each ticket is of a command that the group has
+abbrev pub AreKnown : GroupProps → List Ticket → Type 0
+AreKnown props tickets = AllByRecursion (λ t. t.command < command_count props) tickets
+
+-- of a new group, and after each step of a group where they are
+pub record CommandsStayKnown : Type 0 where
+  pub opened : (props : GroupProps) (limit : ℕ) → AreKnown props (opened props limit).present.tickets
+  pub stepped : (s : State) (op : Op) (now : ℕ) → AreKnown s.present.props s.present.tickets → AreKnown (step s op now).state.present.props (step s op now).state.present.tickets

@@ -1,6 +1,7 @@
--- The ranges of a group's properties.
+-- The ranges of the properties of a group and of its command.
 use Rattle.std.specs.Prelude.{◌≡◌, ℕ, ◌*◌, ◌/◌, ◌<◌, ◌≤◌, ◌^◌, Option, Some, None}
 use Rattle.std.specs.Coded.{×_prop, Unit-prop, le_prop}
+use Rattle.bh_base.specs.declared.props.CommandProps.{CommandProps}
 use Rattle.bh_base.specs.declared.props.GroupProps.{GroupProps}
 
 -- no queue, or one of 1 to 4,294,967,295
@@ -13,10 +14,8 @@ pub IsQueueLength-prop : (queue : Option ℕ) → IsProp (IsQueueLength queue)
 IsQueueLength-prop None = Unit-prop
 IsQueueLength-prop (Some most) = ×_prop le_prop le_prop
 
--- each number is in its range, and the window is so many whole buckets
-pub record IsInRange (props : GroupProps) : Type 0 where
-  pub some_slots : 1 ≤ props.slots
-  pub few_slots : props.slots ≤ 4096
+-- each number of a command is in its range, and the window is so many whole buckets
+pub record IsCommandInRange (props : CommandProps) : Type 0 where
   pub timeout : props.timeout_ms < 2 ^ 32
   pub semaphore : props.semaphore < 2 ^ 32
   pub fallback_permits : props.fallback_permits < 2 ^ 32
@@ -29,7 +28,13 @@ pub record IsInRange (props : GroupProps) : Type 0 where
   pub few_buckets : props.buckets ≤ 60
   pub whole_buckets : props.buckets * (props.window_ms / props.buckets) ≡ props.window_ms
   pub health : props.health_ms < 2 ^ 32
+
+-- each number of the group and of its command is in its range
+pub record IsInRange (props : GroupProps) : Type 0 where
+  pub some_slots : 1 ≤ props.slots
+  pub few_slots : props.slots ≤ 4096
   pub some_core : 1 ≤ props.core
   pub small_core : props.core ≤ 64
   pub queue : IsQueueLength props.max_queue
   pub queue_threshold : props.queue_threshold < 2 ^ 32
+  pub command : IsCommandInRange props.command

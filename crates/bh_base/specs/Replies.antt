@@ -9,6 +9,7 @@ use Rattle.bh_base.specs.declared.reply.Reply.TheVariants as reply
 abbrev pub is_refusal : Reply → Bool
 is_refusal reply.Worn = true
 is_refusal reply.NoGroup = true
+is_refusal reply.NoCommand = true
 is_refusal _ = false
 
 -- the replies to Submit: the request has a ticket, a new one or one that it joined, or the group is full
@@ -22,7 +23,7 @@ answers_submit _ = false
 
 -- the replies to Start: a run for the worker, or none
 abbrev pub answers_start : Reply → Bool
-answers_start (reply.Assigned serial arg) = true
+answers_start (reply.Assigned serial command arg) = true
 answers_start reply.Idle = true
 answers_start _ = false
 
@@ -57,7 +58,7 @@ abbrev pub answers_close : Reply → Bool
 answers_close (reply.Closed number) = true
 answers_close _ = false
 
--- the replies to Read: the metrics of the group
+-- the replies to Read: the metrics of the command
 abbrev pub answers_read : Reply → Bool
 answers_read (reply.Metrics metrics) = true
 answers_read _ = false
@@ -72,7 +73,7 @@ is_answer_to op.Expire r = answers_expire r
 is_answer_to (op.Collect serial) r = answers_collect r
 is_answer_to (op.FallbackDone serial end) r = answers_fallback_done r
 is_answer_to (op.Close context) r = answers_close r
-is_answer_to op.Read r = answers_read r
+is_answer_to (op.Read command) r = answers_read r
 
 -- the reply is a refusal or one of the operation's own
 abbrev pub can_reply : Op → Reply → Bool

@@ -12,6 +12,7 @@ use Rattle.bh_base.specs.declared.event.Counts.{Counts}
 use Rattle.bh_base.specs.History.{window_of, rolling, table, health_events}
 use Rattle.bh_base.specs.Circuit.{new_circuit}
 use Rattle.bh_base.specs.Tickets.{is_kept}
+use Rattle.bh_base.specs.Commands.{is_known}
 use Rattle.bh_base.specs.Machine.{Present, Outcome, outcome}
 
 -- a group: what it has now, and the list of all its events
@@ -50,7 +51,7 @@ events_at moment kinds = map (λ k. record { moment = moment; kind = k }) kinds
 abbrev pub outcome_in : State → Op → ℕ → Outcome
 outcome_in s op now =
     let g = begun now s.present in
-    outcome op (rolling (window_of g.props) s.history s.health_from g.latest) g
+    outcome op (rolling (window_of g.props.command) s.history s.health_from g.latest) g
 
 -- the state after a step, with its events; where the circuit closed, health looks at no event up to then
 abbrev pub left_by : State → Outcome → State
@@ -67,10 +68,12 @@ pub record Stepped : Type 0 where
   pub reply : Reply
   pub state : State
 
--- a group that has done its limit of steps is worn, and changes no more
-abbrev pub stepped : Bool → State → Outcome → Stepped
-stepped true s out = record { reply = reply.Worn; state = s }
-stepped false s out = record { reply = out.reply; state = left_by s out }
+-- a step that names a command that the group lacks changes nothing; and a group that has done its limit of steps is worn,
+-- and changes no more
+abbrev pub stepped : Bool → Bool → State → Outcome → Stepped
+stepped false worn s out = record { reply = reply.NoCommand; state = s }
+stepped true true s out = record { reply = reply.Worn; state = s }
+stepped true false s out = record { reply = out.reply; state = left_by s out }
 
 -- whether the group has done all the steps that it may
 abbrev pub is_worn : Present → Bool
@@ -78,7 +81,7 @@ is_worn g = g.steps == g.limit
 
 -- one step of a group that is alone: what the operation at the moment replies and leaves
 abbrev pub step : State → Op → ℕ → Stepped
-step s op now = stepped (is_worn s.present) s (outcome_in s op now)
+step s op now = stepped (is_known op s.present.props) (is_worn s.present) s (outcome_in s op now)
 
 -- what can be seen of a state: its events are counted by buckets
 pub record View : Type 0 where
@@ -90,8 +93,8 @@ pub record View : Type 0 where
 abbrev pub view : State → View
 view s = record {
   present = s.present;
-  table = table (window_of s.present.props) s.history s.present.latest;
-  health = table (window_of s.present.props) (health_events s.health_from s.history) s.present.latest;
+  table = table (window_of s.present.props.command) s.history s.present.latest;
+  health = table (window_of s.present.props.command) (health_events s.health_from s.history) s.present.latest;
 }
 
 -- whole runs

@@ -39,11 +39,15 @@ is_held_at serial t = t.serial == serial && nat_lt 0 t.holders
 abbrev pub is_in_fallback_at : ℕ → Ticket → Bool
 is_in_fallback_at serial t = t.serial == serial && is_in_fallback t
 
--- cached under the context and key
-abbrev pub is_cached_as : ℕ × List ℕ → Ticket → Bool
-is_cached_as name t = t.cached && elim t.cache [ None ↦ false | Some given ↦ (given.0 == name.0) && pointwise nat_eq given.1 name.1 ]
+-- whether the ticket is of the command
+abbrev pub is_of : ℕ → Ticket → Bool
+is_of command t = t.command == command
 
--- what Close means: each ticket that is cached in the request context, whatever its key
+-- a ticket of the command that is cached under the context and key
+abbrev pub is_cached_as : ℕ → ℕ × List ℕ → Ticket → Bool
+is_cached_as command name t = is_of command t && t.cached && elim t.cache [ None ↦ false | Some given ↦ (given.0 == name.0) && pointwise nat_eq given.1 name.1 ]
+
+-- what Close means: each ticket that is cached in the request context, whatever its command and its key
 abbrev pub is_cached_in : ℕ → Ticket → Bool
 is_cached_in context t = t.cached && elim t.cache [ None ↦ false | Some given ↦ given.0 == context ]
 

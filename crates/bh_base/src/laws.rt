@@ -1,6 +1,6 @@
 //! Laws of the one-group machine. Each function carries one as its contract, and does nothing when it runs.
 
-ghost use Rattle.bh_base.specs.Order.{SerialsRise};
+ghost use Rattle.bh_base.specs.Order.{CommandsStayKnown, SerialsRise};
 ghost use Rattle.bh_base.specs.Runs.{StaysSound, ViewLaw};
 
 /// Two sound states with equal views give equal replies to every step, and equal views after it.
@@ -17,4 +17,9 @@ pub fn states_stay_sound()
 /// A new group's tickets stand by rising serial, and each step keeps them so.
 pub fn serials_rise()
     ensures { SerialsRise }
+{}
+
+/// Each ticket of a new group is of a command that the group has, and each step keeps it so.
+pub fn commands_stay_known()
+    ensures { CommandsStayKnown }
 {}

@@ -1,19 +1,17 @@
-//! The properties of a group (Hystrix wiki, "Configuration").
+//! The properties of a group and of its command (Hystrix wiki, "Configuration").
 
 /// Who runs the dependency (`execution.isolation.strategy`).
 #[derive(Clone, Copy, Debug, PartialEq, Eq)]
 pub enum Strategy {
     /// A worker of the group's thread pool.
     Thread,
-    /// The caller, under one of the group's permits.
+    /// The caller, under one of the command's permits.
     Semaphore,
 }
 
-/// The properties of a group. The range of a number without one of its own is 0 to 4,294,967,295.
+/// The properties of a command. The range of a number without one of its own is 0 to 4,294,967,295.
 #[derive(Clone, Copy, Debug, PartialEq, Eq)]
-pub struct GroupProps {
-    /// Tickets at a time, 1 to 4,096 (this service's own).
-    pub slots: u64,
+pub struct CommandProps {
     /// `execution.isolation.strategy`.
     pub strategy: Strategy,
     /// `execution.isolation.thread.timeoutInMilliseconds`: from its submit until a ticket is due.
@@ -46,6 +44,16 @@ pub struct GroupProps {
     pub health_ms: u64,
     /// `requestCache.enabled`.
     pub cache_on: bool,
+}
+
+/// The properties of a group: its slots and its thread pool, and those of its command. The range of a number without one
+/// of its own is 0 to 4,294,967,295.
+#[derive(Clone, Copy, Debug, PartialEq, Eq)]
+pub struct GroupProps {
+    /// Tickets at a time, 1 to 4,096 (this service's own).
+    pub slots: u64,
+    /// Those of the group's own command.
+    pub command: CommandProps,
     /// `coreSize`: workers, 1 to 64.
     pub core: u64,
     /// `maxQueueSize`: above 0, or None, which stands for -1, no queue.

@@ -52,7 +52,7 @@ pub enum Answer {
     BadRequest,
 }
 
-/// What a group shows of itself at a moment (Hystrix wiki, "Metrics and Monitoring").
+/// What a command shows of itself at a moment, with the free slots of its group (Hystrix wiki, "Metrics and Monitoring").
 #[derive(Clone, Copy, Debug, PartialEq, Eq)]
 pub struct Metrics {
     /// The circuit as the last step left it.
@@ -69,7 +69,7 @@ pub struct Metrics {
     pub busy: u64,
     /// Tickets that wait for a worker.
     pub queued: u64,
-    /// Slots for further tickets.
+    /// The group's slots for further tickets.
     pub free: u64,
 }
 
@@ -81,13 +81,20 @@ pub enum Reply {
     /// The ticket has a permit: the caller runs it.
     Inline(Serial),
     /// The ticket does not run: it needs a fallback.
-    FallbackDue { serial: Serial, cause: Cause },
+    FallbackDue {
+        serial: Serial,
+        cause: Cause,
+    },
     /// The request shares the run of a cached ticket.
     Joined(Serial),
     /// The group has no free slot; no ticket was made.
     GroupFull,
-    /// The worker is to run the dependency with the argument.
-    Assigned { serial: Serial, arg: Text<64> },
+    /// The worker is to run the dependency of the command with the argument.
+    Assigned {
+        serial: Serial,
+        command: u8,
+        arg: Text<64>,
+    },
     /// No ticket waits, or no worker is free.
     Idle,
     /// The end was taken.
@@ -110,10 +117,12 @@ pub enum Reply {
     NotInFallback,
     /// So many tickets are cached no longer.
     Closed(u64),
-    /// The metrics of the group at the step's moment.
+    /// The metrics of the command at the step's moment.
     Metrics(Metrics),
     /// The group has done all the steps that it may; nothing changed.
     Worn,
+    /// The group has no such command; nothing changed.
+    NoCommand,
     /// No such group is registered; nothing changed.
     NoGroup,
 }
@@ -133,4 +142,6 @@ pub enum CallError {
     Taken,
     /// The service lacks the pass's group.
     NoGroup,
+    /// The group lacks the request's command.
+    NoCommand,
 }

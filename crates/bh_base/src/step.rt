@@ -37,9 +37,11 @@ pub enum FallbackEnd {
     Missing,
 }
 
-/// A request for one run of a group's dependency.
+/// A request for one run of the dependency of a command.
 #[derive(Clone, Copy, Debug, PartialEq, Eq)]
 pub struct Request {
+    /// The number of the command in its group; 0 is the group's own.
+    pub command: u8,
     /// The request context and the cache key, where the answer may be shared within that context
     /// (Hystrix wiki, "How To Use", request cache).
     pub cache: Option<(u64, Text<32>)>,
@@ -66,8 +68,8 @@ pub enum Op {
     FallbackDone { serial: Serial, end: FallbackEnd },
     /// Ends a request context: nothing of it stays cached.
     Close { context: u64 },
-    /// Asks for the metrics of the group.
-    Read,
+    /// Asks for the metrics of the command.
+    Read { command: u8 },
 }
 
 /// One step of one group at one moment.

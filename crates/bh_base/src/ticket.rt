@@ -24,6 +24,8 @@ pub enum TicketState {
 pub struct Ticket {
     /// Its number within the group.
     pub serial: Serial,
+    /// The number of its command in the group.
+    pub command: u8,
     /// The argument that the dependency is run with.
     pub arg: Text<64>,
     /// The context and the key of the request cache, where the request gave them.

@@ -4,13 +4,10 @@ use Rattle.std.proofs.lemmas.Bool.{le-leb}
 use Rattle.std.proofs.lemmas.Str.{is_utf8-from_IsUtf8, IsUtf8-from_is_utf8}
 use Rattle.std.specs.Str.{is_utf8}
 use Rattle.bh_lines.specs.StepLine.{group_number}
-use Rattle.bh_props.specs.Settings.{settings_of}
-use Rattle.bh_props.specs.declared.error.SettingsError.TheVariants.{Syntax}
 use Rattle.bh_c.specs.declared.outcome.Outcome.TheVariants.{NotText, TooLong}
 use Rattle.bh_c.specs.Given.{or_not_text, text_in}
 use Rattle.bh_c.specs.Lines.{if_text, line_text}
 use Rattle.bh_c.specs.Names.{group_in, or_no_group}
-use Rattle.bh_c.specs.Settings.{settings_in}
 
 -- the test fails of bytes that are not UTF-8
 is_utf8-none : (bytes : List ℕ) → ¬ (IsUtf8 bytes) → is_utf8 bytes ≡ false
@@ -27,16 +24,6 @@ if-none bytes x y none = ap (λ b. if b then x else y) (is_utf8-none bytes none)
 -- the same, of bytes that are
 if-text : {A : Type 0} (bytes : List ℕ) (x y : A) → IsUtf8 bytes → (if is_utf8 bytes then x else y) ≡ x
 if-text bytes x y valid = ap (λ b. if b then x else y) (is_utf8-from_IsUtf8 bytes valid)
-
--- settings that are no text are refused
-pub settings-none : (bytes : List ℕ) → ¬ (IsUtf8 bytes) → settings_in bytes ≡ Err Syntax
-unfolding settings_in
-settings-none bytes none = if-none bytes (settings_of bytes) (Err Syntax) none
-
--- else they are those of the text
-pub settings-text : (bytes text : List ℕ) → (text ≡ bytes) × IsUtf8 bytes → settings_in bytes ≡ settings_of text
-unfolding settings_in
-settings-text bytes text valid = if-text bytes (settings_of bytes) (Err Syntax) valid.1 ∙ ap settings_of (sym valid.0)
 
 -- a name that is no text is that of no group
 pub group-none : (names : List (List ℕ)) (name : List ℕ) → ¬ (IsUtf8 name) → Err NotText ≡ group_in names name

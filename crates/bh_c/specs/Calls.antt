@@ -12,7 +12,7 @@ use Rattle.bh_port.specs.Script.{GroupsShow}
 use Rattle.bh_port.specs.Text.{names_in, reply_to, answer_to, steps_with}
 use Rattle.bh_props.specs.SettingsView.{SettingsView}
 use Rattle.bh_c.specs.declared.outcome.Outcome.{Outcome}
-use Rattle.bh_c.specs.declared.outcome.Outcome.TheVariants.{Done, NoMemory, NoRoom, BadLine, NotTold}
+use Rattle.bh_c.specs.declared.outcome.Outcome.TheVariants.{Done, NoMemory, NoRoom, BadLine}
 use Rattle.bh_c.specs.declared.told.ToldReply.{ToldReply}
 use Rattle.bh_c.specs.Buffers.{IsWritten}
 use Rattle.bh_c.specs.Lines.{line_text}
@@ -38,17 +38,10 @@ pub record IsAnswered (service : SettingsView) (before : List Step) (line : List
   pub answer : IsWritten (answer_to service before (line_step (names_in service) line)) old new needed
   pub agrees : GroupsShow service is (steps_with before (line_step (names_in service) line))
 
--- the groups did the step that the line says, and no answer was written
-pub record IsMade (service : SettingsView) (before : List Step) (line : List ℕ) (is : CoreView) (old new : List ℕ) : Type 0 where
-  pub agrees : GroupsShow service is (steps_with before (line_step (names_in service) line))
-  pub buffer : new ≡ old
-
 -- what a line was answered, in every service that has done any steps
 abbrev pub LineTold : SettingsView → List ℕ → CoreView → CoreView → List ℕ → List ℕ → ℕ → Outcome → Type 0
 LineTold service line was is old new needed Done =
     (line_text line ≡ Some line) × ((before : List Step) → GroupsShow service was before → IsAnswered service before line is old new needed)
-LineTold service line was is old new needed NotTold =
-    (line_text line ≡ Some line) × ((before : List Step) → GroupsShow service was before → IsMade service before line is old new)
 LineTold service line was is old new needed NoMemory = IsUndone was is old new
 LineTold service line was is old new needed NoRoom = (length old < 2048) × (needed ≡ 2048) × IsUndone was is old new
 LineTold service line was is old new needed BadLine = (line_text line ≡ None) × IsUndone was is old new
@@ -62,12 +55,6 @@ DoesStep step was is = (service : SettingsView) (before : List Step) → GroupsS
 abbrev pub WritesReply : Step → CoreView → List ℕ → List ℕ → ℕ → Type 0
 WritesReply step was old new needed =
     (service : SettingsView) (before : List Step) → step.group.0 < length service.groups → GroupsShow service was before → IsWritten (reply_line (reply_to service before step)) old new needed
-
--- a step was made, and its line written if it could be
-abbrev pub StepWritten : Step → CoreView → CoreView → List ℕ → List ℕ → ℕ → Outcome → Type 0
-StepWritten step was is old new needed Done = DoesStep step was is × WritesReply step was old new needed
-StepWritten step was is old new needed NotTold = DoesStep step was is × (new ≡ old)
-StepWritten step was is old new needed _ = ⊥
 
 -- the line of a fault was written if it could be
 abbrev pub FaultWritten : Fault → List ℕ → List ℕ → ℕ → Outcome → Type 0

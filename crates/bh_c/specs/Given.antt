@@ -6,8 +6,8 @@ use Rattle.bh_base.specs.declared.step.Op.{Op}
 use Rattle.bh_base.specs.declared.step.Op.TheVariants as op
 use Rattle.bh_base.specs.declared.step.Step.{Step}
 use Rattle.bh_c.specs.declared.given.GivenStep.{GivenStep}
-use Rattle.bh_c.specs.declared.given.OpWord.{OpWord}
-use Rattle.bh_c.specs.declared.given.OpWord.TheVariants as words
+use Rattle.bh_c.specs.declared.given.OpNumber.{OpNumber}
+use Rattle.bh_c.specs.declared.given.OpNumber.TheVariants as numbers
 use Rattle.bh_c.specs.declared.outcome.Outcome.{Outcome}
 use Rattle.bh_c.specs.declared.outcome.Outcome.TheVariants.{NotText, TooLong, NoSuchOperation}
 
@@ -18,26 +18,26 @@ abbrev pub ◌>>=◌ : {A B : Type 0} → Result A Outcome → (A → Result B O
 (Err e) >>= f = Err e
 
 -- the operation of a number
-abbrev pub op_word : ℕ → Option OpWord
-op_word n =
-    if n == 1 then Some words.Submit else
-    (if n == 2 then Some words.SubmitShared else
-    (if n == 3 then Some words.Start else
-    (if n == 4 then Some words.Finish else
-    (if n == 5 then Some words.Fail else
-    (if n == 6 then Some words.BadRequest else
-    (if n == 7 then Some words.Expire else
-    (if n == 8 then Some words.Collect else
-    (if n == 9 then Some words.FallbackValue else
-    (if n == 10 then Some words.FallbackFailed else
-    (if n == 11 then Some words.FallbackMissing else
-    (if n == 12 then Some words.Close else
-    (if n == 13 then Some words.Read else None))))))))))))
+abbrev pub op_number : ℕ → Option OpNumber
+op_number n =
+    if n == 1 then Some numbers.Submit else
+    (if n == 2 then Some numbers.SubmitShared else
+    (if n == 3 then Some numbers.Start else
+    (if n == 4 then Some numbers.Finish else
+    (if n == 5 then Some numbers.Fail else
+    (if n == 6 then Some numbers.BadRequest else
+    (if n == 7 then Some numbers.Expire else
+    (if n == 8 then Some numbers.Collect else
+    (if n == 9 then Some numbers.FallbackValue else
+    (if n == 10 then Some numbers.FallbackFailed else
+    (if n == 11 then Some numbers.FallbackMissing else
+    (if n == 12 then Some numbers.Close else
+    (if n == 13 then Some numbers.Read else None))))))))))))
 
 -- the operation, or that there is none
-abbrev pub or_no_operation : Option OpWord → Result OpWord Outcome
+abbrev pub or_no_operation : Option OpNumber → Result OpNumber Outcome
 or_no_operation None = Err NoSuchOperation
-or_no_operation (Some word) = Ok word
+or_no_operation (Some number) = Ok number
 
 -- the bytes, where they are UTF-8
 unfoldable pub or_not_text : List ℕ → Result (List ℕ) Outcome
@@ -47,43 +47,43 @@ or_not_text bytes = if is_utf8 bytes then Ok bytes else Err NotText
 abbrev pub text_in : ℕ → ℕ → List ℕ → Result (List ℕ) Outcome
 text_in limit count bytes = if nat_le count limit then or_not_text (take count bytes) else Err TooLong
 
--- the operation that the word names
-abbrev pub op_in : OpWord → GivenStep → Result Op Outcome
-op_in words.Submit s = do
+-- the operation that the number names; its command is the group's own
+abbrev pub op_in : OpNumber → GivenStep → Result Op Outcome
+op_in numbers.Submit s = do
   arg ← text_in 64 s.text_length s.text
-  Ok (op.Submit (record { cache = None; arg = arg }))
-op_in words.SubmitShared s = do
+  Ok (op.Submit (record { command = 0; cache = None; arg = arg }))
+op_in numbers.SubmitShared s = do
   key ← text_in 32 s.key_length s.key
   arg ← text_in 64 s.text_length s.text
-  Ok (op.Submit (record { cache = Some (s.context, key); arg = arg }))
-op_in words.Start s = Ok op.Start
-op_in words.Finish s = do
+  Ok (op.Submit (record { command = 0; cache = Some (s.context, key); arg = arg }))
+op_in numbers.Start s = Ok op.Start
+op_in numbers.Finish s = do
   body ← text_in 256 s.text_length s.text
   Ok (op.Finish s.ticket body)
-op_in words.Fail s = Ok (op.Fail s.ticket false)
-op_in words.BadRequest s = Ok (op.Fail s.ticket true)
-op_in words.Expire s = Ok op.Expire
-op_in words.Collect s = Ok (op.Collect s.ticket)
-op_in words.FallbackValue s = do
+op_in numbers.Fail s = Ok (op.Fail s.ticket false)
+op_in numbers.BadRequest s = Ok (op.Fail s.ticket true)
+op_in numbers.Expire s = Ok op.Expire
+op_in numbers.Collect s = Ok (op.Collect s.ticket)
+op_in numbers.FallbackValue s = do
   body ← text_in 256 s.text_length s.text
   Ok (op.FallbackDone s.ticket (ends.Success body))
-op_in words.FallbackFailed s = Ok (op.FallbackDone s.ticket ends.Failure)
-op_in words.FallbackMissing s = Ok (op.FallbackDone s.ticket ends.Missing)
-op_in words.Close s = Ok (op.Close s.context)
-op_in words.Read s = Ok op.Read
+op_in numbers.FallbackFailed s = Ok (op.FallbackDone s.ticket ends.Failure)
+op_in numbers.FallbackMissing s = Ok (op.FallbackDone s.ticket ends.Missing)
+op_in numbers.Close s = Ok (op.Close s.context)
+op_in numbers.Read s = Ok (op.Read 0)
 
 -- the step of an operation
 abbrev pub step_of : GivenStep → Op → Step
 step_of s o = record { group = record { 0 = s.group }; now = s.moment; op = o }
 
--- the step of the operation that the word names
-abbrev pub made_in : OpWord → GivenStep → Result Step Outcome
-made_in word s = do
-  o ← op_in word s
+-- the step of the operation that the number names
+abbrev pub made_in : OpNumber → GivenStep → Result Step Outcome
+made_in number s = do
+  o ← op_in number s
   Ok (step_of s o)
 
 -- the step that is given: its operation is looked at before its texts, and a key before an argument
 abbrev pub step_in : GivenStep → Result Step Outcome
 step_in s = do
-  word ← or_no_operation (op_word s.operation)
-  made_in word s
+  number ← or_no_operation (op_number s.operation)
+  made_in number s

@@ -3,8 +3,8 @@ pub mod Calls
 pub mod Exports
 pub mod Given
 pub mod Held
+pub mod Kinds
 pub mod Lines
 pub mod Names
 pub mod Outcomes
-pub mod Settings
 pub mod Told

@@ -11,9 +11,12 @@ use Rattle.bh_base.specs.declared.reply.Answer.TheVariants as answer
 use Rattle.bh_base.specs.declared.reply.Metrics.{Metrics}
 use Rattle.bh_base.specs.declared.reply.Reply.{Reply}
 use Rattle.bh_base.specs.declared.reply.Reply.TheVariants as reply
+use Rattle.bh_c.specs.declared.kind.ReplyKind.{ReplyKind}
+use Rattle.bh_c.specs.declared.kind.ReplyKind.TheVariants as kinds
 use Rattle.bh_c.specs.declared.told.ToldReply.{ToldReply}
 use Rattle.bh_c.specs.declared.told.ToldMetrics.{ToldMetrics}
 use Rattle.bh_c.specs.Buffers.{front_replaced}
+use Rattle.bh_c.specs.Kinds.{kind_number}
 
 -- the number of each cause of a fallback
 abbrev pub cause_number : Cause → ℕ
@@ -66,36 +69,41 @@ abbrev pub body_shown : List ℕ → ToldReply → ToldReply
 body_shown text told =
     let count = min (length text) 256 in record told { text_length = count; text = front_replaced (take count text) told.text }
 
+-- a kind
+abbrev pub kind_shown : ReplyKind → ToldReply → ToldReply
+kind_shown kind told = record told { kind = kind_number kind }
+
 -- a kind and a number
-abbrev pub number_shown : ℕ → ℕ → ToldReply → ToldReply
-number_shown kind number told = record told { kind = kind; number = number }
+abbrev pub number_shown : ReplyKind → ℕ → ToldReply → ToldReply
+number_shown kind number told = record told { kind = kind_number kind; number = number }
 
 -- the answer to a request
 abbrev pub answer_shown : Answer → ToldReply → ToldReply
-answer_shown (answer.Value body) told = body_shown body (record told { kind = 14 })
-answer_shown (answer.FallbackValue why body) told = body_shown body (record told { kind = 15; cause = cause_number why })
-answer_shown (answer.Error why fallback) told = record told { kind = 16; cause = cause_number why; fallback = fallback_number fallback }
-answer_shown answer.BadRequest told = record told { kind = 17 }
+answer_shown (answer.Value body) told = body_shown body (kind_shown kinds.Value told)
+answer_shown (answer.FallbackValue why body) told = body_shown body (record told { kind = kind_number kinds.FallbackValue; cause = cause_number why })
+answer_shown (answer.Error why fallback) told = record told { kind = kind_number kinds.Error; cause = cause_number why; fallback = fallback_number fallback }
+answer_shown answer.BadRequest told = kind_shown kinds.BadRequest told
 
 -- the reply
 abbrev pub shown : Reply → ToldReply → ToldReply
-shown (reply.Queued serial) told = number_shown 1 serial told
-shown (reply.Inline serial) told = number_shown 2 serial told
-shown (reply.FallbackDue serial why) told = record told { kind = 3; number = serial; cause = cause_number why }
-shown (reply.Joined serial) told = number_shown 4 serial told
-shown reply.GroupFull told = record told { kind = 5 }
-shown (reply.Assigned serial arg) told = body_shown arg (number_shown 6 serial told)
-shown reply.Idle told = record told { kind = 7 }
-shown reply.Done told = record told { kind = 8 }
-shown reply.Late told = record told { kind = 9 }
-shown reply.NotRunning told = record told { kind = 10 }
-shown (reply.Expired count) told = number_shown 11 count told
-shown reply.Pending told = record told { kind = 12 }
-shown (reply.RunFallback why) told = record told { kind = 13; cause = cause_number why }
+shown (reply.Queued serial) told = number_shown kinds.Queued serial told
+shown (reply.Inline serial) told = number_shown kinds.Inline serial told
+shown (reply.FallbackDue serial why) told = record told { kind = kind_number kinds.FallbackDue; number = serial; cause = cause_number why }
+shown (reply.Joined serial) told = number_shown kinds.Joined serial told
+shown reply.GroupFull told = kind_shown kinds.GroupFull told
+shown (reply.Assigned serial command arg) told = body_shown arg (number_shown kinds.Assigned serial told)
+shown reply.Idle told = kind_shown kinds.Idle told
+shown reply.Done told = kind_shown kinds.Done told
+shown reply.Late told = kind_shown kinds.Late told
+shown reply.NotRunning told = kind_shown kinds.NotRunning told
+shown (reply.Expired count) told = number_shown kinds.Expired count told
+shown reply.Pending told = kind_shown kinds.Pending told
+shown (reply.RunFallback why) told = record told { kind = kind_number kinds.RunFallback; cause = cause_number why }
 shown (reply.Answered answer) told = answer_shown answer told
-shown reply.NoTicket told = record told { kind = 18 }
-shown reply.NotInFallback told = record told { kind = 19 }
-shown (reply.Closed count) told = number_shown 20 count told
-shown (reply.Metrics metrics) told = record told { kind = 21; metrics = metrics_shown metrics }
-shown reply.Worn told = record told { kind = 22 }
-shown reply.NoGroup told = record told { kind = 23 }
+shown reply.NoTicket told = kind_shown kinds.NoTicket told
+shown reply.NotInFallback told = kind_shown kinds.NotInFallback told
+shown (reply.Closed count) told = number_shown kinds.Closed count told
+shown (reply.Metrics metrics) told = record told { kind = kind_number kinds.Metrics; metrics = metrics_shown metrics }
+shown reply.Worn told = kind_shown kinds.Worn told
+shown reply.NoGroup told = kind_shown kinds.NoGroup told
+shown reply.NoCommand told = kind_shown kinds.NoCommand told

@@ -1,6 +1,6 @@
 //! Bytes of the caller that are written to.
 
-ghost use Rattle.std.specs.Prelude.{◌≡◌, ◌≤◌, length, take};
+ghost use Rattle.std.specs.Prelude.{◌≡◌, ◌<◌, ◌≤◌, [], ◌∷◌, ◌++◌, length, take};
 ghost use Rattle.bh_c.specs.Buffers.{IsWritten, front_replaced};
 
 /// Writes the bytes in front of the buffer, and their length.
@@ -10,6 +10,16 @@ pub fn put_front(bytes: &[u8], buffer: &mut [u8], needed: &mut usize)
 {
     copy_front(bytes, buffer);
     *needed = bytes.len();
+}
+
+/// Writes the bytes and a line feed in front of the buffer, and the length of both.
+pub fn put_line(bytes: &[u8], buffer: &mut [u8], needed: &mut usize)
+    requires { length bytes.now < length buffer.old }
+    ensures { IsWritten (bytes.now ++ 10 ∷ []) buffer.old buffer.new needed.new }
+{
+    put_front(bytes, buffer, needed);
+    buffer[*needed] = b'\n';
+    *needed += 1;
 }
 
 /// Writes the bytes in front of the buffer.

@@ -8,7 +8,7 @@ ghost use Rattle.bh_c.specs.Calls.{CheckTold, GroupTold, LineTold, StepTold};
 ghost use Rattle.bh_c.specs.Exports.{Answers, Keeps, OpenTold, Works};
 ghost use Rattle.bh_c.specs.Given.{step_in};
 ghost use Rattle.bh_c.specs.Names.{group_in};
-ghost use Rattle.bh_c.specs.Settings.{settings_in};
+ghost use Rattle.bh_props.specs.SettingsFile.{settings_in};
 
 use crate::buffers::put_cut;
 use crate::given::GivenStep;

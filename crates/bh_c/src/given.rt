@@ -1,7 +1,7 @@
 //! A step as C gives it.
 
 ghost use Rattle.std.specs.Prelude.{◌≡◌, ◌≤◌, length};
-ghost use Rattle.bh_c.specs.Given.{op_word, text_in};
+ghost use Rattle.bh_c.specs.Given.{op_number, text_in};
 
 use crate::outcome::Outcome;
 use bh_base::Text;
@@ -33,7 +33,7 @@ pub struct GivenStep {
 
 /// The operations that C can name by a number.
 #[derive(Clone, Copy, Debug, PartialEq, Eq)]
-pub enum OpWord {
+pub enum OpNumber {
     Submit,
     SubmitShared,
     Start,
@@ -50,23 +50,23 @@ pub enum OpWord {
 }
 
 /// The operation of a number.
-pub fn op_word(number: u32) -> Option<OpWord>
-    ensures { result ≡ op_word number }
+pub fn op_number(number: u32) -> Option<OpNumber>
+    ensures { result ≡ op_number number }
 {
     match number {
-        1 => Some(OpWord::Submit),
-        2 => Some(OpWord::SubmitShared),
-        3 => Some(OpWord::Start),
-        4 => Some(OpWord::Finish),
-        5 => Some(OpWord::Fail),
-        6 => Some(OpWord::BadRequest),
-        7 => Some(OpWord::Expire),
-        8 => Some(OpWord::Collect),
-        9 => Some(OpWord::FallbackValue),
-        10 => Some(OpWord::FallbackFailed),
-        11 => Some(OpWord::FallbackMissing),
-        12 => Some(OpWord::Close),
-        13 => Some(OpWord::Read),
+        1 => Some(OpNumber::Submit),
+        2 => Some(OpNumber::SubmitShared),
+        3 => Some(OpNumber::Start),
+        4 => Some(OpNumber::Finish),
+        5 => Some(OpNumber::Fail),
+        6 => Some(OpNumber::BadRequest),
+        7 => Some(OpNumber::Expire),
+        8 => Some(OpNumber::Collect),
+        9 => Some(OpNumber::FallbackValue),
+        10 => Some(OpNumber::FallbackFailed),
+        11 => Some(OpNumber::FallbackMissing),
+        12 => Some(OpNumber::Close),
+        13 => Some(OpNumber::Read),
         _ => None,
     }
 }

@@ -5,6 +5,7 @@ pub mod buffers;
 pub mod exports;
 pub mod given;
 pub mod handle;
+pub mod kind;
 pub mod loose;
 pub mod outcome;
 pub mod service;

@@ -3,7 +3,7 @@
 ghost use Rattle.std.specs.Prelude.{◌≡◌};
 ghost use Rattle.bh_c.specs.Outcomes.{code_of};
 
-/// What a call comes to. Wherever it is not `Done` or `NotTold`, nothing was done.
+/// What a call comes to. Wherever it is not `Done`, nothing was done.
 #[derive(Clone, Copy, Debug, PartialEq, Eq)]
 pub enum Outcome {
     /// The call did what it is for.
@@ -24,12 +24,10 @@ pub enum Outcome {
     TooLong,
     /// No operation has the number.
     NoSuchOperation,
-    /// The step was made, and memory for the line of its reply was refused.
-    NotTold,
 }
 
 impl Outcome {
-    /// The number that C sees, 0 to 9.
+    /// The number that C sees, 0 to 8.
     pub fn code(self) -> u32
         ensures { result ≡ code_of self }
     {
@@ -43,7 +41,6 @@ impl Outcome {
             Outcome::NotText => 6,
             Outcome::TooLong => 7,
             Outcome::NoSuchOperation => 8,
-            Outcome::NotTold => 9,
         }
     }
 }

@@ -1,19 +1,19 @@
 //! A service with all that its calls take in memory.
 
-ghost use Rattle.std.specs.Prelude.{◌≡◌, ◌≢◌, ◌≤◌, ◌++◌, ℕ, List, [], ◌∷◌, option_map, Ok, Err, IfOk, IfErr};
+ghost use Rattle.std.specs.Prelude.{◌≡◌, ◌≢◌, ◌+◌, ◌≤◌, [], length, option_map, vec_capacity, vec_len, Ok, Err, IfOk, IfErr};
 ghost use Rattle.bh_lines.specs.FaultLine.{fault_line};
 ghost use Rattle.bh_lines.specs.StepLine.{line_step};
 ghost use Rattle.bh_port.specs.Script.{GroupsShow};
 ghost use Rattle.bh_port.specs.Text.{names_in};
 ghost use Rattle.bh_props.specs.Printed.{lines_of};
 ghost use Rattle.bh_props.specs.Shown.{settings_view};
-ghost use Rattle.bh_c.specs.Calls.{CheckTold, GroupTold, LineTold, StepTold, StepWritten, FaultWritten};
+ghost use Rattle.bh_c.specs.Calls.{CheckTold, GroupTold, DoesStep, LineTold, StepTold, WritesReply, FaultWritten};
 ghost use Rattle.bh_c.specs.Given.{step_in};
 ghost use Rattle.bh_c.specs.Lines.{line_text};
 ghost use Rattle.bh_c.specs.Names.{group_in};
-ghost use Rattle.bh_c.specs.Settings.{settings_in};
+ghost use Rattle.bh_props.specs.SettingsFile.{settings_in};
 
-use crate::buffers::put_front;
+use crate::buffers::{put_front, put_line};
 use crate::given::GivenStep;
 use crate::outcome::Outcome;
 use crate::steps::make_given;
@@ -21,10 +21,10 @@ use crate::told::ToldReply;
 use bh_base::Step;
 use bh_core::Core;
 use bh_lines::lines::LINE_LIMIT;
-use bh_lines::{Fault, put_fault, put_reply};
+use bh_lines::{Fault, put_fault, put_reply_within};
 use bh_port::script;
 use bh_port::steps::{group_number, line_step};
-use bh_props::{Settings, SettingsError};
+use bh_props::{Settings, SettingsError, settings_in};
 use json::Scratch;
 use std::alloc::Global;
 use std::str;
@@ -115,26 +115,27 @@ impl Service {
             return Outcome::NoMemory;
         }
         match line_step(self.alloc, &self.settings, &mut self.scratch, text) {
-            Ok(Ok(step)) => self.line_of_step(step, buffer, needed),
+            Ok(Ok(step)) => {
+                self.line_of_step(step, buffer, needed);
+                Outcome::Done
+            }
             Ok(Err(fault)) => self.line_of_fault(fault, buffer, needed),
             Err(_) => Outcome::NoMemory,
         }
     }
 
     /// Makes a step, and writes the line of its reply in front of the buffer.
-    fn line_of_step(&mut self, step: Step, buffer: &mut [u8], needed: &mut usize) -> Outcome
-        requires { self.old.answer.items ≡ [] }
-        ensures told { StepWritten step self.old.core self.new.core buffer.old buffer.new needed.new result }
+    fn line_of_step(&mut self, step: Step, buffer: &mut [u8], needed: &mut usize)
+        requires empty { self.old.answer.items ≡ [] }
+        requires room { vec_len self.old.answer + 2048 ≤ vec_capacity self.old.answer }
+        requires buffer { 2048 ≤ length buffer.old }
+        ensures step { DoesStep step self.old.core self.new.core }
+        ensures line { WritesReply step self.old.core buffer.old buffer.new needed.new }
         ensures settings { self.new.settings ≡ self.old.settings }
     {
         let reply = self.core.apply(step);
-        match put_reply(self.alloc, &mut self.answer, &reply) {
-            Ok(()) if self.answer.len() <= buffer.len() => {
-                put_front(self.answer.as_slice(), buffer, needed);
-                Outcome::Done
-            }
-            _ => Outcome::NotTold,
-        }
+        put_reply_within(self.alloc, &mut self.answer, &reply);
+        put_line(self.answer.as_slice(), buffer, needed);
     }
 
     /// Writes the line of a fault in front of the buffer.
@@ -168,18 +169,6 @@ impl Service {
         put_front(bytes, buffer, needed);
         Outcome::Done
     }
-}
-
-/// The settings that the bytes of a file give, or the first refusal. Bytes that are not UTF-8 are refused as
-/// `Syntax`; `Memory` can come in place of any answer.
-fn settings_in(alloc: Global, bytes: &[u8]) -> Result<Settings, SettingsError>
-    ensures ok { IfOk result (λ settings. settings_in bytes.now ≡ Ok (settings_view settings)) }
-    ensures refused { IfErr result (λ e. e ≢ SettingsError.Memory → settings_in bytes.now ≡ Err e) }
-{
-    let Ok(text) = str::from_utf8(bytes) else {
-        return Err(SettingsError::Syntax);
-    };
-    bh_props::read(alloc, text)
 }
 
 /// The text of a line, which is of at most 1,024 bytes.

@@ -6,7 +6,7 @@ ghost use Rattle.std.specs.Prelude.{Ok};
 ghost use Rattle.bh_c.specs.Calls.{StepTold};
 ghost use Rattle.bh_c.specs.Given.{made_in, step_in, step_of};
 
-use crate::given::{GivenStep, OpWord, op_word, text_in};
+use crate::given::{GivenStep, OpNumber, op_number, text_in};
 use crate::outcome::Outcome;
 use crate::told::ToldReply;
 use bh_base::{FallbackEnd, GroupId, Op, Request, Step};
@@ -17,37 +17,42 @@ use bh_core::Core;
 pub fn make_given(core: &mut Core, given: &GivenStep, told: &mut ToldReply) -> Outcome
     ensures { StepTold (step_in given.now) core.old core.new told.old told.new result }
 {
-    match op_word(given.operation) {
-        Some(word) => make_word(core, given, word, told),
+    match op_number(given.operation) {
+        Some(number) => make_numbered(core, given, number, told),
         None => Outcome::NoSuchOperation,
     }
 }
 
 /// Makes a step of the operation.
-fn make_word(core: &mut Core, given: &GivenStep, word: OpWord, told: &mut ToldReply) -> Outcome
-    ensures { StepTold (made_in word given.now) core.old core.new told.old told.new result }
+fn make_numbered(
+    core: &mut Core,
+    given: &GivenStep,
+    number: OpNumber,
+    told: &mut ToldReply,
+) -> Outcome
+    ensures { StepTold (made_in number given.now) core.old core.new told.old told.new result }
 {
-    match word {
-        OpWord::Submit => submit(core, given, told),
-        OpWord::SubmitShared => submit_shared(core, given, told),
-        OpWord::Start => start(core, given, told),
-        OpWord::Finish => finish(core, given, told),
-        OpWord::Fail => fail(core, given, false, told),
-        OpWord::BadRequest => fail(core, given, true, told),
-        OpWord::Expire => expire(core, given, told),
-        OpWord::Collect => collect(core, given, told),
-        OpWord::FallbackValue => fallback_value(core, given, told),
-        OpWord::FallbackFailed => fallback_failed(core, given, told),
-        OpWord::FallbackMissing => fallback_missing(core, given, told),
-        OpWord::Close => close(core, given, told),
-        OpWord::Read => read(core, given, told),
+    match number {
+        OpNumber::Submit => submit(core, given, told),
+        OpNumber::SubmitShared => submit_shared(core, given, told),
+        OpNumber::Start => start(core, given, told),
+        OpNumber::Finish => finish(core, given, told),
+        OpNumber::Fail => fail(core, given, false, told),
+        OpNumber::BadRequest => fail(core, given, true, told),
+        OpNumber::Expire => expire(core, given, told),
+        OpNumber::Collect => collect(core, given, told),
+        OpNumber::FallbackValue => fallback_value(core, given, told),
+        OpNumber::FallbackFailed => fallback_failed(core, given, told),
+        OpNumber::FallbackMissing => fallback_missing(core, given, told),
+        OpNumber::Close => close(core, given, told),
+        OpNumber::Read => read(core, given, told),
     }
 }
 
 /// A worker asks for a run.
 #[inline(never)]
 fn start(core: &mut Core, given: &GivenStep, told: &mut ToldReply) -> Outcome
-    ensures { StepTold (made_in OpWord.Start given.now) core.old core.new told.old told.new result }
+    ensures { StepTold (made_in OpNumber.Start given.now) core.old core.new told.old told.new result }
 {
     make(core, given, Op::Start, told)
 }
@@ -64,7 +69,7 @@ fn fail(core: &mut Core, given: &GivenStep, bad: bool, told: &mut ToldReply) -> 
 /// Times out what is due.
 #[inline(never)]
 fn expire(core: &mut Core, given: &GivenStep, told: &mut ToldReply) -> Outcome
-    ensures { StepTold (made_in OpWord.Expire given.now) core.old core.new told.old told.new result }
+    ensures { StepTold (made_in OpNumber.Expire given.now) core.old core.new told.old told.new result }
 {
     make(core, given, Op::Expire, told)
 }
@@ -72,7 +77,7 @@ fn expire(core: &mut Core, given: &GivenStep, told: &mut ToldReply) -> Outcome
 /// A holder asks for the answer.
 #[inline(never)]
 fn collect(core: &mut Core, given: &GivenStep, told: &mut ToldReply) -> Outcome
-    ensures { StepTold (made_in OpWord.Collect given.now) core.old core.new told.old told.new result }
+    ensures { StepTold (made_in OpNumber.Collect given.now) core.old core.new told.old told.new result }
 {
     let serial = given.ticket;
     make(core, given, Op::Collect { serial }, told)
@@ -81,7 +86,7 @@ fn collect(core: &mut Core, given: &GivenStep, told: &mut ToldReply) -> Outcome
 /// A fallback that failed.
 #[inline(never)]
 fn fallback_failed(core: &mut Core, given: &GivenStep, told: &mut ToldReply) -> Outcome
-    ensures { StepTold (made_in OpWord.FallbackFailed given.now) core.old core.new told.old told.new result }
+    ensures { StepTold (made_in OpNumber.FallbackFailed given.now) core.old core.new told.old told.new result }
 {
     end_fallback(core, given, FallbackEnd::Failure, told)
 }
@@ -89,7 +94,7 @@ fn fallback_failed(core: &mut Core, given: &GivenStep, told: &mut ToldReply) -> 
 /// A fallback that there is not.
 #[inline(never)]
 fn fallback_missing(core: &mut Core, given: &GivenStep, told: &mut ToldReply) -> Outcome
-    ensures { StepTold (made_in OpWord.FallbackMissing given.now) core.old core.new told.old told.new result }
+    ensures { StepTold (made_in OpNumber.FallbackMissing given.now) core.old core.new told.old told.new result }
 {
     end_fallback(core, given, FallbackEnd::Missing, told)
 }
@@ -97,7 +102,7 @@ fn fallback_missing(core: &mut Core, given: &GivenStep, told: &mut ToldReply) ->
 /// Ends a request context.
 #[inline(never)]
 fn close(core: &mut Core, given: &GivenStep, told: &mut ToldReply) -> Outcome
-    ensures { StepTold (made_in OpWord.Close given.now) core.old core.new told.old told.new result }
+    ensures { StepTold (made_in OpNumber.Close given.now) core.old core.new told.old told.new result }
 {
     let context = given.context;
     make(core, given, Op::Close { context }, told)
@@ -106,18 +111,25 @@ fn close(core: &mut Core, given: &GivenStep, told: &mut ToldReply) -> Outcome
 /// Asks for the metrics.
 #[inline(never)]
 fn read(core: &mut Core, given: &GivenStep, told: &mut ToldReply) -> Outcome
-    ensures { StepTold (made_in OpWord.Read given.now) core.old core.new told.old told.new result }
+    ensures { StepTold (made_in OpNumber.Read given.now) core.old core.new told.old told.new result }
 {
-    make(core, given, Op::Read, told)
+    make(core, given, Op::Read { command: 0 }, told)
 }
 
 /// A submit that shares nothing.
 #[inline(never)]
 fn submit(core: &mut Core, given: &GivenStep, told: &mut ToldReply) -> Outcome
-    ensures { StepTold (made_in OpWord.Submit given.now) core.old core.new told.old told.new result }
+    ensures { StepTold (made_in OpNumber.Submit given.now) core.old core.new told.old told.new result }
 {
     match text_in::<64>(&given.text, given.text_length) {
-        Ok(arg) => make(core, given, Op::Submit(Request { cache: None, arg }), told),
+        Ok(arg) => {
+            let request = Request {
+                command: 0,
+                cache: None,
+                arg,
+            };
+            make(core, given, Op::Submit(request), told)
+        }
         Err(outcome) => outcome,
     }
 }
@@ -125,7 +137,7 @@ fn submit(core: &mut Core, given: &GivenStep, told: &mut ToldReply) -> Outcome
 /// A submit that may share its answer.
 #[inline(never)]
 fn submit_shared(core: &mut Core, given: &GivenStep, told: &mut ToldReply) -> Outcome
-    ensures { StepTold (made_in OpWord.SubmitShared given.now) core.old core.new told.old told.new result }
+    ensures { StepTold (made_in OpNumber.SubmitShared given.now) core.old core.new told.old told.new result }
 {
     let key = match text_in::<32>(&given.key, given.key_length) {
         Ok(key) => key,
@@ -133,8 +145,12 @@ fn submit_shared(core: &mut Core, given: &GivenStep, told: &mut ToldReply) -> Ou
     };
     match text_in::<64>(&given.text, given.text_length) {
         Ok(arg) => {
-            let cache = Some((given.context, key));
-            make(core, given, Op::Submit(Request { cache, arg }), told)
+            let request = Request {
+                command: 0,
+                cache: Some((given.context, key)),
+                arg,
+            };
+            make(core, given, Op::Submit(request), told)
         }
         Err(outcome) => outcome,
     }
@@ -143,7 +159,7 @@ fn submit_shared(core: &mut Core, given: &GivenStep, told: &mut ToldReply) -> Ou
 /// The end of a run with a body.
 #[inline(never)]
 fn finish(core: &mut Core, given: &GivenStep, told: &mut ToldReply) -> Outcome
-    ensures { StepTold (made_in OpWord.Finish given.now) core.old core.new told.old told.new result }
+    ensures { StepTold (made_in OpNumber.Finish given.now) core.old core.new told.old told.new result }
 {
     let serial = given.ticket;
     match text_in::<256>(&given.text, given.text_length) {
@@ -155,7 +171,7 @@ fn finish(core: &mut Core, given: &GivenStep, told: &mut ToldReply) -> Outcome
 /// The end of a fallback with a body.
 #[inline(never)]
 fn fallback_value(core: &mut Core, given: &GivenStep, told: &mut ToldReply) -> Outcome
-    ensures { StepTold (made_in OpWord.FallbackValue given.now) core.old core.new told.old told.new result }
+    ensures { StepTold (made_in OpNumber.FallbackValue given.now) core.old core.new told.old told.new result }
 {
     match text_in::<256>(&given.text, given.text_length) {
         Ok(body) => end_fallback(core, given, FallbackEnd::Success(body), told),

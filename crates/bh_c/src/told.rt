@@ -1,16 +1,17 @@
 //! A reply as C is told it.
 
 ghost use Rattle.std.specs.Prelude.{◌≡◌};
-ghost use Rattle.bh_c.specs.Told.{answer_shown, body_shown, cause_number, circuit_number, fallback_number, metrics_shown, shown};
+ghost use Rattle.bh_c.specs.Told.{answer_shown, body_shown, cause_number, circuit_number, fallback_number, kind_shown, metrics_shown, number_shown, shown};
 
 use crate::buffers::copy_front;
+use crate::kind::ReplyKind;
 use bh_base::{Answer, Cause, CircuitState, FallbackFault, Metrics, Reply, Text};
 
 /// A reply as C is told it. Which of the fields are written depends on the kind; the others stay as they were.
 #[repr(C)]
 #[derive(Clone, Copy)]
 pub struct ToldReply {
-    /// Which reply it is, 1 to 23.
+    /// Which reply it is, 1 to 24.
     pub kind: u32,
     /// Why a fallback is due, 1 to 5.
     pub cause: u32,
@@ -59,38 +60,39 @@ impl ToldReply {
         ensures { self.new ≡ shown reply.now self.old }
     {
         match reply {
-            Reply::Queued(serial) => self.show_number(1, *serial),
-            Reply::Inline(serial) => self.show_number(2, *serial),
+            Reply::Queued(serial) => self.show_number(ReplyKind::Queued, *serial),
+            Reply::Inline(serial) => self.show_number(ReplyKind::Inline, *serial),
             Reply::FallbackDue { serial, cause } => {
-                self.show_number(3, *serial);
+                self.show_number(ReplyKind::FallbackDue, *serial);
                 self.cause = cause_number(*cause);
             }
-            Reply::Joined(serial) => self.show_number(4, *serial),
-            Reply::GroupFull => self.kind = 5,
-            Reply::Assigned { serial, arg } => {
-                self.show_number(6, *serial);
+            Reply::Joined(serial) => self.show_number(ReplyKind::Joined, *serial),
+            Reply::GroupFull => self.show_kind(ReplyKind::GroupFull),
+            Reply::Assigned { serial, arg, .. } => {
+                self.show_number(ReplyKind::Assigned, *serial);
                 self.show_text(arg);
             }
-            Reply::Idle => self.kind = 7,
-            Reply::Done => self.kind = 8,
-            Reply::Late => self.kind = 9,
-            Reply::NotRunning => self.kind = 10,
-            Reply::Expired(count) => self.show_number(11, *count),
-            Reply::Pending => self.kind = 12,
+            Reply::Idle => self.show_kind(ReplyKind::Idle),
+            Reply::Done => self.show_kind(ReplyKind::Done),
+            Reply::Late => self.show_kind(ReplyKind::Late),
+            Reply::NotRunning => self.show_kind(ReplyKind::NotRunning),
+            Reply::Expired(count) => self.show_number(ReplyKind::Expired, *count),
+            Reply::Pending => self.show_kind(ReplyKind::Pending),
             Reply::RunFallback(cause) => {
-                self.kind = 13;
+                self.show_kind(ReplyKind::RunFallback);
                 self.cause = cause_number(*cause);
             }
             Reply::Answered(answer) => self.show_answer(answer),
-            Reply::NoTicket => self.kind = 18,
-            Reply::NotInFallback => self.kind = 19,
-            Reply::Closed(count) => self.show_number(20, *count),
+            Reply::NoTicket => self.show_kind(ReplyKind::NoTicket),
+            Reply::NotInFallback => self.show_kind(ReplyKind::NotInFallback),
+            Reply::Closed(count) => self.show_number(ReplyKind::Closed, *count),
             Reply::Metrics(metrics) => {
-                self.kind = 21;
+                self.show_kind(ReplyKind::Metrics);
                 self.metrics = metrics_shown(metrics);
             }
-            Reply::Worn => self.kind = 22,
-            Reply::NoGroup => self.kind = 23,
+            Reply::Worn => self.show_kind(ReplyKind::Worn),
+            Reply::NoGroup => self.show_kind(ReplyKind::NoGroup),
+            Reply::NoCommand => self.show_kind(ReplyKind::NoCommand),
         }
     }
 
@@ -100,28 +102,35 @@ impl ToldReply {
     {
         match answer {
             Answer::Value(body) => {
-                self.kind = 14;
+                self.show_kind(ReplyKind::Value);
                 self.show_text(body);
             }
             Answer::FallbackValue { cause, body } => {
-                self.kind = 15;
+                self.show_kind(ReplyKind::FallbackValue);
                 self.cause = cause_number(*cause);
                 self.show_text(body);
             }
             Answer::Error { cause, fallback } => {
-                self.kind = 16;
+                self.show_kind(ReplyKind::Error);
                 self.cause = cause_number(*cause);
                 self.fallback = fallback_number(*fallback);
             }
-            Answer::BadRequest => self.kind = 17,
+            Answer::BadRequest => self.show_kind(ReplyKind::BadRequest),
         }
     }
 
-    /// Writes the kind and the number.
-    fn show_number(&mut self, kind: u32, number: u64)
-        ensures { self.new ≡ record self.old { kind = kind; number = number } }
+    /// Writes the kind.
+    fn show_kind(&mut self, kind: ReplyKind)
+        ensures { self.new ≡ kind_shown kind self.old }
     {
-        self.kind = kind;
+        self.kind = kind.number();
+    }
+
+    /// Writes the kind and the number.
+    fn show_number(&mut self, kind: ReplyKind, number: u64)
+        ensures { self.new ≡ number_shown kind number self.old }
+    {
+        self.kind = kind.number();
         self.number = number;
     }
 

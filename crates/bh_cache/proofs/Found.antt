@@ -90,20 +90,24 @@ module _ (g : GroupLists) (name : ℕ × List ℕ) where
     | inr ne ↦ let k : false ≡ true = ap (λ b. b && pointwise nat_eq given.1 name.1) (sym (ne_eqb given.0 name.0 ne)) ∙ e in absurd cc
   ]
 
-  -- a ticket that is cached under a name belongs on the chain of the name
-  on_name : (t : Ticket) → is_cached_as name t ≡ true → list_by_name g (Some t) ≡ name_chain g name
-  on_name t e = by t.cached t.cache e
+  -- a ticket that is cached under a name, of whichever command, belongs on the chain of the name
+  on_name : (command : ℕ) (t : Ticket) → is_cached_as command name t ≡ true → list_by_name g (Some t) ≡ name_chain g name
+  on_name command t e = of (t.command == command) e
     where
       by : (b : Bool) (o : Option (ℕ × List ℕ)) → (b && elim o [ None ↦ false | Some given ↦ (given.0 == name.0) && pointwise nat_eq given.1 name.1 ]) ≡ true → (if b then list_of_name g o else g.uncached) ≡ name_chain g name
       by false o e = absurd cc
       by true None e = absurd cc
       by true (Some given) e = ap (name_chain g) (same_name given e)
 
+      of : (b : Bool) → (b && t.cached && elim t.cache [ None ↦ false | Some given ↦ (given.0 == name.0) && pointwise nat_eq given.1 name.1 ]) ≡ true → list_by_name g (Some t) ≡ name_chain g name
+      of false e = absurd cc
+      of true e = by t.cached t.cache e
+
 -- the best along the chain of a name is the best of all slots of the group that have a ticket
-pub name_best : (a : Slots) (g : GroupLists) (name : ℕ × List ℕ) → IsChained a g → IsArena a 2 → (r : Option ℕ) → r ≡ earliest (is_cached_as name) a.payloads None (slots_on a 2 (name_chain g name))
-    → IsBest (is_cached_as name) a.payloads (is_live a g) r
-name_best a g name chained arena r is =
-    let p : Ticket → Bool = is_cached_as name in
+pub name_best : (a : Slots) (g : GroupLists) (command : ℕ) (name : ℕ × List ℕ) → IsChained a g → IsArena a 2 → (r : Option ℕ) → r ≡ earliest (is_cached_as command name) a.payloads None (slots_on a 2 (name_chain g name))
+    → IsBest (is_cached_as command name) a.payloads (is_live a g) r
+name_best a g command name chained arena r is =
+    let p : Ticket → Bool = is_cached_as command name in
     let k = name_chain_not_uncached a g chained.lists name in
     let nothing : IsBest p a.payloads (λ y. false) None = λ y e. absurd cc in
     let along : IsBest p a.payloads (λ y. is_on a 2 (name_chain g name) y) r = subst (IsBest p a.payloads (λ y. is_on a 2 (name_chain g name) y)) (sym is) (earliest_best p a.payloads (slots_on a 2 (name_chain g name)) (λ y. false) None nothing) in
@@ -112,6 +116,6 @@ name_best a g name chained arena r is =
     (λ x live q. back x (slice_get a.payloads x) live refl q)
     r along
   where
-    back : (x : ℕ) (o : Option Ticket) → is_live a g x ≡ true → slice_get a.payloads x ≡ o → has_one (is_cached_as name) o ≡ true → is_on a 2 (name_chain g name) x ≡ true
+    back : (x : ℕ) (o : Option Ticket) → is_live a g x ≡ true → slice_get a.payloads x ≡ o → has_one (is_cached_as command name) o ≡ true → is_on a 2 (name_chain g name) x ≡ true
     back x None live is e = absurd cc
-    back x (Some t) live is e = ap (λ l. is_on a 2 l x) (sym (on_name g name t e)) ∙ on_live a g 2 g.names g.free2 (list_by_name g) chained.names x t live is
+    back x (Some t) live is e = ap (λ l. is_on a 2 l x) (sym (on_name g name command t e)) ∙ on_live a g 2 g.names g.free2 (list_by_name g) chained.names x t live is

@@ -12,20 +12,22 @@ use crate::lists::GroupLists;
 use bh_base::{Text, Ticket};
 use bh_slot_arena::Arena;
 
-/// The slot of the group's ticket that is cached under the request context and the key, the one of the least serial
-/// where there are several; None only where there is none.
+/// The slot of the ticket of the group's command that is cached under the request context and the key, the one of the
+/// least serial where there are several; None only where there is none.
 pub fn find(
     arena: &Arena<Ticket, 3>,
     lists: &GroupLists,
+    command: u8,
     context: u64,
     key: &Text<32>,
 ) -> Option<u32>
     requires { IsChained arena.now lists.now }
-    ensures found { IfSome result (λ slot. IsEarliest (is_cached_as (context, key.now)) arena.now lists.now slot) }
-    ensures none { result ≡ None → (slot : ℕ) → has_one (is_cached_as (context, key.now)) (ticket_at arena.now lists.now slot) ≡ false }
+    ensures found { IfSome result (λ slot. IsEarliest (is_cached_as command (context, key.now)) arena.now lists.now slot) }
+    ensures none { result ≡ None → (slot : ℕ) → has_one (is_cached_as command (context, key.now)) (ticket_at arena.now lists.now slot) ≡ false }
 {
     arena.partition(2);
-    find_on(arena, name_chain(lists, context, key), context, key)
+    let chain = name_chain(lists, context, key);
+    find_on(arena, chain, command, context, key)
 }
 
 /// Ends a request context: none of the group's tickets is cached in it any more, and the rest of each ticket stays as
@@ -43,10 +45,16 @@ pub fn drop_context(arena: &mut Arena<Ticket, 3>, lists: &GroupLists, context: u
     queued + running + settled
 }
 
-/// The slot of the least serial among those of the chain that are cached under the context and the key.
-fn find_on(arena: &Arena<Ticket, 3>, chain: usize, context: u64, key: &Text<32>) -> Option<u32>
+/// The slot of the least serial among those of the chain that are cached of the command under the context and the key.
+fn find_on(
+    arena: &Arena<Ticket, 3>,
+    chain: usize,
+    command: u8,
+    context: u64,
+    key: &Text<32>,
+) -> Option<u32>
     requires { chain < length (lists_in arena.now 2) }
-    ensures { result ≡ earliest (is_cached_as (context, key.now)) arena.now.payloads None (slots_on arena.now 2 chain) }
+    ensures { result ≡ earliest (is_cached_as command (context, key.now)) arena.now.payloads None (slots_on arena.now 2 chain) }
 {
     arena.partition(2);
     let mut found = None;
@@ -55,7 +63,7 @@ fn find_on(arena: &Arena<Ticket, 3>, chain: usize, context: u64, key: &Text<32>)
         let Some(slot) = place else {
             return found;
         };
-        if has_name(arena.get(slot), context, key) {
+        if has_name(arena.get(slot), command, context, key) {
             found = Some(earlier(arena, found, slot));
         }
         place = arena.next(2, slot);
@@ -117,10 +125,13 @@ fn drop_at(arena: &mut Arena<Ticket, 3>, lists: &GroupLists, slot: u32, context:
     1
 }
 
-/// Whether the ticket is cached under the context and the key.
-fn has_name(ticket: &Ticket, context: u64, key: &Text<32>) -> bool
-    ensures { result ≡ is_cached_as (context, key.now) ticket.now }
+/// Whether the ticket is of the command, and cached under the context and the key.
+fn has_name(ticket: &Ticket, command: u8, context: u64, key: &Text<32>) -> bool
+    ensures { result ≡ is_cached_as command (context, key.now) ticket.now }
 {
+    if ticket.command != command {
+        return false;
+    }
     let Some((of_context, of_key)) = &ticket.cache else {
         return false;
     };

@@ -5,7 +5,7 @@ ghost use Rattle.bh_base.specs.declared.event.Health.{Health};
 ghost use Rattle.bh_base.specs.Circuit.{new_circuit, asked, asked_closed, asked_at, snapshot_at, ended as circuit_after, closes, taken_at, AreBefore};
 
 use crate::health::is_unhealthy;
-use bh_base::{Admit, CircuitState, End, GroupProps, Health, Moment, Serial, Snapshot};
+use bh_base::{Admit, CircuitState, CommandProps, End, Health, Moment, Serial, Snapshot};
 use std::marker::Model;
 
 /// The circuit breaker of a group.
@@ -51,7 +51,7 @@ impl Circuit {
     pub fn admit(
         &mut self,
         now: Moment,
-        props: &GroupProps,
+        props: &CommandProps,
         health: Health,
         serial: Serial,
     ) -> Admit
@@ -77,7 +77,7 @@ impl Circuit {
     /// same whatever the health.
     ///
     /// It does where it is closed, no property decides, and its snapshot is `health_ms` old or there is none.
-    pub fn takes_snapshot(&self, now: Moment, props: &GroupProps) -> bool
+    pub fn takes_snapshot(&self, now: Moment, props: &CommandProps) -> bool
         requires { AreBefore now self.now }
         ensures taken { result ≡ true → (serial : ℕ) (h : Health) →
             (asked props.now now h serial self.now).circuit.snapshot ≡ Some (record { taken = now; health = h }) }
@@ -133,7 +133,7 @@ impl Circuit {
     fn admit_by_state(
         &mut self,
         now: Moment,
-        props: &GroupProps,
+        props: &CommandProps,
         health: Health,
         serial: Serial,
     ) -> Admit
@@ -154,7 +154,7 @@ impl Circuit {
     }
 
     /// A closed circuit breaker opens on a snapshot that is unhealthy, and lets submits pass on any other.
-    fn admit_closed(&mut self, now: Moment, props: &GroupProps, health: Health) -> Admit
+    fn admit_closed(&mut self, now: Moment, props: &CommandProps, health: Health) -> Admit
         requires closed { self.old.state ≡ CircuitState.Closed }
         requires taken { taken_at self.old.snapshot ≤ now }
         requires health { health.errors ≤ health.total }
@@ -174,7 +174,7 @@ impl Circuit {
     }
 
     /// The snapshot that is kept, or a new one where there is none or it is `health_ms` old.
-    fn current_snapshot(&self, now: Moment, props: &GroupProps, health: Health) -> Snapshot
+    fn current_snapshot(&self, now: Moment, props: &CommandProps, health: Health) -> Snapshot
         requires taken { taken_at self.now.snapshot ≤ now }
         requires health { health.errors ≤ health.total }
         ensures exact { result ≡ snapshot_at props.now now health self.now.snapshot }

@@ -108,6 +108,7 @@ answer_line-some (Err call_errors.PassFull) e = append-some (compact_text (error
 answer_line-some (Err call_errors.Stopped) e = append-some (compact_text (error_data (codes "stopped"))) 10 e
 answer_line-some (Err call_errors.Taken) e = append-some (compact_text (error_data (codes "taken"))) 10 e
 answer_line-some (Err call_errors.NoGroup) e = append-some (compact_text (error_data (codes "group"))) 10 e
+answer_line-some (Err call_errors.NoCommand) e = append-some (compact_text (error_data (codes "command"))) 10 e
 
 is_answer-some : (who : Responder) (said : Result ControlLine Fault) → IsAnswer who said [] → ⊥
 is_answer-some who (Err fault) h = fault_line-some fault h

@@ -4,7 +4,7 @@ use Rattle.std.proofs.KnownBytes.{Appends-trans, Appends-nil}
 use Rattle.std.specs.Io.KnownBytes.{Keeps, Appends, Consumes, IsAtEnd}
 use Rattle.bh_lines.specs.declared.port_error.PortError.{PortError}
 use Rattle.bh_lines.specs.declared.port_error.PortError.TheVariants.{Read, Write, Line, Memory}
-use Rattle.bh_lines.specs.Lines.{Cut, stopped, cut, has_line, lines_then}
+use Rattle.bh_lines.specs.Lines.{Cut, cut, has_line, lines_then}
 use Rattle.bh_control.specs.AnswerLine.{Responder}
 use Rattle.bh_streams.specs.Watched.{WritesFront}
 use Rattle.bh_lines.proofs.LinesThen.{lines_then-append}

@@ -37,6 +37,7 @@ answer_line (Err call_errors.PassFull) = json_line (error_data (codes "full"))
 answer_line (Err call_errors.Stopped) = json_line (error_data (codes "stopped"))
 answer_line (Err call_errors.Taken) = json_line (error_data (codes "taken"))
 answer_line (Err call_errors.NoGroup) = json_line (error_data (codes "group"))
+answer_line (Err call_errors.NoCommand) = json_line (error_data (codes "command"))
 
 -- who answers: the names of the groups, and what each call may give for its arguments
 pub record Responder : Type 1 where

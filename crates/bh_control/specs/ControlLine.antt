@@ -22,10 +22,10 @@ control_word s =
     (if bytes_eq s (codes "call") then Some words.Call else
     (if bytes_eq s (codes "close") then Some words.Close else None)))
 
--- the request of a call, unless its key is of over 32 bytes or its argument of over 64
+-- the request of a call, of the group's own command, unless its key is of over 32 bytes or its argument of over 64
 abbrev pub request_of : Option (ℕ × List ℕ) → List ℕ → Result Request Fault
 request_of cache arg =
-    if is_short_name cache && nat_le (length arg) 64 then Ok (record { cache = cache; arg = arg }) else Err faults.Long
+    if is_short_name cache && nat_le (length arg) 64 then Ok (record { command = 0; cache = cache; arg = arg }) else Err faults.Long
 
 -- the group of a name, by its place in the list
 abbrev pub group_named : List (List ℕ) → List ℕ → Result GroupId Fault

@@ -145,5 +145,6 @@ fn put_answered(
         Err(CallError::Stopped) => put_error(alloc, out, "stopped"),
         Err(CallError::Taken) => put_error(alloc, out, "taken"),
         Err(CallError::NoGroup) => put_error(alloc, out, "group"),
+        Err(CallError::NoCommand) => put_error(alloc, out, "command"),
     }
 }

@@ -18,7 +18,7 @@ pub trait Control {
     // The names of the groups.
     ghost names: { Self → List (List ℕ) };
 
-    // The replies of a group that is asked for its metrics.
+    // The replies of a group that is asked for the metrics of its own command.
     ghost may_show: { GroupId → Reply → Type 0 };
 
     // The answers to a request to a group.
@@ -31,7 +31,7 @@ pub trait Control {
     fn groups(&self) -> &[Text<32>]
         ensures { result.now ≡ names self.now };
 
-    /// The metrics of the group, or `Worn`.
+    /// The metrics of the group's own command, or `Worn`.
     fn metrics(&mut self, group: GroupId) -> Reply
         requires { group.0 < length (names self.old) }
         ensures reply { may_show group result }

@@ -28,7 +28,7 @@ pub enum ControlWord {
 pub enum ControlLine {
     /// The names of all groups.
     Groups,
-    /// What a group shows of itself.
+    /// What the group's own command shows of itself.
     Metrics { group: GroupId },
     /// The answer to a request.
     Call { group: GroupId, request: Request },
@@ -125,12 +125,16 @@ fn close_at<C: Control>(control: &C, members: Members<'_>) -> Asked
     Ok(ControlLine::Close { group, context })
 }
 
-/// The request, unless a text is too long.
+/// The request of the group's own command, unless a text is too long.
 fn request_of(cache: Option<(u64, &str)>, arg: &str) -> Result<Request, Fault>
     ensures { result ≡ request_of (cache_view cache.entry) arg.now }
 {
     match (short_name(cache), Text::new(arg)) {
-        (Ok(cache), Ok(arg)) => Ok(Request { cache, arg }),
+        (Ok(cache), Ok(arg)) => Ok(Request {
+            command: 0,
+            cache,
+            arg,
+        }),
         _ => Err(Fault::Long),
     }
 }

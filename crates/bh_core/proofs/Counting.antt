@@ -87,9 +87,9 @@ unfolding counted_at
 counted-at w moment table health = refl
 
 -- one more event is counted at most twice
-pub counted-event : (k : EventKind) (v : View) → 0 < v.present.props.buckets → counted (with_event k v) ≤ counted v + 2
+pub counted-event : (k : EventKind) (v : View) → 0 < v.present.props.command.buckets → counted (with_event k v) ≤ counted v + 2
 counted-event k v some =
-    let w : Window = window_of v.present.props in
+    let w : Window = window_of v.present.props.command in
     let m = v.present.latest in
     omega (
       arith,
@@ -101,7 +101,7 @@ counted-event k v some =
       health-each k,
     )
 
-counted-events : (kinds : List EventKind) (v : View) → 0 < v.present.props.buckets → counted (with_events kinds v) ≤ counted v + 2 * length kinds
+counted-events : (kinds : List EventKind) (v : View) → 0 < v.present.props.command.buckets → counted (with_events kinds v) ≤ counted v + 2 * length kinds
 counted-events [] v some = omega arith
 counted-events (k ∷ kinds) v some = omega (arith, counted-event k v some, counted-events kinds (with_event k v) some)
 
@@ -115,13 +115,13 @@ present-events [] v = refl
 present-events (k ∷ kinds) v = present-events kinds (with_event k v)
 
 -- the end of an operation counts no more than its events twice
-pub counted-done : (v : View) (out : Outcome) → 0 < v.present.props.buckets → Keeps v.present out.present → counted (done v out) ≤ counted v + 2 * length out.events
+pub counted-done : (v : View) (out : Outcome) → 0 < v.present.props.command.buckets → Keeps v.present out.present → counted (done v out) ≤ counted v + 2 * length out.events
 counted-done v out some keeps =
-    let w : Window = window_of v.present.props in
+    let w : Window = window_of v.present.props.command in
     let m = v.present.latest in
     let e : View = with_events out.events v in
-    let at_end : counted (done v out) ≡ counted_at w m (done v out).table (done v out).health = λ i. counted_at (window_of (keeps.props i)) (keeps.latest i) (done v out).table (done v out).health in
-    let at_events : counted e ≡ counted_at w m e.table e.health = λ i. counted_at (window_of (present-events out.events v i).props) (present-events out.events v i).latest e.table e.health in
+    let at_end : counted (done v out) ≡ counted_at w m (done v out).table (done v out).health = λ i. counted_at (window_of (keeps.props i).command) (keeps.latest i) (done v out).table (done v out).health in
+    let at_events : counted e ≡ counted_at w m e.table e.health = λ i. counted_at (window_of (present-events out.events v i).props.command) (present-events out.events v i).latest e.table e.health in
     omega (arith, at_end, at_events, counted-events out.events v some, left out.closed w m e)
   where
     left : (closed : Bool) (w : Window) (m : ℕ) (e : View) → counted_at w m e.table (if closed then no_rows w else e.health) ≤ counted_at w m e.table e.health
@@ -140,12 +140,12 @@ counted-moved w latest moment table health some =
     )
 
 -- so the begin of a step counts no more
-pub counted-begun : (old : View) (now : ℕ) (new : View) → 0 < old.present.props.buckets → Begins old now new → counted new ≤ counted old
+pub counted-begun : (old : View) (now : ℕ) (new : View) → 0 < old.present.props.command.buckets → Begins old now new → counted new ≤ counted old
 counted-begun old now new some begins =
-    let window : window_of new.present.props ≡ window_of old.present.props = ap (λ (g : Present). window_of g.props) begins.present in
-    let same : counted new ≡ counted_at (window_of old.present.props) new.present.latest (later_table (window_of old.present.props) old.present.latest old.table new.present.latest []) (later_table (window_of old.present.props) old.present.latest old.health new.present.latest []) =
+    let window : window_of new.present.props.command ≡ window_of old.present.props.command = ap (λ (g : Present). window_of g.props.command) begins.present in
+    let same : counted new ≡ counted_at (window_of old.present.props.command) new.present.latest (later_table (window_of old.present.props.command) old.present.latest old.table new.present.latest []) (later_table (window_of old.present.props.command) old.present.latest old.health new.present.latest []) =
     λ i. counted_at (window i) new.present.latest (begins.table i) (begins.health i) in
-    omega (arith, same, counted-moved (window_of old.present.props) old.present.latest new.present.latest old.table old.health some)
+    omega (arith, same, counted-moved (window_of old.present.props.command) old.present.latest new.present.latest old.table old.health some)
 
 -- a new group counts none
 pub counted-opened : (w : Window) → counted_at w 0 (no_rows w) (no_rows w) ≡ 0

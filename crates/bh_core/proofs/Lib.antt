@@ -1,6 +1,7 @@
 pub mod Counting
 pub mod Histories
 pub mod Ops
+pub mod Pool
 pub mod Timeouts
 pub mod Joining
 pub mod Stepping

@@ -10,7 +10,8 @@ use Rattle.bh_base.specs.declared.step.Op.TheVariants as op
 use Rattle.bh_base.specs.declared.ticket.Ticket.{Ticket}
 use Rattle.bh_base.specs.declared.ticket.TicketState.{TicketState}
 use Rattle.bh_base.specs.declared.ticket.TicketState.TheVariants as ticket
-use Rattle.bh_base.specs.Machine.{Present, Outcome, busy_count, collected, collected_in, in_fallback_count, is_due, started}
+use Rattle.bh_base.specs.Commands.{is_known}
+use Rattle.bh_base.specs.Machine.{Present, Outcome, pool_busy_count, collected, collected_in, in_fallback_count, is_due, started}
 use Rattle.bh_base.specs.Replies.{is_answer_to}
 use Rattle.bh_base.specs.Runs.{View, begun, is_worn}
 use Rattle.bh_base.specs.Seen.{view_outcome, view_reply}
@@ -21,9 +22,11 @@ use Rattle.bh_core.specs.Stepping.{due_rule_of}
 use Rattle.bh_tickets.specs.declared.states.DueRule.{DueRule}
 use Rattle.bh_core.specs.Looks.{expires_some, is_assigned, is_pending, is_worn_out}
 
--- what is told of the reply of a group that is not worn
-reply_fresh : (p : Reply → Bool) (v : View) (o : Op) (now : ℕ) → is_worn v.present ≡ false → p (view_reply v o now) ≡ p (view_outcome v o now).reply
-reply_fresh p v o now fresh = ap (λ b. p (if b then reply.Worn else (view_outcome v o now).reply)) fresh
+-- what is told of the reply of a group that has the command and is not worn
+reply_fresh : (p : Reply → Bool) (v : View) (o : Op) (now : ℕ) → is_known o v.present.props ≡ true → is_worn v.present ≡ false → p (view_reply v o now) ≡ p (view_outcome v o now).reply
+reply_fresh p v o now known fresh =
+    ap (λ b. p (if b then (if is_worn v.present then reply.Worn else (view_outcome v o now).reply) else reply.NoCommand)) known
+    ∙ ap (λ b. p (if b then reply.Worn else (view_outcome v o now).reply)) fresh
 
 -- Worn
 
@@ -37,7 +40,7 @@ never_worn op.Expire = refl
 never_worn (op.Collect serial) = refl
 never_worn (op.FallbackDone serial e) = refl
 never_worn (op.Close context) = refl
-never_worn op.Read = refl
+never_worn (op.Read command) = refl
 
 not_worn_out : (o : Op) (r : Reply) → is_answer_to o r ≡ true → is_worn_out r ≡ false
 not_worn_out o (reply.Queued n) ever = refl
@@ -45,7 +48,7 @@ not_worn_out o (reply.Inline n) ever = refl
 not_worn_out o (reply.FallbackDue n c) ever = refl
 not_worn_out o (reply.Joined n) ever = refl
 not_worn_out o reply.GroupFull ever = refl
-not_worn_out o (reply.Assigned n a) ever = refl
+not_worn_out o (reply.Assigned n c a) ever = refl
 not_worn_out o reply.Idle ever = refl
 not_worn_out o reply.Done ever = refl
 not_worn_out o reply.Late ever = refl
@@ -59,11 +62,12 @@ not_worn_out o reply.NotInFallback ever = refl
 not_worn_out o (reply.Closed n) ever = refl
 not_worn_out o (reply.Metrics m) ever = refl
 not_worn_out o reply.NoGroup ever = refl
+not_worn_out o reply.NoCommand ever = refl
 not_worn_out o reply.Worn ever = absurd (let both : true ≡ false = sym ever ∙ never_worn o in cc)
 
--- a group is answered Worn once it has done its steps, and then alone
-pub worn_seen : (v : View) (o : Op) (now : ℕ) → is_worn v.present ≡ is_worn_out (view_reply v o now)
-worn_seen v o now = at (is_worn v.present)
+-- a group that has the command is answered Worn once it has done its steps, and then alone
+pub worn_seen : (v : View) (o : Op) (now : ℕ) → is_known o v.present.props ≡ true → is_worn v.present ≡ is_worn_out (view_reply v o now)
+worn_seen v o now known = at (is_worn v.present) ∙ sym (ap (λ b. is_worn_out (if b then (if is_worn v.present then reply.Worn else (view_outcome v o now).reply) else reply.NoCommand)) known)
   where
     at : (worn : Bool) → worn ≡ is_worn_out (if worn then reply.Worn else (view_outcome v o now).reply)
     at true = refl
@@ -80,11 +84,11 @@ started_with (t ∷ ts) g = at (is_queued t) (started_with ts g)
     at false h = h
 
 -- a worker that is free gets a run where a ticket is queued
-pub start_seen : (v : View) (now : ℕ) → is_worn v.present ≡ false → busy_count v.present < v.present.props.core → list_any is_queued v.present.tickets ≡ is_assigned (view_reply v op.Start now)
+pub start_seen : (v : View) (now : ℕ) → is_worn v.present ≡ false → pool_busy_count v.present < v.present.props.core → list_any is_queued v.present.tickets ≡ is_assigned (view_reply v op.Start now)
 start_seen v now fresh room =
-    let free : nat_lt (busy_count v.present) v.present.props.core ≡ true = grind (arith, nat_tests) in
+    let free : nat_lt (pool_busy_count v.present) v.present.props.core ≡ true = grind (arith, nat_tests) in
     started_with v.present.tickets (begun now v.present)
-    ∙ sym (reply_fresh is_assigned v op.Start now fresh ∙ ap (λ b. is_assigned (started (if b then find is_queued v.present.tickets else None) (begun now v.present)).reply) free)
+    ∙ sym (reply_fresh is_assigned v op.Start now refl fresh ∙ ap (λ b. is_assigned (started (if b then find is_queued v.present.tickets else None) (begun now v.present)).reply) free)
 
 -- Collect
 
@@ -95,23 +99,23 @@ not_pending false x y h k = k
 collected_with : (t : Ticket) (serial : ℕ) (g : Present) → is_unanswered t ≡ is_pending (collected (Some t) serial g).reply
 collected_with t serial g = at t.state
   where
-    at : (s : TicketState) → is_unanswered (in_state s t) ≡ is_pending (collected_in s serial g).reply
+    at : (s : TicketState) → is_unanswered (in_state s t) ≡ is_pending (collected_in s t.command serial g).reply
     at ticket.Queued = refl
     at ticket.Running = refl
     at (ticket.InFallback cause) = refl
     at (ticket.Answered answer) = refl
-    at (ticket.NeedsFallback cause) = sym (not_pending (not g.props.fallback_on) _ _ refl (not_pending (nat_le g.props.fallback_permits (in_fallback_count g)) _ _ refl refl))
+    at (ticket.NeedsFallback cause) = sym (not_pending (not g.props.command.fallback_on) _ _ refl (not_pending (nat_le g.props.command.fallback_permits (in_fallback_count t.command g)) _ _ refl refl))
 
 -- a serial that nobody holds is not Pending
 pub unheld_not_pending : (v : View) (serial now : ℕ) → is_worn v.present ≡ false → find (is_held_at serial) v.present.tickets ≡ None → false ≡ is_pending (view_reply v (op.Collect serial) now)
 unheld_not_pending v serial now fresh none =
-    sym (reply_fresh is_pending v (op.Collect serial) now fresh ∙ ap (λ o. is_pending (collected o serial (begun now v.present)).reply) none)
+    sym (reply_fresh is_pending v (op.Collect serial) now refl fresh ∙ ap (λ o. is_pending (collected o serial (begun now v.present)).reply) none)
 
 -- a held ticket is Pending until it is answered or needs its fallback
 pub collect_seen : (v : View) (serial now : ℕ) (t : Ticket) → is_worn v.present ≡ false → find (is_held_at serial) v.present.tickets ≡ Some t → is_unanswered t ≡ is_pending (view_reply v (op.Collect serial) now)
 collect_seen v serial now t fresh held =
     collected_with t serial (begun now v.present)
-    ∙ sym (reply_fresh is_pending v (op.Collect serial) now fresh ∙ ap (λ o. is_pending (collected o serial (begun now v.present)).reply) held)
+    ∙ sym (reply_fresh is_pending v (op.Collect serial) now refl fresh ∙ ap (λ o. is_pending (collected o serial (begun now v.present)).reply) held)
 
 -- Expire
 
@@ -129,4 +133,4 @@ due_rule_then v now = record (due_rule_of v.present) { moment = max v.present.la
 
 -- tickets time out where one is due at the step's moment
 pub expire_seen : (v : View) (now : ℕ) → is_worn v.present ≡ false → list_any (is_due_by (due_rule_then v now)) v.present.tickets ≡ expires_some (view_reply v op.Expire now)
-expire_seen v now fresh = any_filtered (is_due (begun now v.present)) v.present.tickets ∙ sym (reply_fresh expires_some v op.Expire now fresh)
+expire_seen v now fresh = any_filtered (is_due (begun now v.present)) v.present.tickets ∙ sym (reply_fresh expires_some v op.Expire now refl fresh)

@@ -5,16 +5,18 @@ use Rattle.std.proofs.lemmas.List.{length-set}
 use Rattle.bh_base.specs.declared.reply.Reply.{Reply}
 use Rattle.bh_base.specs.declared.reply.Reply.TheVariants.{GroupFull, NoGroup}
 use Rattle.bh_base.specs.declared.step.Step.{Step}
+use Rattle.bh_base.specs.Commands.{is_known}
 use Rattle.bh_base.specs.Replies.{can_reply}
 use Rattle.bh_base.specs.Runs.{State, View, IsSound, step, view}
 use Rattle.bh_base.specs.Seen.{view_after, view_reply}
 use Rattle.bh_base.proofs.Answering.{view_reply_fits}
+use Rattle.bh_base.proofs.Refusing.{missing_unknown, unknown_missing}
 use Rattle.bh_base.proofs.Views.{step_sound}
 use Rattle.bh_core.specs.CoreView.{CoreView, Shows}
 use Rattle.bh_core.specs.Step.{IsStep}
 use Rattle.bh_core.specs.Stepping.{IsSteady}
-use Rattle.bh_core.proofs.OneOfMany.{known, past_last, seen_reply, seen_view, step_others, step_reply, step_view}
-use Rattle.bh_core.proofs.Refused.{full_moves_on, not_unknown, worn_leaves}
+use Rattle.bh_core.proofs.OneOfMany.{known, one_view, past_last, view_at, seen_reply, seen_view, step_others, step_reply, step_view}
+use Rattle.bh_core.proofs.Refused.{full_moves_on, missing_leaves, not_unknown, worn_leaves}
 
 -- the groups of the views
 abbrev limited : ℕ → List View → CoreView
@@ -30,8 +32,11 @@ step_unknown groups x past = record {
   limit = refl;
   unknown = λ none. refl;
   unknown_same = λ none. refl;
+  missing = λ v shown lacks. absurd (past_last groups.views x.group.0 v past shown);
+  has_command = λ v shown told. absurd (past_last groups.views x.group.0 v past shown);
   worn = λ worn. refl;
   no_group = λ none. refl;
+  no_command = λ missing. refl;
   full = λ full. let other : NoGroup ≡ GroupFull = full in absurd cc;
   seen = λ v shown. absurd (past_last groups.views x.group.0 v past shown);
   kinds = refl;
@@ -47,7 +52,10 @@ step_known limit ds d e x r inside is steady said did = record {
   limit = refl;
   unknown = λ none. absurd (known ds x.group.0 d inside is none);
   unknown_same = λ none. absurd (known ds x.group.0 d inside is none);
+  missing = λ v shown lacks. said ∙ unknown_missing d x.op x.now (ap (λ (u : View). is_known x.op u.present.props) (one_view _ _ _ (view_at ds x.group.0 d inside is) shown) ∙ lacks);
+  has_command = λ v shown told. ap (λ (u : View). is_known x.op u.present.props) (sym (one_view _ _ _ (view_at ds x.group.0 d inside is) shown)) ∙ missing_unknown d x.op x.now (sym said ∙ told);
   worn = λ worn. ap (limited limit) (worn_leaves ds x.group.0 d e x.op x.now r inside is said did worn);
+  no_command = λ missing. ap (limited limit) (missing_leaves ds x.group.0 d e x.op x.now r inside is said did missing);
   no_group = λ none. absurd (not_unknown d x.op x.now r said none);
   full = λ full s shows.
       let left = full_moves_on ds x.group.0 d s x.op x.now inside is steady shows.view_is (sym (reply s shows) ∙ full) in

@@ -4,7 +4,10 @@ use Rattle.std.specs.Prelude.{◌&&◌, ◌==◌, nat_lt, slice_get, find}
 use Rattle.std.proofs.lemmas.Bool.Decides.{nat_tests}
 use Rattle.bh_base.specs.declared.ticket.Ticket.{Ticket}
 use Rattle.std.specs.List.{AllByRecursion}
+use Rattle.bh_base.specs.declared.props.GroupProps.{GroupProps}
 use Rattle.bh_base.specs.Bounds.{HeldBy}
+use Rattle.bh_base.specs.Commands.{command_count}
+use Rattle.bh_base.specs.Order.{AreKnown}
 use Rattle.bh_base.specs.Machine.{changed}
 use Rattle.bh_base.specs.Tickets.{changed_first, is_held_at, is_kept}
 use Rattle.bh_core.proofs.Ops.{with_present}
@@ -39,6 +42,10 @@ find_passes p (u ∷ ts) t e = at (p u) refl e (find_passes p ts t)
 -- no ticket that was found has more holders than are known of all
 pub held_found : (g : GroupTickets) (slot : ℕ) (p : Ticket → Bool) (t : Ticket) (most : ℕ) → HeldBy most g.items → IsFirstAt p g slot → in_slot g slot ≡ Some t → t.holders ≤ most
 held_found g slot p t most held first here = found_all p (λ u. u.holders ≤ most) g.items t held (found_is g slot p t first here)
+
+-- each ticket that was found is of a command that the group has
+pub known_found : (g : GroupTickets) (slot : ℕ) (p : Ticket → Bool) (t : Ticket) (props : GroupProps) → AreKnown props g.items → IsFirstAt p g slot → in_slot g slot ≡ Some t → t.command < command_count props
+known_found g slot p t props known first here = found_all p (λ u. u.command < command_count props) g.items t known (found_is g slot p t first here)
 
 -- a ticket that is held has a holder
 pub held_first : (g : GroupTickets) (serial slot : ℕ) → IsFirstAt (is_held_at serial) g slot → (t : Ticket) → in_slot g slot ≡ Some t → 0 < t.holders

@@ -8,7 +8,7 @@ use Rattle.bh_base.specs.declared.step.Op.{Op}
 use Rattle.bh_base.specs.Runs.{State, View, moved_on, step, view}
 use Rattle.bh_base.specs.Seen.{view_after, view_reply}
 use Rattle.bh_base.specs.Tickets.{is_kept}
-use Rattle.bh_base.proofs.Refusing.{full_leaves, known_group, worn_same}
+use Rattle.bh_base.proofs.Refusing.{full_leaves, known_group, missing_same, worn_same}
 use Rattle.bh_core.specs.Stepping.{IsSteady}
 use Rattle.bh_core.proofs.OneOfMany.{one_view, view_at}
 
@@ -22,6 +22,11 @@ same_views (x ∷ xs) (suc i) d e inside is same = ap (λ vs. x ∷ vs) (same_vi
 pub worn_leaves : (ds : List View) (i : ℕ) (d e : View) (o : Op) (now : ℕ) (r : Reply) → i < length ds → d ≡ get_or ds i d → r ≡ view_reply d o now → e ≡ view_after d o now → r ≡ reply.Worn → (set ds i e) ≡ ds
 worn_leaves ds i d e o now r inside is said did worn =
     same_views ds i d e inside is (did ∙ worn_same d o now (sym said ∙ worn))
+
+-- nor does a group change that lacks the command
+pub missing_leaves : (ds : List View) (i : ℕ) (d e : View) (o : Op) (now : ℕ) (r : Reply) → i < length ds → d ≡ get_or ds i d → r ≡ view_reply d o now → e ≡ view_after d o now → r ≡ reply.NoCommand → (set ds i e) ≡ ds
+missing_leaves ds i d e o now r inside is said did missing =
+    same_views ds i d e inside is (did ∙ missing_same d o now (sym said ∙ missing))
 
 -- a group that is there is not answered as if it were not
 pub not_unknown : (d : View) (o : Op) (now : ℕ) (r : Reply) → r ≡ view_reply d o now → r ≡ reply.NoGroup → ⊥

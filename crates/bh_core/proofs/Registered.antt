@@ -6,6 +6,7 @@ use Rattle.std.proofs.lemmas.Bool.Decides.{nat_tests}
 use Rattle.bh_base.specs.declared.props.GroupProps.{GroupProps}
 use Rattle.bh_base.specs.History.{window_of}
 use Rattle.bh_base.specs.Bounds.{HeldBy}
+use Rattle.bh_base.specs.Order.{AreKnown}
 use Rattle.bh_base.specs.Runs.{opened, view}
 use Rattle.bh_base.specs.Tickets.{is_kept}
 use Rattle.bh_core.specs.GroupView.{GroupView, HasTickets, new_group, view_in}
@@ -89,7 +90,8 @@ module _ (ts : TicketsView) (gs : List GroupView) (props : GroupProps) (limit : 
   steady = record {
     held = subst (λ (x : GroupTickets). HeldBy 0 x.items) (sym own) tt;
     kept = subst (λ (x : GroupTickets). filter is_kept x.items ≡ x.items) (sym own) refl;
-    events = omega (arith, counted-opened (window_of props));
+    known = subst (λ (x : GroupTickets). AreKnown props x.items) (sym own) tt;
+    events = omega (arith, counted-opened (window_of props.command));
   }
 
   -- with the new group behind the others, each group has the tickets of its number

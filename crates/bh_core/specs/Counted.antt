@@ -19,4 +19,4 @@ unfoldable pub counted_at : Window → ℕ → List Counts → List Counts → �
 counted_at w moment table health = counted_in w moment table + counted_in w moment health
 
 abbrev pub counted : View → ℕ
-counted v = counted_at (window_of v.present.props) v.present.latest v.table v.health
+counted v = counted_at (window_of v.present.props.command) v.present.latest v.table v.health

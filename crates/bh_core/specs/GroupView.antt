@@ -22,7 +22,7 @@ pub record GroupView : Type 0 where
 
 -- a new group
 abbrev pub new_group : ℕ → GroupProps → ℕ → GroupView
-new_group number props limit = record { number = number; props = props; limit = limit; steps = 0; circuit = new_circuit; history = history_opened (window_of props) }
+new_group number props limit = record { number = number; props = props; limit = limit; steps = 0; circuit = new_circuit; history = history_opened (window_of props.command) }
 
 -- what a group's fields show
 abbrev pub group_view : Inside → GroupView
@@ -38,13 +38,13 @@ view_in ts g = record {
 
 -- the events that its tables have
 abbrev pub counted_of : GroupView → ℕ
-counted_of g = counted_at (window_of g.props) g.history.latest g.history.table g.history.health
+counted_of g = counted_at (window_of g.props.command) g.history.latest g.history.table g.history.health
 
 -- what holds of the fields between calls: the properties are in range, and no step is done beyond the limit
 pub record IsReady (g : Inside) : Type 0 where
   pub served : IsServed g.props
   pub circuit : AreBefore g.history.latest g.circuit
-  pub window : g.history.window ≡ window_of g.props
+  pub window : g.history.window ≡ window_of g.props.command
   pub limit : g.limit ≤ 2 ^ 40
   pub steps : g.steps ≤ g.limit
 

@@ -10,7 +10,7 @@ is_worn_out _ = false
 
 -- a worker got a run
 abbrev pub is_assigned : Reply → Bool
-is_assigned (reply.Assigned serial arg) = true
+is_assigned (reply.Assigned serial command arg) = true
 is_assigned _ = false
 
 -- a holder got no answer yet, and nothing to do

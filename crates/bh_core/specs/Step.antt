@@ -1,8 +1,9 @@
 -- What one step does to all groups: it is made in its own group, and leaves the others as they were.
-use Rattle.std.specs.Prelude.{◌≡◌, ◌≢◌, ℕ, None, Some, length, slice_get, true}
+use Rattle.std.specs.Prelude.{◌≡◌, ◌≢◌, ℕ, None, Some, length, slice_get, false, true}
 use Rattle.bh_base.specs.declared.reply.Reply.{Reply}
-use Rattle.bh_base.specs.declared.reply.Reply.TheVariants.{GroupFull, NoGroup, Worn}
+use Rattle.bh_base.specs.declared.reply.Reply.TheVariants.{GroupFull, NoCommand, NoGroup, Worn}
 use Rattle.bh_base.specs.declared.step.Step.{Step}
+use Rattle.bh_base.specs.Commands.{is_known}
 use Rattle.bh_base.specs.Replies.{can_reply}
 use Rattle.bh_base.specs.Runs.{State, View, moved_on}
 use Rattle.bh_base.specs.Runs.{step as machine_step}
@@ -21,9 +22,13 @@ pub record IsStep (old : CoreView) (step : Step) (told : Reply) (new : CoreView)
   -- a group that is not registered is told so, and nothing changes
   pub unknown : slice_get old.views step.group.0 ≡ None → told ≡ NoGroup
   pub unknown_same : slice_get old.views step.group.0 ≡ None → new ≡ old
+  -- so is a step of a registered group that lacks the command which the step names, whether the group is worn or not
+  pub missing : (v : View) → slice_get old.views step.group.0 ≡ Some v → is_known step.op v.present.props ≡ false → told ≡ NoCommand
+  pub has_command : (v : View) → slice_get old.views step.group.0 ≡ Some v → told ≡ NoCommand → is_known step.op v.present.props ≡ false
   -- what a refusal leaves: all as it was, or of a full group the step's number and moment alone
   pub worn : told ≡ Worn → new ≡ old
   pub no_group : told ≡ NoGroup → new ≡ old
+  pub no_command : told ≡ NoCommand → new ≡ old
   pub full : told ≡ GroupFull → (s : State) → Shows old step.group.0 s → Shows new step.group.0 (moved_on s step.now)
   -- what can be said with no state at hand: the step by the view alone, and the kinds of replies
   pub seen : (v : View) → slice_get old.views step.group.0 ≡ Some v → (told ≡ view_reply v step.op step.now) × (slice_get new.views step.group.0 ≡ Some (view_after v step.op step.now))

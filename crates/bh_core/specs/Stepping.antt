@@ -15,6 +15,7 @@ use Rattle.bh_base.specs.Circuit.{Asked, asked, closes, is_test}
 use Rattle.bh_tickets.specs.declared.states.DueRule.{DueRule}
 use Rattle.bh_base.specs.Ranges.{IsQueueLength}
 use Rattle.bh_base.specs.Bounds.{HeldBy}
+use Rattle.bh_base.specs.Order.{AreKnown}
 use Rattle.bh_base.specs.Tickets.{is_kept}
 use Rattle.bh_base.specs.Runs.{View, begun, released}
 use Rattle.bh_base.specs.Seen.{view_rolling}
@@ -24,34 +25,37 @@ use Rattle.bh_core.specs.Counted.{counted}
 -- a step has begun and recorded nothing: its number and moment are there, and every count is what it was
 pub record Begins (old : View) (now : ℕ) (new : View) : Type 0 where
   pub present : new.present ≡ begun now old.present
-  pub table : new.table ≡ later_table (window_of old.present.props) old.present.latest old.table new.present.latest []
-  pub health : new.health ≡ later_table (window_of old.present.props) old.present.latest old.health new.present.latest []
+  pub table : new.table ≡ later_table (window_of old.present.props.command) old.present.latest old.table new.present.latest []
+  pub health : new.health ≡ later_table (window_of old.present.props.command) old.present.latest old.health new.present.latest []
   pub rolling : view_rolling new new.present.latest ≡ view_rolling old new.present.latest
 
 -- the most that the tables of a group can grow by in a step: each of its events may stand in both
 abbrev pub step_growth : ℕ
 step_growth = 2 * (4096 + 2)
 
--- in a step that has begun no count can wrap: few events are counted, and there were as many steps as serials and holders
+-- in a step that has begun no count can wrap: few events are counted, and there were as many steps as serials and
+-- holders; and each ticket is of a command that the group has
 pub record IsBounded (v : View) : Type 0 where
   pub events : counted v ≤ 2 ^ 56
   pub serial : v.present.serial ≤ v.present.steps
   pub step : 1 ≤ v.present.steps
   pub held : HeldBy (v.present.steps - 1) v.present.tickets
+  pub known : AreKnown v.present.props v.present.tickets
 
--- between steps: no ticket has more holders than there were steps, each ticket is needed, and no more events are counted
--- than so many steps can have brought
+-- between steps: no ticket has more holders than there were steps, each ticket is needed and of a command that the group
+-- has, and no more events are counted than so many steps can have brought
 pub record IsSteady (v : View) : Type 0 where
   pub held : HeldBy v.present.steps v.present.tickets
   pub kept : filter is_kept v.present.tickets ≡ v.present.tickets
+  pub known : AreKnown v.present.props v.present.tickets
   pub events : counted v ≤ step_growth * v.present.steps
 
 -- with one more event at the latest moment
 abbrev pub with_event : EventKind → View → View
 with_event k v = record {
   present = v.present;
-  table = later_table (window_of v.present.props) v.present.latest v.table v.present.latest (k ∷ []);
-  health = later_table (window_of v.present.props) v.present.latest v.health v.present.latest (filter is_of_health (k ∷ []));
+  table = later_table (window_of v.present.props.command) v.present.latest v.table v.present.latest (k ∷ []);
+  health = later_table (window_of v.present.props.command) v.present.latest v.health v.present.latest (filter is_of_health (k ∷ []));
 }
 
 -- with further events of the kinds, all at the latest moment
@@ -64,12 +68,12 @@ abbrev pub done : View → Outcome → View
 done v out = record {
   present = out.present;
   table = (with_events out.events v).table;
-  health = (if out.closed then no_rows (window_of v.present.props) else (with_events out.events v).health);
+  health = (if out.closed then no_rows (window_of v.present.props.command) else (with_events out.events v).health);
 }
 
 -- what the circuit breaker answers to a submit of the next serial, where this is the group's health
 abbrev pub asked_with : View → Health → Asked
-asked_with v h = asked v.present.props v.present.latest h v.present.serial v.present.circuit
+asked_with v h = asked v.present.props.command v.present.latest h v.present.serial v.present.circuit
 
 -- what the operation does in a step that has begun
 abbrev pub outcome_now : View → Op → Outcome
@@ -91,9 +95,9 @@ view_with_ticket request state busy test v = record v { present = with_ticket re
 -- the view once the circuit breaker was told how a ticket ended; health starts anew where that closed it
 abbrev pub view_ended : ℕ → End → View → View
 view_ended serial e v = record {
-  present = ended_in v.present serial e;
+  present = ended_in v.present 0 serial e;
   table = v.table;
-  health = (if closes serial e v.present.circuit.state then no_rows (window_of v.present.props) else v.health);
+  health = (if closes serial e v.present.circuit.state then no_rows (window_of v.present.props.command) else v.health);
 }
 
 -- tickets that nobody needs are gone
@@ -103,15 +107,15 @@ released_view v = record v { present = released v.present }
 -- the ranges of properties that the storage of a group rests on
 pub record IsServed (props : GroupProps) : Type 0 where
   pub slots : props.slots ≤ 4096
-  pub semaphore : props.semaphore < 2 ^ 32
+  pub semaphore : props.command.semaphore < 2 ^ 32
   pub core : props.core ≤ 64
   pub queue : IsQueueLength props.max_queue
-  pub buckets : 0 < props.buckets
-  pub width : 0 < props.window_ms / props.buckets
+  pub buckets : 0 < props.command.buckets
+  pub width : 0 < props.command.window_ms / props.command.buckets
 
 -- the rule by which tickets of the group are due
 abbrev pub due_rule_of : Present → DueRule
-due_rule_of g = record { timeout_on = g.props.timeout_on; timeout_ms = g.props.timeout_ms; moment = g.latest }
+due_rule_of g = record { timeout_on = g.props.command.timeout_on; timeout_ms = g.props.command.timeout_ms; moment = g.latest }
 
 -- the view once the circuit breaker was told of a test call that is due
 abbrev pub view_test_timed_out : View → View
@@ -121,7 +125,7 @@ view_test_timed_out v = record v {
   };
 }
 
--- the slot is that of the cached ticket that a request of the name joins, and there is none only where it joins none
-abbrev pub IsJoinable : Present → GroupTickets → Option (ℕ × List ℕ) → Option ℕ → Type 0
-IsJoinable g tickets name None = cached_as name g ≡ None
-IsJoinable g tickets name (Some slot) = (g.props.cache_on ≡ true) × IsFirstAt (is_joined_by name) tickets slot
+-- the slot is that of the cached ticket that the request joins, and there is none only where it joins none
+abbrev pub IsJoinable : Present → GroupTickets → Request → Option ℕ → Type 0
+IsJoinable g tickets request None = cached_as request.command request.cache g ≡ None
+IsJoinable g tickets request (Some slot) = (g.props.command.cache_on ≡ true) × IsFirstAt (is_joined_by request.command request.cache) tickets slot

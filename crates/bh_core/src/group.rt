@@ -1,7 +1,8 @@
 //! One group: its operations change it together with its tickets.
 
-ghost use Rattle.std.specs.Prelude.{◌≡◌, ◌+◌, ◌<◌, ◌≤◌, ◌^◌, IfOk, length};
+ghost use Rattle.std.specs.Prelude.{◌≡◌, ◌+◌, ◌<◌, ◌≤◌, ◌^◌, IfOk, length, true};
 ghost use Rattle.bh_base.specs.declared.step.Op.TheVariants as op;
+ghost use Rattle.bh_base.specs.Commands.{command_count, is_known};
 ghost use Rattle.bh_base.specs.Seen.{view_after, view_reply};
 ghost use Rattle.bh_core.specs.GroupView.{HasTickets, Leaves, counted_of, new_group, view_in};
 ghost use Rattle.bh_core.specs.Stepping.{Begins, IsBounded, IsDone, IsServed, IsSteady, view_ended, with_event, released_view};
@@ -54,7 +55,7 @@ impl Group {
         requires limit { limit ≤ 2 ^ 40 }
         ensures { IfOk result (λ group. group ≡ new_group number props limit) }
     {
-        let history = History::new(alloc, &props)?;
+        let history = History::new(alloc, &props.command)?;
         Ok(Group {
             number,
             props,
@@ -75,6 +76,9 @@ impl Group {
         ensures view { view_in tickets.new self.new ≡ view_after (view_in tickets.old self.old) op.now now }
         ensures left { Leaves tickets.old self.old tickets.new self.new }
     {
+        if !self.is_known(op) {
+            return Reply::NoCommand;
+        }
         if self.steps == self.limit {
             return Reply::Worn;
         }
@@ -82,6 +86,17 @@ impl Group {
         let reply = self.act(tickets, op);
         tickets.release(self.number);
         reply
+    }
+
+    /// Whether the group has the command that the operation names, if it names one.
+    fn is_known(&self, op: &Op) -> bool
+        ensures { result ≡ is_known op.now self.now.props }
+    {
+        match op {
+            Op::Submit(request) => request.command == 0,
+            Op::Read { command } => *command == 0,
+            _ => true,
+        }
     }
 
     /// The step gets its number and its moment.
@@ -99,6 +114,7 @@ impl Group {
     fn act(&mut self, tickets: &mut Tickets, op: &Op) -> Reply
         requires has { HasTickets tickets.old self.old }
         requires bounded { IsBounded (view_in tickets.old self.old) }
+        requires known { is_known op.now self.old.props ≡ true }
         ensures done { IsDone (view_in tickets.old self.old) op.now result (view_in tickets.new self.new) }
         ensures left { Leaves tickets.old self.old tickets.new self.new }
     {
@@ -111,7 +127,7 @@ impl Group {
             Op::Collect { serial } => self.collect(tickets, *serial),
             Op::FallbackDone { serial, end } => self.fallback_done(tickets, *serial, end),
             Op::Close { context } => self.close(tickets, *context),
-            Op::Read => self.read(tickets),
+            Op::Read { command } => self.read(tickets, *command),
         }
     }
 
@@ -124,10 +140,11 @@ impl Group {
         Reply::Closed(tickets.close(self.number, context))
     }
 
-    /// The metrics of the group at the step's moment.
-    fn read(&self, tickets: &Tickets) -> Reply
-        requires { HasTickets tickets.now self.now }
-        ensures { IsDone (view_in tickets.now self.now) op.Read result (view_in tickets.now self.now) }
+    /// The metrics of the command at the step's moment.
+    fn read(&self, tickets: &Tickets, command: u8) -> Reply
+        requires has { HasTickets tickets.now self.now }
+        requires known { command < command_count self.now.props }
+        ensures { IsDone (view_in tickets.now self.now) (op.Read command) result (view_in tickets.now self.now) }
     {
         let rolling = self.history.rolling();
         Reply::Metrics(Metrics {
@@ -136,8 +153,8 @@ impl Group {
             errors: rolling.health.errors,
             total: rolling.health.total,
             percent: percent(rolling.health),
-            busy: tickets.busy_count(self.number),
-            queued: tickets.queued_count(self.number),
+            busy: tickets.busy_count(self.number, command),
+            queued: tickets.queued_count(self.number, command),
             free: self.props.slots - tickets.len(self.number),
         })
     }

@@ -7,7 +7,7 @@ use Rattle.bh_base.specs.declared.circuit.CircuitState.{CircuitState}
 use Rattle.bh_base.specs.declared.reply.Answer.{Answer}
 use Rattle.bh_base.specs.declared.reply.Metrics.{Metrics}
 use Rattle.bh_base.specs.declared.reply.Reply.{Reply}
-use Rattle.bh_base.specs.declared.reply.Reply.TheVariants.{Queued, Inline, FallbackDue, Joined, GroupFull, Assigned, Idle, Done, Late, NotRunning, Expired, Pending, RunFallback, Answered, NoTicket, NotInFallback, Closed, Metrics as MetricsReply, Worn, NoGroup}
+use Rattle.bh_base.specs.declared.reply.Reply.TheVariants.{Queued, Inline, FallbackDue, Joined, GroupFull, Assigned, Idle, Done, Late, NotRunning, Expired, Pending, RunFallback, Answered, NoTicket, NotInFallback, Closed, Metrics as MetricsReply, Worn, NoCommand, NoGroup}
 use Rattle.bh_base.specs.contracts.reply.ReplyPartialEq.TheImpl.{ghosts as reply_eq}
 use Rattle.bh_base.specs.contracts.reply.AnswerPartialEq.TheImpl.{ghosts as answer_eq}
 use Rattle.bh_base.specs.contracts.reply.MetricsPartialEq.TheImpl.{ghosts as metrics_eq}
@@ -48,7 +48,7 @@ same_reply (Inline a) (Inline b) h = search rules
 same_reply (FallbackDue a cause) (FallbackDue b cause') h = search rules
 same_reply (Joined a) (Joined b) h = search rules
 same_reply GroupFull GroupFull h = refl
-same_reply (Assigned a arg) (Assigned b arg') h = search rules
+same_reply (Assigned a command arg) (Assigned b command' arg') h = search rules
 same_reply Idle Idle h = refl
 same_reply Done Done h = refl
 same_reply Late Late h = refl
@@ -62,5 +62,6 @@ same_reply NotInFallback NotInFallback h = refl
 same_reply (Closed a) (Closed b) h = search rules
 same_reply (MetricsReply a) (MetricsReply b) h = ap MetricsReply (same_metrics a b h)
 same_reply Worn Worn h = refl
+same_reply NoCommand NoCommand h = refl
 same_reply NoGroup NoGroup h = refl
 same_reply _ _ h = let e : false ≡ true = h in cc

@@ -42,8 +42,10 @@ abbrev pub AddsReceipt : Bool → PassView → Step → Reply → PassView → T
 AddsReceipt true p step reply p' = (place : ℕ) × (p' ≡ added p (receipt_of place step reply))
 AddsReceipt false p step reply p' = p' ≡ p
 
--- what a step with its reply adds to a pass: a refusal sets its own mark alone, and any other reply adds its receipt
+-- what a step with its reply adds to a pass: a refusal sets its own mark alone, that for a missing command none, and any
+-- other reply adds its receipt
 abbrev pub Adds : Bool → PassView → Step → Reply → PassView → Type 0
 Adds audited p step reply.Worn p' = p' ≡ marked_worn p
 Adds audited p step reply.NoGroup p' = p' ≡ marked_no_group p
+Adds audited p step reply.NoCommand p' = p' ≡ p
 Adds audited p step r p' = AddsReceipt audited p step r p'

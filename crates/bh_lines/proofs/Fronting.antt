@@ -1,7 +1,7 @@
 -- The line in front, found by its line feed.
-use Rattle.std.proofs.Common.{◌≡◌, ℕ, suc, ◌+◌, ◌-◌, ◌<◌, ◌≤◌, ◌==◌, Bool, true, false, cond, not, List, [], ◌∷◌, ◌++◌, length, take, drop, refl, sym, ap, ◌∙◌, subst, arith, length-drop, Some, None, Ok, Err, Bor}
-use Rattle.std.specs.List.{position_or_len, list_any}
-use Rattle.std.specs.Prelude.{slice_index, ◌||◌, ◌&&◌, nat_lt, nat_eq, if◌then◌else◌}
+use Rattle.std.proofs.Common.{◌≡◌, ℕ, suc, ◌+◌, ◌-◌, ◌<◌, ◌≤◌, ◌==◌, Bool, true, false, cond, not, List, [], ◌∷◌, ◌++◌, length, take, drop, refl, sym, ap, ◌∙◌, subst, arith, Some, None, Ok, Err, Bor}
+use Rattle.std.specs.List.{list_any}
+use Rattle.std.specs.Prelude.{slice_index, ◌||◌, ◌&&◌, nat_lt, nat_eq}
 use Rattle.std.specs.Str.{is_utf8, IsUtf8}
 use Rattle.std.proofs.lemmas.Str.{is_utf8-from_IsUtf8, IsUtf8-from_is_utf8}
 use Rattle.std.specs.Cmp.Lexicographic.{pointwise}
@@ -11,8 +11,7 @@ use Rattle.memchr.specs.Find.{IsFirstByte, is_byte}
 use Rattle.tokio_util.specs.Codec.Lines.{without_carriage_return, newline_from, read_line, Scan}
 use Rattle.tokio_util.specs.Codec.Lines as scans
 use Rattle.tokio_util.specs.Codec.LinesLaws.{read_line_found, read_line_long}
-use Rattle.bh_lines.specs.declared.front.FrontLine.{FrontLine}
-use Rattle.bh_lines.specs.Lines.{Cut, line, ended, stopped, less_return, cut, has_line}
+use Rattle.bh_lines.specs.Lines.{line, ended, stopped, less_return, cut, has_line}
 use Rattle.bh_lines.specs.Front.{IsFront, IsEnd, IsTextOf}
 use Rattle.bh_lines.specs.declared.port_error.PortError.{PortError}
 use Rattle.bh_lines.specs.declared.port_error.PortError.TheVariants.{Read, Write, Line, Memory}

@@ -6,3 +6,4 @@ pub mod FlatReading
 pub mod LinesThen
 pub mod GroupNumber
 pub mod PortErrors
+pub mod Room

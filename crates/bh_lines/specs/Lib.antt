@@ -1,3 +1,4 @@
+pub mod Bounded
 pub mod Lines
 pub mod Taken
 pub mod StepLine

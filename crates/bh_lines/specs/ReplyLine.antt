@@ -133,7 +133,7 @@ reply_data (reply.Inline serial) = numbered (codes "inline") serial
 reply_data (reply.FallbackDue serial cause) = fallback_due_data serial cause
 reply_data (reply.Joined serial) = numbered (codes "joined") serial
 reply_data reply.GroupFull = named (codes "group-full")
-reply_data (reply.Assigned serial arg) = assigned_data serial arg
+reply_data (reply.Assigned serial command arg) = assigned_data serial arg
 reply_data reply.Idle = named (codes "idle")
 reply_data reply.Done = named (codes "done")
 reply_data reply.Late = named (codes "late")
@@ -147,6 +147,7 @@ reply_data reply.NotInFallback = named (codes "not-in-fallback")
 reply_data (reply.Closed n) = closed_data n
 reply_data (reply.Metrics metrics) = metrics_data metrics
 reply_data reply.Worn = named (codes "worn")
+reply_data reply.NoCommand = named (codes "no-command")
 reply_data reply.NoGroup = named (codes "no-group")
 
 -- a line is the compact text and a line feed

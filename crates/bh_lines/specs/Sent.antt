@@ -1,18 +1,33 @@
 -- What is sent to a writer of JSON.
-use Rattle.std.specs.Prelude.{◌≡◌, ℕ, List, [], ◌∷◌, ◌++◌, ◌==◌, if◌then◌else◌, decimal, Result, OnOk}
+use Rattle.std.specs.Prelude.{◌≡◌, ◌+◌, ◌<◌, ◌≤◌, ℕ, List, [], ◌∷◌, ◌++◌, ◌==◌, if◌then◌else◌, decimal, length, Result, OnOk, OnErr}
 use Rattle.std.specs.declared.alloc.AllocError.{AllocError}
 use Rattle.json.specs.Token.{Token, key, string, number}
-use Rattle.json.specs.Tree.{json_tokens}
+use Rattle.json.specs.Print.{token_text}
+use Rattle.json.specs.Tree.{json_tokens, room}
 use Rattle.json.specs.Written.{Written}
 use Rattle.serde_json.specs.Data.{Data}
 use Rattle.serde_json.specs.Written.{outline}
 use Rattle.bh_lines.specs.declared.writing.Member.{Member}
 use Rattle.bh_lines.specs.declared.writing.Member.TheVariants as members
 
--- what stood before the tokens stays, and where all went well, these tokens were sent behind those sent before
+-- the most bytes that a token takes: twenty digits for a number
+abbrev pub most_of : Token → ℕ
+most_of (number digits) = 20
+most_of t = length (token_text t)
+
+-- the most room that tokens take, each with a comma
+abbrev pub most_room : List Token → ℕ
+most_room [] = 0
+most_room (t ∷ ts) = most_of t + 1 + most_room ts
+
+-- what stood before the tokens stays; where all went well, these tokens were sent behind those sent before, within the most
+-- room that they take; and it failed only where there was not that room
 pub record Sends (result : Result (Unit {0}) AllocError) (old new : Written) (sent : List Token) : Type 0 where
   pub before : new.before ≡ old.before
   pub tokens : OnOk result (new.tokens ≡ old.tokens ++ sent)
+  pub size : OnOk result (room sent ≤ most_room sent)
+  pub spare : OnOk result (old.spare ≤ new.spare + most_room sent)
+  pub full : OnErr result (old.spare < most_room sent)
 
 -- the tokens of members, in their order
 abbrev pub member_tokens : List Member → List Token

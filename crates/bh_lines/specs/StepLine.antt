@@ -74,12 +74,12 @@ fallback_end_of word d =
     (if bytes_eq word (codes "failure") then Ok ends.Failure else
     (if bytes_eq word (codes "missing") then Ok ends.Missing else Err faults.Field))
 
--- the operation that an object says, with texts of any length
+-- the operation that an object says, with texts of any length; its command is the group's own
 abbrev pub op_at : OpWord → Data → Result Op Fault
 op_at words.Submit d = do
   cache ← cache_of (get (codes "context") d) (get (codes "key") d)
   arg ← or_fault faults.Field (text_at (codes "arg") d)
-  Ok (op.Submit (record { cache = cache; arg = arg }))
+  Ok (op.Submit (record { command = 0; cache = cache; arg = arg }))
 op_at words.Start d = Ok op.Start
 op_at words.Finish d = do
   ticket ← or_fault faults.Field (number_at (codes "ticket") d)
@@ -101,7 +101,7 @@ op_at words.FallbackDone d = do
 op_at words.Close d = do
   context ← or_fault faults.Field (number_at (codes "context") d)
   Ok (op.Close context)
-op_at words.Read d = Ok op.Read
+op_at words.Read d = Ok (op.Read 0)
 
 -- a key is of at most 32 bytes
 abbrev pub is_short_name : Option (ℕ × List ℕ) → Bool
@@ -174,7 +174,7 @@ end_view end_lines.Missing = ends.Missing
 
 -- the operation that the code found
 abbrev pub op_view : OpLine → Op
-op_view (lines.Submit cache arg) = op.Submit (record { cache = cache_view cache; arg = arg.now })
+op_view (lines.Submit cache arg) = op.Submit (record { command = 0; cache = cache_view cache; arg = arg.now })
 op_view lines.Start = op.Start
 op_view (lines.Finish ticket body) = op.Finish ticket body.now
 op_view (lines.Fail ticket bad) = op.Fail ticket bad
@@ -182,7 +182,7 @@ op_view lines.Expire = op.Expire
 op_view (lines.Collect ticket) = op.Collect ticket
 op_view (lines.FallbackDone ticket end) = op.FallbackDone ticket (end_view end)
 op_view (lines.Close context) = op.Close context
-op_view lines.Read = op.Read
+op_view lines.Read = op.Read 0
 
 -- the operation that the code found, or the fault
 abbrev pub found_op : Result OpLine Fault → Result Op Fault

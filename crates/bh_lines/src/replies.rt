@@ -1,11 +1,12 @@
 //! Replies, each printed as a line of compact JSON with its members in the order of their names.
 
-ghost use Rattle.std.specs.Prelude.{◌≡◌, ◌≤◌, ◌++◌, ◌∷◌, [], false, map, length, take, IfOk, IsOk, OnErr, OnOk, string_bytes};
+ghost use Rattle.std.specs.Prelude.{◌≡◌, ◌+◌, ◌≤◌, ◌++◌, ◌∷◌, [], false, map, length, take, IfOk, IsOk, OnErr, OnOk, string_bytes, vec_capacity, vec_len};
 ghost use Rattle.json.specs.Print.{print};
 ghost use Rattle.serde_json.specs.View.{view};
 ghost use Rattle.serde_json.specs.Written.{has_float};
 ghost use Rattle.bh_lines.specs.ReplyLine.{cause_word, fallback_word, circuit_word, named, numbered, fallback_due_data, assigned_data, expired_data, run_fallback_data, closed_data, value_data, fallback_value_data, error_answer_data, events_data, metrics_data, answer_data, reply_data, json_line, reply_line};
 ghost use Rattle.bh_lines.specs.FaultLine.{error_data};
+ghost use Rattle.bh_lines.specs.Bounded.{IsShortAnswer, IsShortReply};
 ghost use Rattle.bh_lines.specs.Sent.{Sends, data_tokens, counts_tokens};
 
 use crate::writing::{
@@ -19,16 +20,37 @@ use std::mem;
 
 /// Puts the line of a reply, with its line feed, behind the bytes. It fails only for want of memory, and leaves the bytes
 /// as they were then.
-#[tactic(auto, unfolding(crate::specs::ReplyLine::reply_line))]
 pub fn put_reply(alloc: Global, bytes: &mut Vec<u8>, reply: &Reply) -> Result<(), AllocError>
     ensures ok { OnOk result (bytes.new.items ≡ bytes.old.items ++ reply_line reply.now) }
     ensures err { OnErr result (bytes.new.items ≡ bytes.old.items) }
 {
     let start = bytes.len();
+    let written = put_object(alloc, bytes, reply);
+    end_line(bytes, start, written)
+}
+
+/// Puts the line of a reply, without its line feed, behind the bytes, within the room that is there: this takes no memory
+/// and cannot fail.
+pub fn put_reply_within(alloc: Global, bytes: &mut Vec<u8>, reply: &Reply)
+    requires { vec_len bytes.old + 2047 ≤ vec_capacity bytes.old }
+    ensures line { bytes.new.items ++ 10 ∷ [] ≡ bytes.old.items ++ reply_line reply.now }
+    ensures length { length (reply_line reply.now) ≤ 2048 }
+{
+    put_object(alloc, bytes, reply).unwrap();
+}
+
+/// Puts the line of a reply, without its line feed, behind the bytes. It fails only for want of memory, and not where there
+/// is room for 2,047 bytes more; some of the line may be there then.
+fn put_object(alloc: Global, bytes: &mut Vec<u8>, reply: &Reply) -> Result<(), AllocError>
+    ensures line { OnOk result (bytes.new.items ++ 10 ∷ [] ≡ bytes.old.items ++ reply_line reply.now) }
+    ensures length { OnOk result (length (reply_line reply.now) ≤ 2048) }
+    ensures front { take (length bytes.old.items) bytes.new.items ≡ bytes.old.items }
+    ensures room { vec_len bytes.old + 2047 ≤ vec_capacity bytes.old → IsOk result }
+{
     let mut writer = Writer::new(mem::replace(bytes, Vec::new(alloc)));
     let written = write_reply(&mut writer, reply);
     *bytes = writer.into_inner();
-    end_line(bytes, start, written)
+    written
 }
 
 /// Puts the line that says why nothing was done, with its line feed, behind the bytes: an object whose one member `error`
@@ -78,7 +100,8 @@ pub fn json_line(alloc: Global, value: &Value) -> Result<String, AllocError>
 
 /// The object of a reply.
 fn write_reply(writer: &mut Writer, reply: &Reply) -> Result<(), AllocError>
-    ensures { Sends result writer.old writer.new (data_tokens (reply_data reply.now)) }
+    ensures sent { Sends result writer.old writer.new (data_tokens (reply_data reply.now)) }
+    ensures short { IsShortReply reply.now }
 {
     match reply {
         Reply::Queued(serial) => write_numbered(writer, "queued", *serial),
@@ -86,7 +109,7 @@ fn write_reply(writer: &mut Writer, reply: &Reply) -> Result<(), AllocError>
         Reply::FallbackDue { serial, cause } => write_fallback_due(writer, *serial, *cause),
         Reply::Joined(serial) => write_numbered(writer, "joined", *serial),
         Reply::GroupFull => write_named(writer, "group-full"),
-        Reply::Assigned { serial, arg } => write_assigned(writer, *serial, arg.as_str()),
+        Reply::Assigned { serial, arg, .. } => write_assigned(writer, *serial, arg.as_str()),
         Reply::Idle => write_named(writer, "idle"),
         Reply::Done => write_named(writer, "done"),
         Reply::Late => write_named(writer, "late"),
@@ -100,6 +123,7 @@ fn write_reply(writer: &mut Writer, reply: &Reply) -> Result<(), AllocError>
         Reply::Closed(count) => write_closed(writer, *count),
         Reply::Metrics(metrics) => write_metrics(writer, metrics),
         Reply::Worn => write_named(writer, "worn"),
+        Reply::NoCommand => write_named(writer, "no-command"),
         Reply::NoGroup => write_named(writer, "no-group"),
     }
 }
@@ -182,7 +206,8 @@ fn write_closed(writer: &mut Writer, count: u64) -> Result<(), AllocError>
 
 /// The answer to a request.
 fn write_answer(writer: &mut Writer, answer: &Answer) -> Result<(), AllocError>
-    ensures { Sends result writer.old writer.new (data_tokens (answer_data answer.now)) }
+    ensures sent { Sends result writer.old writer.new (data_tokens (answer_data answer.now)) }
+    ensures short { IsShortAnswer answer.now }
 {
     match answer {
         Answer::Value(body) => write_value(writer, body.as_str()),

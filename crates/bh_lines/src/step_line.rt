@@ -173,7 +173,11 @@ pub fn if_short(said: OpLine<'_>) -> Result<Op, Fault>
         OpLine::Submit { cache, arg } => {
             let cache = short_name(cache)?;
             let arg = Text::new(arg).map_err(|_| Fault::Long)?;
-            Ok(Op::Submit(Request { cache, arg }))
+            Ok(Op::Submit(Request {
+                command: 0,
+                cache,
+                arg,
+            }))
         }
         OpLine::Start => Ok(Op::Start),
         OpLine::Finish { ticket, body } => match Text::new(body) {
@@ -197,7 +201,7 @@ pub fn if_short(said: OpLine<'_>) -> Result<Op, Fault>
             })
         }
         OpLine::Close { context } => Ok(Op::Close { context }),
-        OpLine::Read => Ok(Op::Read),
+        OpLine::Read => Ok(Op::Read { command: 0 }),
     }
 }
 

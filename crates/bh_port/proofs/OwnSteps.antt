@@ -1,6 +1,6 @@
 -- What the groups look like after one step more.
-use Rattle.std.proofs.Common.{◌≡◌, ◌≢◌, ℕ, ◌<◌, Bool, true, false, List, [], ◌∷◌, ◌++◌, length, Some, refl, sym, ◌∙◌, ap, subst, arith, rules, append-nil, zero, suc}
-use Rattle.std.specs.Prelude.{◌==◌, slice_get, map, if◌then◌else◌}
+use Rattle.std.proofs.Common.{◌≡◌, ◌≢◌, ℕ, ◌<◌, Bool, true, false, List, [], ◌∷◌, ◌++◌, length, Some, refl, sym, ◌∙◌, ap, subst, arith, rules, zero, suc}
+use Rattle.std.specs.Prelude.{◌==◌, slice_get, map}
 use Rattle.std.proofs.lemmas.Bool.Decides.{nat_tests}
 use Rattle.bh_base.specs.declared.props.GroupProps.{GroupProps}
 use Rattle.bh_base.specs.declared.step.Step.{Step}

@@ -4,7 +4,7 @@ use Rattle.std.proofs.lemmas.Bool.{leb-true, eqb-true}
 use Rattle.std.proofs.lemmas.List.Elements.{All-map}
 use Rattle.std.specs.List.{find}
 use Rattle.toml.specs.Data.{Data, string, integer, float, boolean, datetime, array, table}
-use Rattle.bh_base.specs.Ranges.{IsInRange, IsQueueLength}
+use Rattle.bh_base.specs.Ranges.{IsCommandInRange, IsInRange, IsQueueLength}
 use Rattle.bh_props.specs.declared.error.SettingsError.TheVariants as refusals
 use Rattle.bh_props.specs.declared.property.Property.{Property}
 use Rattle.bh_props.specs.declared.property.Property.TheVariants as properties
@@ -16,7 +16,7 @@ use Rattle.bh_props.specs.declared.value.Fault.TheVariants.{WrongType, OutOfRang
 use Rattle.bh_props.specs.Table.{row, all}
 use Rattle.bh_props.specs.InForce.{given, within, queue_size, read_as, read_given, in_force}
 use Rattle.bh_props.specs.Refusals.{has_fault, is_at_fault, refused_at, number, checked_values, checked_windows}
-use Rattle.bh_props.specs.Settings.{IsAuditLimit, optional_number, props_of, group_in_force}
+use Rattle.bh_props.specs.Settings.{IsAuditLimit, optional_number, command_of, props_of, group_in_force}
 
 -- what is read as one of a kind is in its range
 abbrev Accepted : Kind → Result PropertyValue Fault → Type 0
@@ -110,10 +110,12 @@ accepted-at i name d h l built_in =
     let (v, is) = faultless (in_force p name d) (find-none _ all i properties.Slots h.types l) (find-none _ all i properties.Slots h.ranges l) in
     read_given-accepted p (given p name d) v built_in is
 
-group-in_range : (name : List ℕ) (d : Data) → IsFaultless name d → IsInRange (props_of (λ p. in_force p name d))
+below : (n : ℕ) → n ≤ 4294967295 → n < 2 ^ 32
+below n h = omega arith
+
+command-in_range : (name : List ℕ) (d : Data) → IsFaultless name d → IsCommandInRange (command_of (λ p. in_force p name d))
 unfolding all
-group-in_range name d h =
-    let slots = accepted-at 1 name d h (lit< tt) (lit≤ tt, lit≤ tt) in
+command-in_range name d h =
     let timeout = accepted-at 3 name d h (lit< tt) (lit≤ tt, lit≤ tt) in
     let semaphore = accepted-at 5 name d h (lit< tt) (lit≤ tt, lit≤ tt) in
     let fallback_permits = accepted-at 6 name d h (lit< tt) (lit≤ tt, lit≤ tt) in
@@ -123,11 +125,7 @@ group-in_range name d h =
     let window = accepted-at 14 name d h (lit< tt) (lit≤ tt, lit≤ tt) in
     let buckets = accepted-at 15 name d h (lit< tt) (lit≤ tt, lit≤ tt) in
     let health = accepted-at 16 name d h (lit< tt) (lit≤ tt, lit≤ tt) in
-    let core = accepted-at 18 name d h (lit< tt) (lit≤ tt, lit≤ tt) in
-    let queue_threshold = accepted-at 20 name d h (lit< tt) (lit≤ tt, lit≤ tt) in
     record {
-      some_slots = slots.0;
-      few_slots = slots.1;
       timeout = below _ timeout.1;
       semaphore = below _ semaphore.1;
       fallback_permits = below _ fallback_permits.1;
@@ -140,17 +138,26 @@ group-in_range name d h =
       few_buckets = buckets.1;
       whole_buckets = whole _ _ buckets.0 h.windows;
       health = below _ health.1;
+    }
+  where
+    whole : (n by : ℕ) → 1 ≤ by → (n % by == 0) ≡ true → by * (n / by) ≡ n
+    whole n by some even = let rest : n % by ≡ 0 = eqb-true (n % by) 0 even in let above : 0 < by = omega arith in omega arith
+
+group-in_range : (name : List ℕ) (d : Data) → IsFaultless name d → IsInRange (props_of (λ p. in_force p name d))
+unfolding all
+group-in_range name d h =
+    let slots = accepted-at 1 name d h (lit< tt) (lit≤ tt, lit≤ tt) in
+    let core = accepted-at 18 name d h (lit< tt) (lit≤ tt, lit≤ tt) in
+    let queue_threshold = accepted-at 20 name d h (lit< tt) (lit≤ tt, lit≤ tt) in
+    record {
+      some_slots = slots.0;
+      few_slots = slots.1;
       some_core = core.0;
       small_core = core.1;
       queue = accepted-at 19 name d h (lit< tt) tt;
       queue_threshold = below _ queue_threshold.1;
+      command = command-in_range name d h;
     }
-  where
-    below : (n : ℕ) → n ≤ 4294967295 → n < 2 ^ 32
-    below n h = omega arith
-
-    whole : (n by : ℕ) → 1 ≤ by → (n % by == 0) ≡ true → by * (n / by) ≡ n
-    whole n by some even = let rest : n % by ≡ 0 = eqb-true (n % by) 0 even in let above : 0 < by = omega arith in omega arith
 
 values-passed : (fault : Fault) (d : Data) (names : List (List ℕ)) (i : ℕ) (e : List ℕ) → checked_values fault d names ≡ Ok tt → i < length names → find (is_at_fault fault (get_or names i e) d) all ≡ None
 values-passed fault d [] i e h l = absurd (omega arith)

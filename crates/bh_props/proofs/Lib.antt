@@ -3,3 +3,4 @@ pub mod Dotted
 pub mod Groups
 pub mod InRange
 pub mod Named
+pub mod SettingsFile

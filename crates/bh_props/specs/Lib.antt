@@ -7,3 +7,4 @@ pub mod SettingsView
 pub mod Settings
 pub mod Printed
 pub mod Shown
+pub mod SettingsFile

@@ -5,6 +5,7 @@ use Rattle.toml.specs.Data.{Data, table, Members}
 use Rattle.toml.specs.Parse.{parse_document}
 use Rattle.bh_base.specs.declared.props.Strategy.{Strategy}
 use Rattle.bh_base.specs.declared.props.Strategy.TheVariants as strategies
+use Rattle.bh_base.specs.declared.props.CommandProps.{CommandProps}
 use Rattle.bh_base.specs.declared.props.GroupProps.{GroupProps}
 use Rattle.bh_props.specs.declared.property.Property.{Property}
 use Rattle.bh_props.specs.declared.property.Property.TheVariants as properties
@@ -38,10 +39,9 @@ abbrev pub optional_number : Result PropertyValue Fault → Option ℕ
 optional_number (Ok (values.Number n)) = Some n
 optional_number _ = None
 
--- the fields of a group, each of the value in force of its property
-abbrev pub props_of : (Property → Result PropertyValue Fault) → GroupProps
-props_of value = record {
-  slots = number (value properties.Slots);
+-- the fields of a command, each of the value in force of its property
+abbrev pub command_of : (Property → Result PropertyValue Fault) → CommandProps
+command_of value = record {
   strategy = strategy (value properties.Strategy);
   timeout_ms = number (value properties.Timeout);
   timeout_on = truth (value properties.TimeoutOn);
@@ -58,6 +58,13 @@ props_of value = record {
   buckets = number (value properties.Buckets);
   health_ms = number (value properties.HealthInterval);
   cache_on = truth (value properties.CacheOn);
+}
+
+-- the fields of a group
+abbrev pub props_of : (Property → Result PropertyValue Fault) → GroupProps
+props_of value = record {
+  slots = number (value properties.Slots);
+  command = command_of value;
   core = number (value properties.CoreSize);
   max_queue = optional_number (value properties.MaxQueue);
   queue_threshold = number (value properties.QueueThreshold);

@@ -12,9 +12,12 @@ mod property;
 mod reading;
 mod service;
 mod settings;
+mod settings_file;
 mod value;
 
 pub use error::SettingsError;
+pub use names::is_name;
 pub use property::Property;
 pub use reading::read;
 pub use settings::Settings;
+pub use settings_file::settings_in;

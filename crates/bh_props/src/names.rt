@@ -73,8 +73,8 @@ fn has_name_bytes(bytes: &[u8]) -> bool
     bytes.iter().all(|b| is_name_byte(*b))
 }
 
-/// Whether the text may name a group.
-fn is_name(name: &str) -> bool
+/// Whether the text may name a group: 1 to 32 letters, digits, `_` and `-`, and not `default`.
+pub fn is_name(name: &str) -> bool
     ensures { result ≡ is_name name.now }
 {
     let bytes = name.as_bytes();

@@ -6,13 +6,13 @@ ghost use Rattle.toml.specs.View.{view};
 ghost use Rattle.bh_base.specs.Ranges.{IsInRange, IsQueueLength-prop};
 ghost use Rattle.bh_props.specs.InForce.{in_force};
 ghost use Rattle.bh_props.specs.Names.{first_twice};
-ghost use Rattle.bh_props.specs.Settings.{IsAuditLimit, truth, strategy, optional_number, props_of, group_in_force};
+ghost use Rattle.bh_props.specs.Settings.{IsAuditLimit, truth, strategy, optional_number, command_of, props_of, group_in_force};
 
 use crate::check::number_in_force;
 use crate::in_force::in_force;
 use crate::property::Property;
 use crate::value::PropertyValue;
-use bh_base::{GroupProps, Strategy, Text};
+use bh_base::{CommandProps, GroupProps, Strategy, Text};
 use indexmap::IndexMap;
 use std::alloc::{AllocError, Global};
 use toml::Value;
@@ -60,6 +60,18 @@ fn props_in_force(root: &Value, group: &str) -> GroupProps
 {
     GroupProps {
         slots: number_in_force(root, Property::Slots, group),
+        command: command_in_force(root, group),
+        core: number_in_force(root, Property::CoreSize, group),
+        max_queue: optional_number_in_force(root, Property::MaxQueue, group),
+        queue_threshold: number_in_force(root, Property::QueueThreshold, group),
+    }
+}
+
+/// The properties of the group's command, each by the value in force.
+fn command_in_force(root: &Value, group: &str) -> CommandProps
+    ensures { result ≡ command_of (λ p. in_force p group.now (view root.now)) }
+{
+    CommandProps {
         strategy: strategy_in_force(root, group),
         timeout_ms: number_in_force(root, Property::Timeout, group),
         timeout_on: truth_in_force(root, Property::TimeoutOn, group),
@@ -76,9 +88,6 @@ fn props_in_force(root: &Value, group: &str) -> GroupProps
         buckets: number_in_force(root, Property::Buckets, group),
         health_ms: number_in_force(root, Property::HealthInterval, group),
         cache_on: truth_in_force(root, Property::CacheOn, group),
-        core: number_in_force(root, Property::CoreSize, group),
-        max_queue: optional_number_in_force(root, Property::MaxQueue, group),
-        queue_threshold: number_in_force(root, Property::QueueThreshold, group),
     }
 }
 

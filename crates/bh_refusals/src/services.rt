@@ -215,11 +215,11 @@ struct Counting {
 }
 
 impl Dependency for Counting {
-    ghost ends = { λ group arg end. Unit {0} };
+    ghost ends = { λ group command arg end. Unit {0} };
 
-    ghost fallback_ends = { λ group cause arg end. Unit {0} };
+    ghost fallback_ends = { λ group command cause arg end. Unit {0} };
 
-    fn run(&self, _group: GroupId, arg: &Text<64>) -> RunEnd {
+    fn run(&self, _group: GroupId, _command: u8, arg: &Text<64>) -> RunEnd {
         self.begun.fetch_add(1, Ordering::SeqCst);
         let end = match Text::new(arg.as_str()) {
             Ok(body) => RunEnd::Success(body),
@@ -229,7 +229,13 @@ impl Dependency for Counting {
         end
     }
 
-    fn fallback(&self, _group: GroupId, _cause: Cause, _arg: &Text<64>) -> FallbackEnd {
+    fn fallback(
+        &self,
+        _group: GroupId,
+        _command: u8,
+        _cause: Cause,
+        _arg: &Text<64>,
+    ) -> FallbackEnd {
         FallbackEnd::Missing
     }
 }

@@ -1,10 +1,12 @@
 //! A worked run of two groups with a ticket each, which shows that groups are as they are to be.
 
 ghost use Rattle.std.specs.Prelude.{◌≡◌, ◌≤◌, ◌^◌, IfOk, OnOk, length};
-ghost use Rattle.bh_base.specs.Ranges.{IsInRange};
+ghost use Rattle.bh_base.specs.Ranges.{IsCommandInRange, IsInRange};
 ghost use Rattle.bh_audit.specs.Books.{AreNew};
 
-use bh_base::{Answer, GroupId, GroupProps, Op, Reply, Request, Step, Strategy, Text};
+use bh_base::{
+    Answer, CommandProps, GroupId, GroupProps, Op, Reply, Request, Step, Strategy, Text,
+};
 use bh_core::{Core, RegisterError};
 use std::alloc::Global;
 use std::process::Abort;
@@ -13,12 +15,11 @@ pub const A: GroupId = GroupId(0);
 
 pub const B: GroupId = GroupId(1);
 
-/// The settings that are built in, with a pool of one worker and four slots.
-pub(crate) fn props() -> GroupProps
-    ensures { IsInRange result }
+/// The settings of a command that are built in.
+fn command() -> CommandProps
+    ensures { IsCommandInRange result }
 {
-    GroupProps {
-        slots: 4,
+    CommandProps {
         strategy: Strategy::Thread,
         timeout_ms: 1000,
         timeout_on: true,
@@ -35,6 +36,16 @@ pub(crate) fn props() -> GroupProps
         buckets: 10,
         health_ms: 500,
         cache_on: true,
+    }
+}
+
+/// The settings that are built in, with a pool of one worker and four slots.
+pub(crate) fn props() -> GroupProps
+    ensures { IsInRange result }
+{
+    GroupProps {
+        slots: 4,
+        command: command(),
         core: 1,
         max_queue: None,
         queue_threshold: 5,
@@ -74,8 +85,11 @@ pub(crate) fn text<const N: usize>(of: &str) -> Text<N>
 pub(crate) fn request(arg: &str) -> Request
     requires fits { length arg.now ≤ 64 }
 {
-    let arg = text(arg);
-    Request { cache: None, arg }
+    Request {
+        command: 0,
+        cache: None,
+        arg: text(arg),
+    }
 }
 
 fn submit(arg: &str) -> Op
@@ -117,8 +131,11 @@ pub(crate) fn steps() -> [Step; 8] {
 fn assigned(arg: &str) -> Reply
     requires fits { length arg.now ≤ 64 }
 {
-    let arg = text(arg);
-    Reply::Assigned { serial: 1, arg }
+    Reply::Assigned {
+        serial: 1,
+        command: 0,
+        arg: text(arg),
+    }
 }
 
 fn value(body: &str) -> Reply

@@ -1,5 +1,5 @@
 -- What a service behind a port may answer, and what it was asked.
-use Rattle.std.specs.Prelude.{◌≡◌, ℕ, ◌≤◌, ◌⊎◌, true, List, Option, Some, None, Result, Err, if◌then◌else◌}
+use Rattle.std.specs.Prelude.{◌≡◌, ◌≢◌, ℕ, ◌≤◌, ◌⊎◌, true, List, Option, Some, None, Result, Err, if◌then◌else◌}
 use Rattle.bh_base.specs.declared.step.GroupId.{GroupId}
 use Rattle.bh_base.specs.declared.step.Op.{Op}
 use Rattle.bh_base.specs.declared.step.Request.{Request}
@@ -21,16 +21,20 @@ use Rattle.bh_audit.specs.Service.{ServiceView}
 use Rattle.bh_workers.specs.Calls.{CallAdds, IsCall}
 use Rattle.bh_workers.specs.Receipts.{StepAdds}
 
--- a reply that a Read can get
+-- a reply that the operation can get, and not that its command is missing
+abbrev pub MayTell : Op → Reply → Type 0
+MayTell o told = (can_reply o told ≡ true) × (told ≢ reply.NoCommand)
+
+-- a reply that a Read of the group's own command can get
 abbrev pub MayShow : GroupId → Reply → Type 0
-MayShow group reply = can_reply op.Read reply ≡ true
+MayShow group told = MayTell (op.Read 0) told
 
 -- a reply that a Close can get
 abbrev pub MayClose : GroupId → ℕ → Reply → Type 0
-MayClose group context reply = can_reply (op.Close context) reply ≡ true
+MayClose group context told = MayTell (op.Close context) told
 
 -- an answer that steps of a call of the request could give, the runs and the fallbacks in it ending as the dependency may
-abbrev pub MayAnswer : (GroupId → List ℕ → RunEnd → Type 0) → (GroupId → Cause → List ℕ → FallbackEnd → Type 0) → (ℕ → Type 0) → GroupId → Request → Result Answer CallError → Type 0
+abbrev pub MayAnswer : (GroupId → ℕ → List ℕ → RunEnd → Type 0) → (GroupId → ℕ → Cause → List ℕ → FallbackEnd → Type 0) → (ℕ → Type 0) → GroupId → Request → Result Answer CallError → Type 0
 MayAnswer ends fallback_ends moments group request answer = (made : List Receipt) × IsCall ends fallback_ends moments group request answer made
 
 -- a new pass of the group: it has room in an audited service alone
@@ -50,7 +54,7 @@ refused_as refused.Memory = error.PassFull
 
 -- a call of the request was made with a new pass, and was answered so; where no pass was taken, there is no such group,
 -- or memory for the receipts of an audited service was refused
-abbrev pub IsCalled : (GroupId → List ℕ → RunEnd → Type 0) → (GroupId → Cause → List ℕ → FallbackEnd → Type 0) → (ℕ → Type 0) → ServiceView → GroupId → Request → Result Answer CallError → Option PassView → Type 0
+abbrev pub IsCalled : (GroupId → ℕ → List ℕ → RunEnd → Type 0) → (GroupId → ℕ → Cause → List ℕ → FallbackEnd → Type 0) → (ℕ → Type 0) → ServiceView → GroupId → Request → Result Answer CallError → Option PassView → Type 0
 IsCalled ends fallback_ends moments service group request result (Some p) =
     CallAdds service.audited (new_pass service group 5) result p (IsCall ends fallback_ends moments group request result)
 IsCalled ends fallback_ends moments service group request result None =

@@ -4,6 +4,7 @@ ghost use Rattle.std.specs.Prelude.{◌≡◌, Err, None, true};
 ghost use Rattle.bh_base.specs.declared.reply.CallError.TheVariants.{PassFull};
 ghost use Rattle.bh_base.specs.declared.step.Op.TheVariants as op;
 ghost use Rattle.bh_base.specs.Replies.{can_reply};
+ghost use Rattle.bh_audit.specs.Calls.{CanBeMissing};
 ghost use Rattle.bh_serve.specs.Served.{IsCalled, IsStepped, MayAnswer, MayClose, MayShow, refused_as};
 
 use crate::names::GroupNames;
@@ -67,6 +68,7 @@ impl<'e, R: Wait, D: Dependency, C: Clock> ServiceControl<'e, R, D, C> {
     fn step(&mut self, group: GroupId, op: Op) -> Reply
         requires { can_reply op Reply.NoGroup ≡ true }
         ensures kinds { can_reply op result ≡ true }
+        ensures missing { result ≡ Reply.NoCommand → CanBeMissing op }
         ensures names { self.new.names ≡ self.old.names }
         ensures made { IsStepped C.moments self.old.service group op result self.new.last }
     {
@@ -109,9 +111,9 @@ impl<'e, R: Wait, D: Dependency, C: Clock> Control for ServiceControl<'e, R, D, 
     fn metrics(&mut self, group: GroupId) -> Reply
         ensures reply { MayShow group result }
         ensures groups { self.new.names ≡ self.old.names }
-        ensures made { IsStepped C.moments self.old.service group op.Read result self.new.last }
+        ensures made { IsStepped C.moments self.old.service group (op.Read 0) result self.new.last }
     {
-        self.step(group, Op::Read)
+        self.step(group, Op::Read { command: 0 })
     }
 
     fn call(&mut self, group: GroupId, request: Request) -> Result<Answer, CallError>

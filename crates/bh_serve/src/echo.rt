@@ -9,7 +9,7 @@ use std::rt::Clock;
 use std::thread;
 use std::time::Duration;
 
-/// The dependency of every group: a run gives its argument back.
+/// The dependency of every group and command: a run gives its argument back.
 ///
 /// | Argument | Run | Fallback |
 /// |-|-|-|
@@ -35,11 +35,11 @@ impl<'e, R: Clock> Dependency for Echo<'e, R> {
     ghost use Rattle.std.specs.Prelude.{◌≡◌};
     ghost use Rattle.bh_serve.specs.Echo.{run_end, fallback_end};
 
-    ghost ends = { λ group arg end. end ≡ run_end arg };
+    ghost ends = { λ group command arg end. end ≡ run_end arg };
 
-    ghost fallback_ends = { λ group cause arg end. end ≡ fallback_end arg };
+    ghost fallback_ends = { λ group command cause arg end. end ≡ fallback_end arg };
 
-    fn run(&self, _group: GroupId, arg: &Text<64>) -> RunEnd {
+    fn run(&self, _group: GroupId, _command: u8, arg: &Text<64>) -> RunEnd {
         let arg = arg.as_str();
         if let Some(millis) = sleep_of(arg) {
             thread::sleep(self.rt, Duration::from_millis(millis));
@@ -47,7 +47,13 @@ impl<'e, R: Clock> Dependency for Echo<'e, R> {
         run_end(arg)
     }
 
-    fn fallback(&self, _group: GroupId, _cause: Cause, arg: &Text<64>) -> FallbackEnd {
+    fn fallback(
+        &self,
+        _group: GroupId,
+        _command: u8,
+        _cause: Cause,
+        arg: &Text<64>,
+    ) -> FallbackEnd {
         fallback_end(arg.as_str())
     }
 }

@@ -3,11 +3,11 @@
 
 ghost use Rattle.std.specs.Prelude.{◌≤◌, ◌^◌};
 
-use crate::samples::{props, step, text};
+use crate::samples::{by_callers, own_request, props, step, text};
 use crate::script::{assert_text, number, reply_text, split_line, split_word, step_of};
 use crate::services::{A, B, assert_end, service, share, three_groups, two_groups};
 use bh_audit::{Book, Clock, Next, Pass, PassError, Shared, StepError};
-use bh_base::{GroupId, GroupProps, Op, Reply, Request, Strategy, Text};
+use bh_base::{GroupId, Op, Reply, Text};
 use std::alloc::{AllocError, Global};
 use std::process::Abort;
 use std::sync::Wait;
@@ -34,7 +34,7 @@ fn told_text(alloc: Global, told: &Result<Reply, StepError>) -> Result<String, A
 
 fn next_text(alloc: Global, told: &Result<Next, StepError>) -> Result<String, AllocError> {
     match told {
-        Ok(Next::Assigned { serial, arg }) => format!(in alloc;
+        Ok(Next::Assigned { serial, arg, .. }) => format!(in alloc;
             "Assigned({serial} {})",
             arg.as_str()
         ),
@@ -92,10 +92,7 @@ fn cached_text<R: Wait>(
 ) -> Result<String, AllocError> {
     let key = Text::new(arg).unwrap_or(text("x"));
     let arg = Text::new(arg).unwrap_or(text("x"));
-    let request = Request {
-        cache: Some((0, key)),
-        arg,
-    };
+    let request = own_request(Some((0, key)), arg);
     let asked = step(pass.group().0, 0, &Op::Submit(request));
     told_text(alloc, &shared.step(rt, pass, asked))
 }
@@ -299,11 +296,7 @@ fn workers_text<R: Wait>(rt: &R, alloc: Global, shared: &Shared) -> Result<Strin
 
 #[test]
 fn groups_and_their_workers(rt: HostRuntime) {
-    let by_callers = GroupProps {
-        strategy: Strategy::Semaphore,
-        ..props()
-    };
-    let shared = service(&rt, props(), by_callers, 10);
+    let shared = service(&rt, props(), by_callers(), 10);
     assert!(rt; shared.audited());
     let text = workers_text(&rt, rt.alloc(), &shared);
     assert_text(&rt, text, "2 groups: 10 0 0", "the workers");

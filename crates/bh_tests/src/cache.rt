@@ -2,8 +2,8 @@
 
 ghost use Rattle.std.specs.Prelude.{◌≤◌, length};
 
-use crate::samples::{props, step, text};
-use bh_base::{Op, Reply, Request};
+use crate::samples::{own_request, props, step, text};
+use bh_base::{Op, Reply};
 use bh_core::Core;
 use std::process::Abort;
 
@@ -12,10 +12,7 @@ fn request(context: u64, key: &str) -> Op
     requires fits { length key.now ≤ 32 }
 {
     let (arg, key) = (text("x"), text(key));
-    Op::Submit(Request {
-        cache: Some((context, key)),
-        arg,
-    })
+    Op::Submit(own_request(Some((context, key)), arg))
 }
 
 /// Asserts what the group is told.

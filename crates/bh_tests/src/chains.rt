@@ -2,9 +2,9 @@
 
 ghost use Rattle.bh_base.specs.Ranges.{IsInRange};
 
-use crate::samples::{props, step, text};
+use crate::samples::{command, own_request, props_with, step, text};
 use crate::script::assert_number;
-use bh_base::{GroupProps, Op, Reply, Request, Serial, Text};
+use bh_base::{CommandProps, GroupProps, Op, Reply, Serial, Text};
 use bh_core::Core;
 use std::process::Abort;
 
@@ -23,11 +23,14 @@ struct Name {
 fn never_running() -> GroupProps
     ensures { IsInRange result }
 {
-    GroupProps {
-        slots: 4096,
+    let command = CommandProps {
         force_open: true,
         fallback_on: false,
-        ..props()
+        ..command()
+    };
+    GroupProps {
+        slots: 4096,
+        ..props_with(command)
     }
 }
 
@@ -58,10 +61,7 @@ fn walk(names: &[Name], name: &Name) -> Option<Serial> {
 
 /// What the group is told for a request of the name.
 fn ask(core: &mut Core, name: &Name) -> Reply {
-    let request = Request {
-        cache: Some((name.context, name.key)),
-        arg: text("x"),
-    };
+    let request = own_request(Some((name.context, name.key)), text("x"));
     core.apply(step(0, 0, &Op::Submit(request)))
 }
 

@@ -1,15 +1,15 @@
 //! The circuit breaker.
 
-use crate::samples;
-use bh_base::GroupProps;
+use crate::samples::command;
+use bh_base::CommandProps;
 use bh_circuit::{Admit, Circuit, CircuitState, End, Health, percent};
 use std::process::Abort;
 
 /// Settings under which a single error opens the circuit breaker, for 5,000 ms.
-fn props() -> GroupProps {
-    GroupProps {
+fn props() -> CommandProps {
+    CommandProps {
         volume: 1,
-        ..samples::props()
+        ..command()
     }
 }
 

@@ -9,7 +9,7 @@ use std::alloc::Global;
 use std::process::Abort;
 
 /// A service of the groups a and b whose answers are made up: a call is answered by its argument, or by the reason that
-/// the argument names, and a close by the number of the group.
+/// the argument names, a close by the number of the group, and metrics as of a group with no command or a worn one.
 #[derive(Drop)]
 struct MadeUp {
     names: [Text<32>; 2],
@@ -28,8 +28,11 @@ impl Control for MadeUp {
         &self.names
     }
 
-    fn metrics(&mut self, _group: GroupId) -> Reply {
-        Reply::Worn
+    fn metrics(&mut self, group: GroupId) -> Reply {
+        match group.0 {
+            0 => Reply::NoCommand,
+            _ => Reply::Worn,
+        }
     }
 
     fn call(&mut self, _group: GroupId, request: Request) -> Result<Answer, CallError> {
@@ -40,6 +43,7 @@ impl Control for MadeUp {
             "stopped" => Err(CallError::Stopped),
             "taken" => Err(CallError::Taken),
             "no group" => Err(CallError::NoGroup),
+            "no command" => Err(CallError::NoCommand),
             arg => Ok(Answer::Value(Text::new(arg).unwrap_or(text("")))),
         }
     }
@@ -160,6 +164,9 @@ const LINES: &str = r#"{"op":"close","group":"a","context":7} = {"released":0,"r
 {"op":"call","group":"a","arg":"stopped"} = {"error":"stopped"}
 {"op":"call","group":"a","arg":"taken"} = {"error":"taken"}
 {"op":"call","group":"a","arg":"no group"} = {"error":"group"}
+{"op":"call","group":"a","arg":"no command"} = {"error":"command"}
+{"op":"metrics","group":"a"} = {"reply":"no-command"}
+{"op":"metrics","group":"b"} = {"reply":"worn"}
 {"op":"call","group":"z","arg":"hi"} = {"error":"group"}
 {"op":"call","group":"a","arg":"hi","key":"k"} = {"error":"field"}
 {"op":"submit","group":"a","now":0,"arg":"hi"} = {"error":"op"}

@@ -84,7 +84,7 @@ fn second_group_has_no_slots(rt: HostRuntime) {
 }
 
 /// A core of one group that may do so many steps.
-fn core_of_one(rt: &(impl Abort + AllocGlobal), steps: u64) -> Core
+pub(crate) fn core_of_one(rt: &(impl Abort + AllocGlobal), steps: u64) -> Core
     requires some { 1 ≤ steps }
     requires few { steps ≤ 2 ^ 40 }
 {
@@ -132,7 +132,7 @@ fn looks_say_what_a_step_is_answered(rt: HostRuntime) {
     let mut core = core_of_one(&rt, 5);
     assert!(rt; shown_in(&core) == Some((props(), 5)));
     play(&rt, &mut core, LOOKS);
-    core.apply(step(0, 1000, &Op::Read));
+    core.apply(step(0, 1000, &Op::Read { command: 0 }));
     play(&rt, &mut core, "worn 0 = 1");
 }
 

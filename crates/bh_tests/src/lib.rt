@@ -19,6 +19,8 @@ mod chains;
 #[cfg(test)]
 mod circuit;
 #[cfg(test)]
+mod commands;
+#[cfg(test)]
 mod conversation_order;
 #[cfg(test)]
 mod conversations;

@@ -1,62 +1,74 @@
 //! Random steps of three groups: each is told what a core tells it in which it stands alone.
 
-ghost use Rattle.std.specs.Prelude.{◌<◌};
-ghost use Rattle.bh_base.specs.Ranges.{IsInRange};
+ghost use Rattle.std.specs.Prelude.{◌<◌, ◌≤◌};
+ghost use Rattle.bh_base.specs.Ranges.{IsCommandInRange, IsInRange};
 
-use crate::samples::{step, text};
-use bh_base::{FallbackEnd, GroupProps, Moment, Op, Reply, Request, Serial, Strategy};
+use crate::samples::{command, own_request, props_with, step, text};
+use bh_base::{
+    CommandProps, FallbackEnd, GroupProps, Moment, Op, Reply, Request, Serial, Strategy,
+};
 use bh_core::Core;
 use rand_core::{Rng, SeedableRng};
 use rand_xoshiro::Xoshiro256PlusPlus;
 use std::process::Abort;
 
-/// A group of forty slots, with limits so small that each of them is met every few steps.
-fn forty_slots() -> GroupProps
-    ensures { IsInRange result }
+/// A command with limits so small that each of them is met every few steps.
+fn tight() -> CommandProps
+    ensures { IsCommandInRange result }
 {
-    GroupProps {
-        slots: 40,
-        strategy: Strategy::Thread,
+    CommandProps {
         timeout_ms: 4,
-        timeout_on: true,
         semaphore: 2,
         fallback_permits: 1,
-        fallback_on: true,
-        circuit_on: true,
         volume: 3,
         sleep_ms: 6,
         percent: 40,
-        force_open: false,
-        force_closed: false,
         window_ms: 20,
         buckets: 4,
         health_ms: 3,
-        cache_on: true,
+        ..command()
+    }
+}
+
+/// A group of so many slots and the command, with limits as small.
+fn group(slots: u64, command: CommandProps) -> GroupProps
+    requires some { 1 ≤ slots }
+    requires few { slots ≤ 4096 }
+    requires command { IsCommandInRange command }
+    ensures { IsInRange result }
+{
+    GroupProps {
+        slots,
         core: 2,
         max_queue: Some(2),
         queue_threshold: 1,
+        ..props_with(command)
     }
+}
+
+/// A group of forty slots.
+fn forty_slots() -> GroupProps
+    ensures { IsInRange result }
+{
+    group(40, tight())
 }
 
 /// A group of one slot.
 fn one_slot() -> GroupProps
     ensures { IsInRange result }
 {
-    GroupProps {
-        slots: 1,
-        ..forty_slots()
-    }
+    group(1, tight())
 }
 
 /// A group of three slots, which runs its tickets under permits.
 fn three_slots() -> GroupProps
     ensures { IsInRange result }
 {
-    GroupProps {
-        slots: 3,
+    let command = CommandProps {
         strategy: Strategy::Semaphore,
-        ..forty_slots()
-    }
+        ..tight()
+    };
+    group(3, command)
 }
 
 /// A number below the limit.
@@ -82,8 +94,7 @@ fn request(rng: &mut Xoshiro256PlusPlus) -> Request {
         1..=7 => Some((context(rng), text("key"))),
         _ => None,
     };
-    let arg = text("arg");
-    Request { cache, arg }
+    own_request(cache, text("arg"))
 }
 
 /// How a fallback ends, each way about as often.
@@ -133,7 +144,7 @@ fn operation(rng: &mut Xoshiro256PlusPlus, serial: u64) -> Op {
             0 => Op::Close {
                 context: context(rng),
             },
-            _ => Op::Read,
+            _ => Op::Read { command: 0 },
         },
     }
 }

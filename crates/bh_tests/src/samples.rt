@@ -1,16 +1,15 @@
 //! What the tests share.
 
 ghost use Rattle.std.specs.Prelude.{◌≡◌, ◌≤◌, length};
-ghost use Rattle.bh_base.specs.Ranges.{IsInRange};
+ghost use Rattle.bh_base.specs.Ranges.{IsCommandInRange, IsInRange};
 
-use bh_base::{GroupId, GroupProps, Op, Request, Step, Strategy, Text};
+use bh_base::{CommandProps, GroupId, GroupProps, Op, Request, Step, Strategy, Text};
 
-/// The settings that are built in.
-pub(crate) fn props() -> GroupProps
-    ensures { IsInRange result }
+/// The settings of a command that are built in.
+pub(crate) fn command() -> CommandProps
+    ensures { IsCommandInRange result }
 {
-    GroupProps {
-        slots: 64,
+    CommandProps {
         strategy: Strategy::Thread,
         timeout_ms: 1000,
         timeout_on: true,
@@ -27,10 +26,38 @@ pub(crate) fn props() -> GroupProps
         buckets: 10,
         health_ms: 500,
         cache_on: true,
+    }
+}
+
+/// The settings of a group that are built in, with those of its command.
+pub(crate) fn props_with(command: CommandProps) -> GroupProps
+    requires command { IsCommandInRange command }
+    ensures { IsInRange result }
+{
+    GroupProps {
+        slots: 64,
+        command,
         core: 10,
         max_queue: None,
         queue_threshold: 5,
     }
+}
+
+/// The settings that are built in.
+pub(crate) fn props() -> GroupProps
+    ensures { IsInRange result }
+{
+    props_with(command())
+}
+
+/// The settings that are built in, save that callers run their requests themselves.
+pub(crate) fn by_callers() -> GroupProps
+    ensures { IsInRange result }
+{
+    props_with(CommandProps {
+        strategy: Strategy::Semaphore,
+        ..command()
+    })
 }
 
 /// A step of the group at the moment.
@@ -51,10 +78,18 @@ pub(crate) fn text<const N: usize>(of: &str) -> Text<N>
     Text::new(of).unwrap()
 }
 
+/// A request of the group's own command.
+pub(crate) fn own_request(cache: Option<(u64, Text<32>)>, arg: Text<64>) -> Request {
+    Request {
+        command: 0,
+        cache,
+        arg,
+    }
+}
+
 /// Asks for a run that is not cached.
 pub(crate) fn submit(arg: &str) -> Op
     requires fits { length arg.now ≤ 64 }
 {
-    let arg = text(arg);
-    Op::Submit(Request { cache: None, arg })
+    Op::Submit(own_request(None, text(arg)))
 }

@@ -21,9 +21,19 @@ pub(crate) fn split_line(line: &str) -> (&str, &str) {
     line.split_once(" = ").unwrap_or((line, ""))
 }
 
-fn submit(arg: &str) -> Option<Op> {
+/// The number of a command, or the last that there may be.
+fn command(word: &str) -> u8 {
+    word.parse::<u8>().unwrap_or(u8::MAX)
+}
+
+fn submit(command: u8, arg: &str) -> Option<Op> {
     let arg = Text::new(arg).ok()?;
-    Some(Op::Submit(Request { cache: None, arg }))
+    let request = Request {
+        command,
+        cache: None,
+        arg,
+    };
+    Some(Op::Submit(request))
 }
 
 fn finish(serial: u64, body: &str) -> Option<Op> {
@@ -34,7 +44,14 @@ fn finish(serial: u64, body: &str) -> Option<Op> {
 /// An operation that says more than its name.
 fn operation_of(name: &str, rest: &str) -> Option<Op> {
     match name {
-        "submit" => submit(rest),
+        "submit" => submit(0, rest),
+        "submit-of" => {
+            let (of, arg) = split_word(rest);
+            submit(command(of), arg)
+        }
+        "read-of" => Some(Op::Read {
+            command: command(rest),
+        }),
         "collect" => Some(Op::Collect {
             serial: number(rest),
         }),
@@ -50,7 +67,7 @@ fn operation(words: &str) -> Option<Op> {
     match words {
         "start" => Some(Op::Start),
         "expire" => Some(Op::Expire),
-        "read" => Some(Op::Read),
+        "read" => Some(Op::Read { command: 0 }),
         _ => {
             let (name, rest) = split_word(words);
             operation_of(name, rest)
@@ -73,7 +90,10 @@ pub(crate) fn step_of(words: &str) -> Option<Step> {
 /// The reply, with its texts as texts.
 pub(crate) fn reply_text(alloc: Global, reply: &Reply) -> Result<String, AllocError> {
     match reply {
-        Reply::Assigned { serial, arg } => format!(in alloc; "Assigned({serial} {})", arg.as_str()),
+        Reply::Assigned { serial, arg, .. } => format!(in alloc;
+            "Assigned({serial} {})",
+            arg.as_str()
+        ),
         Reply::Answered(Answer::Value(body)) => format!(in alloc; "Value({})", body.as_str()),
         other => format!(in alloc; "{other:?}"),
     }

@@ -4,7 +4,7 @@ ghost use Rattle.std.specs.Prelude.{◌≡◌, ◌≤◌, ◌^◌, IfOk, IfSome,
 ghost use Rattle.bh_base.specs.Ranges.{IsInRange};
 ghost use Rattle.bh_audit.specs.Books.{AreNew};
 
-use crate::samples::{props, text};
+use crate::samples::{own_request, props, text};
 use crate::script::{assert_text, number, split_word};
 use bh_audit::{AuditError, AuditReport, Book, Clock, Pass, Shared};
 use bh_base::{
@@ -91,8 +91,7 @@ pub(crate) fn share<R: Abort + AllocGlobal>(rt: &R, core: Core, audit: Option<u6
 pub(crate) fn request(arg: &str) -> Request
     requires fits { length arg.now ≤ 64 }
 {
-    let arg = text(arg);
-    Request { cache: None, arg }
+    own_request(None, text(arg))
 }
 
 /// The requests of these words to the group.
@@ -100,7 +99,7 @@ pub(crate) fn requests(alloc: Global, words: &str) -> Option<Vec<Request>> {
     let mut requests = Vec::new(alloc);
     for word in words.split_whitespace() {
         let arg = Text::new(word).ok()?;
-        requests.push(Request { cache: None, arg }).ok()?;
+        requests.push(own_request(None, arg)).ok()?;
     }
     Some(requests)
 }
@@ -234,7 +233,7 @@ fn same_requests(alloc: Global, number: u64) -> Option<Vec<Request>> {
     let mut requests = Vec::new(alloc);
     for _ in 0..number {
         let arg = Text::new("x").ok()?;
-        requests.push(Request { cache: None, arg }).ok()?;
+        requests.push(own_request(None, arg)).ok()?;
     }
     Some(requests)
 }
@@ -333,15 +332,21 @@ pub(crate) fn success(arg: &Text<64>) -> RunEnd {
 pub struct Echo;
 
 impl Dependency for Echo {
-    ghost ends = { λ group arg end. Unit {0} };
+    ghost ends = { λ group command arg end. Unit {0} };
 
-    ghost fallback_ends = { λ group cause arg end. Unit {0} };
+    ghost fallback_ends = { λ group command cause arg end. Unit {0} };
 
-    fn run(&self, _group: GroupId, arg: &Text<64>) -> RunEnd {
+    fn run(&self, _group: GroupId, _command: u8, arg: &Text<64>) -> RunEnd {
         success(arg)
     }
 
-    fn fallback(&self, _group: GroupId, _cause: Cause, _arg: &Text<64>) -> FallbackEnd {
+    fn fallback(
+        &self,
+        _group: GroupId,
+        _command: u8,
+        _cause: Cause,
+        _arg: &Text<64>,
+    ) -> FallbackEnd {
         FallbackEnd::Missing
     }
 }

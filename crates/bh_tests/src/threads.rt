@@ -21,11 +21,11 @@ struct HoldsFirst<'a, R> {
 }
 
 impl<'a, R: rt::Clock> Dependency for HoldsFirst<'a, R> {
-    ghost ends = { λ group arg end. Unit {0} };
+    ghost ends = { λ group command arg end. Unit {0} };
 
-    ghost fallback_ends = { λ group cause arg end. Unit {0} };
+    ghost fallback_ends = { λ group command cause arg end. Unit {0} };
 
-    fn run(&self, group: GroupId, arg: &Text<64>) -> RunEnd {
+    fn run(&self, group: GroupId, _command: u8, arg: &Text<64>) -> RunEnd {
         if group == A {
             self.begun.come();
             return self.answered.success_after(1, arg);
@@ -36,7 +36,13 @@ impl<'a, R: rt::Clock> Dependency for HoldsFirst<'a, R> {
         self.begun.success_after(1, arg)
     }
 
-    fn fallback(&self, _group: GroupId, _cause: Cause, _arg: &Text<64>) -> FallbackEnd {
+    fn fallback(
+        &self,
+        _group: GroupId,
+        _command: u8,
+        _cause: Cause,
+        _arg: &Text<64>,
+    ) -> FallbackEnd {
         FallbackEnd::Missing
     }
 }
@@ -62,16 +68,22 @@ struct Meets<'a, R> {
 }
 
 impl<'a, R: rt::Clock> Dependency for Meets<'a, R> {
-    ghost ends = { λ group arg end. Unit {0} };
+    ghost ends = { λ group command arg end. Unit {0} };
 
-    ghost fallback_ends = { λ group cause arg end. Unit {0} };
+    ghost fallback_ends = { λ group command cause arg end. Unit {0} };
 
-    fn run(&self, _group: GroupId, arg: &Text<64>) -> RunEnd {
+    fn run(&self, _group: GroupId, _command: u8, arg: &Text<64>) -> RunEnd {
         self.begun.come();
         self.begun.success_after(2, arg)
     }
 
-    fn fallback(&self, _group: GroupId, _cause: Cause, _arg: &Text<64>) -> FallbackEnd {
+    fn fallback(
+        &self,
+        _group: GroupId,
+        _command: u8,
+        _cause: Cause,
+        _arg: &Text<64>,
+    ) -> FallbackEnd {
         FallbackEnd::Missing
     }
 }
@@ -115,16 +127,22 @@ struct HoldsRuns<'a, R> {
 }
 
 impl<'a, R: rt::Clock> Dependency for HoldsRuns<'a, R> {
-    ghost ends = { λ group arg end. Unit {0} };
+    ghost ends = { λ group command arg end. Unit {0} };
 
-    ghost fallback_ends = { λ group cause arg end. Unit {0} };
+    ghost fallback_ends = { λ group command cause arg end. Unit {0} };
 
-    fn run(&self, _group: GroupId, arg: &Text<64>) -> RunEnd {
+    fn run(&self, _group: GroupId, _command: u8, arg: &Text<64>) -> RunEnd {
         self.begun.come();
         self.fallen_back.success_after(1, arg)
     }
 
-    fn fallback(&self, _group: GroupId, _cause: Cause, _arg: &Text<64>) -> FallbackEnd {
+    fn fallback(
+        &self,
+        _group: GroupId,
+        _command: u8,
+        _cause: Cause,
+        _arg: &Text<64>,
+    ) -> FallbackEnd {
         self.fallen_back.come();
         instead()
     }

@@ -1,15 +1,15 @@
 //! Runs whose dependency fails, is slow or refuses by chance: the account agrees with all passes, and each journal is what
 //! a core tells that has the group alone.
 
-ghost use Rattle.bh_base.specs.Ranges.{IsInRange};
+ghost use Rattle.bh_base.specs.Ranges.{IsCommandInRange, IsInRange};
 
-use crate::samples::{props, text};
+use crate::samples::{command, own_request, props_with, text};
 use crate::script::assert_number;
 use crate::services::{A, B, drive_lists, report_of, service, success};
 use bh_audit::Clock;
 use bh_base::{
-    CallError, Cause, FallbackEnd, GroupId, GroupProps, Moment, Reply, Request, RunEnd, Step,
-    Strategy, Text,
+    CallError, Cause, CommandProps, FallbackEnd, GroupId, GroupProps, Moment, Reply, Request,
+    RunEnd, Step, Strategy, Text,
 };
 use bh_core::Core;
 use bh_workers::{Dependency, Driven, RequestList};
@@ -49,11 +49,11 @@ fn slow_success(arg: &Text<64>) -> RunEnd {
 }
 
 impl Dependency for Chance {
-    ghost ends = { λ group arg end. Unit {0} };
+    ghost ends = { λ group command arg end. Unit {0} };
 
-    ghost fallback_ends = { λ group cause arg end. Unit {0} };
+    ghost fallback_ends = { λ group command cause arg end. Unit {0} };
 
-    fn run(&self, _group: GroupId, arg: &Text<64>) -> RunEnd {
+    fn run(&self, _group: GroupId, _command: u8, arg: &Text<64>) -> RunEnd {
         match self.draw(6) {
             0 => RunEnd::Failure,
             1 => RunEnd::BadRequest,
@@ -62,7 +62,13 @@ impl Dependency for Chance {
         }
     }
 
-    fn fallback(&self, _group: GroupId, _cause: Cause, _arg: &Text<64>) -> FallbackEnd {
+    fn fallback(
+        &self,
+        _group: GroupId,
+        _command: u8,
+        _cause: Cause,
+        _arg: &Text<64>,
+    ) -> FallbackEnd {
         match self.draw(3) {
             0 => FallbackEnd::Success(text("instead")),
             1 => FallbackEnd::Failure,
@@ -85,15 +91,11 @@ impl Clock for Rises {
     }
 }
 
-/// A group with limits so small that each is met now and then.
-fn small() -> GroupProps
-    ensures { IsInRange result }
+/// A command with limits so small that each is met now and then.
+fn tight() -> CommandProps
+    ensures { IsCommandInRange result }
 {
-    GroupProps {
-        slots: 4,
-        core: 2,
-        max_queue: Some(1),
-        queue_threshold: 1,
+    CommandProps {
         timeout_ms: 30,
         fallback_permits: 1,
         volume: 5,
@@ -101,19 +103,39 @@ fn small() -> GroupProps
         window_ms: 100,
         buckets: 4,
         health_ms: 3,
-        ..props()
+        ..command()
     }
+}
+
+/// A group of the command, with limits as small.
+fn small_with(command: CommandProps) -> GroupProps
+    requires command { IsCommandInRange command }
+    ensures { IsInRange result }
+{
+    GroupProps {
+        slots: 4,
+        core: 2,
+        max_queue: Some(1),
+        queue_threshold: 1,
+        ..props_with(command)
+    }
+}
+
+fn small() -> GroupProps
+    ensures { IsInRange result }
+{
+    small_with(tight())
 }
 
 /// The same, whose callers run their requests themselves.
 fn by_callers() -> GroupProps
     ensures { IsInRange result }
 {
-    GroupProps {
+    small_with(CommandProps {
         strategy: Strategy::Semaphore,
         semaphore: 2,
-        ..small()
-    }
+        ..tight()
+    })
 }
 
 /// Requests of which every third may join another.
@@ -126,7 +148,7 @@ fn requests_of(alloc: Global, number: u64) -> Option<Vec<Request>> {
             None
         };
         let arg = text("x");
-        requests.push(Request { cache, arg }).ok()?;
+        requests.push(own_request(cache, arg)).ok()?;
     }
     Some(requests)
 }

@@ -1,6 +1,6 @@
 //! Threads under stress: a group that is full, worn or stopped while others run, want of room, and many calls at once.
 
-use crate::samples::props;
+use crate::samples::{command, props, props_with};
 use crate::script::assert_number;
 use crate::services::{
     A, B, Echo, Still, assert_drive, assert_end, drive_lists, report_of, request, same_lists,
@@ -8,7 +8,9 @@ use crate::services::{
 };
 use crate::threads_gates::{Gate, assert_passed};
 use bh_audit::{Pass, Shared, StepError};
-use bh_base::{Answer, CallError, Cause, FallbackEnd, GroupId, GroupProps, Reply, RunEnd, Text};
+use bh_base::{
+    Answer, CallError, Cause, CommandProps, FallbackEnd, GroupId, GroupProps, Reply, RunEnd, Text,
+};
 use bh_workers::{Dependency, Driven, call, worker_loop};
 use std::process::Abort;
 use std::sync::{Mutex, Wait};
@@ -44,11 +46,11 @@ impl<'a, R: Wait + rt::Clock> FullGroup<'a, R> {
 }
 
 impl<'a, R: Wait + rt::Clock> Dependency for FullGroup<'a, R> {
-    ghost ends = { λ group arg end. Unit {0} };
+    ghost ends = { λ group command arg end. Unit {0} };
 
-    ghost fallback_ends = { λ group cause arg end. Unit {0} };
+    ghost fallback_ends = { λ group command cause arg end. Unit {0} };
 
-    fn run(&self, group: GroupId, arg: &Text<64>) -> RunEnd {
+    fn run(&self, group: GroupId, _command: u8, arg: &Text<64>) -> RunEnd {
         if group == A {
             self.call_again();
             return self.begun.success_after(101, arg);
@@ -57,7 +59,13 @@ impl<'a, R: Wait + rt::Clock> Dependency for FullGroup<'a, R> {
         self.refused.success_after(1, arg)
     }
 
-    fn fallback(&self, _group: GroupId, _cause: Cause, _arg: &Text<64>) -> FallbackEnd {
+    fn fallback(
+        &self,
+        _group: GroupId,
+        _command: u8,
+        _cause: Cause,
+        _arg: &Text<64>,
+    ) -> FallbackEnd {
         FallbackEnd::Missing
     }
 }
@@ -128,16 +136,22 @@ struct HeldUntilTold<'a, R> {
 }
 
 impl<'a, R: rt::Clock> Dependency for HeldUntilTold<'a, R> {
-    ghost ends = { λ group arg end. Unit {0} };
+    ghost ends = { λ group command arg end. Unit {0} };
 
-    ghost fallback_ends = { λ group cause arg end. Unit {0} };
+    ghost fallback_ends = { λ group command cause arg end. Unit {0} };
 
-    fn run(&self, _group: GroupId, arg: &Text<64>) -> RunEnd {
+    fn run(&self, _group: GroupId, _command: u8, arg: &Text<64>) -> RunEnd {
         self.begun.come();
         self.told.success_after(1, arg)
     }
 
-    fn fallback(&self, _group: GroupId, _cause: Cause, _arg: &Text<64>) -> FallbackEnd {
+    fn fallback(
+        &self,
+        _group: GroupId,
+        _command: u8,
+        _cause: Cause,
+        _arg: &Text<64>,
+    ) -> FallbackEnd {
         FallbackEnd::Missing
     }
 }
@@ -212,11 +226,14 @@ fn stopped_in_the_middle(rt: HostRuntime) {
 /// ends a wait.
 #[test]
 fn worker_goes_on_where_its_pass_is_full(rt: HostRuntime) {
+    let command = CommandProps {
+        timeout_on: false,
+        ..command()
+    };
     let one_worker = GroupProps {
         core: 1,
         max_queue: Some(5),
-        timeout_on: false,
-        ..props()
+        ..props_with(command)
     };
     let shared = service(&rt, one_worker, props(), 100);
     let lists = same_lists(rt.alloc(), &[(A, 1), (A, 1), (A, 1)]).expect(&rt, "memory");

@@ -61,7 +61,7 @@ fn wake<R: Wait + rt::Clock + Abort + AllocGlobal>(
     shared.stop(rt);
     let pass = own.get_mut(0).expect(rt, "a pass");
     for _ in 0..case.limit {
-        let _ = shared.step(rt, pass, step(0, 0, &Op::Read));
+        let _ = shared.step(rt, pass, step(0, 0, &Op::Read { command: 0 }));
     }
 }
 

@@ -1,13 +1,13 @@
 //! Calls and drives: what they answer that no clause speaks of, and that a right run's account is agreed with.
 
-use crate::samples::{props, step, text};
+use crate::samples::{by_callers, props, step, text};
 use crate::script::assert_number;
 use crate::services::{
     A, B, Echo, Steady, Still, assert_call, assert_drive, assert_end, lists, service, success,
     three_groups,
 };
 use bh_audit::{Pass, Shared};
-use bh_base::{Cause, FallbackEnd, GroupId, GroupProps, Op, RunEnd, Strategy, Text};
+use bh_base::{Cause, FallbackEnd, GroupId, Op, RunEnd, Text};
 use bh_workers::{Dependency, DriveError, drive};
 use std::process::Abort;
 use std::sync::{Mutex, Wait};
@@ -83,17 +83,23 @@ fn steal<R: Wait>(rt: &R, shared: &Shared, pass: &mut Pass, group: GroupId) {
 }
 
 impl<'a, R: Wait> Dependency for Thief<'a, R> {
-    ghost ends = { λ group arg end. Unit {0} };
+    ghost ends = { λ group command arg end. Unit {0} };
 
-    ghost fallback_ends = { λ group cause arg end. Unit {0} };
+    ghost fallback_ends = { λ group command cause arg end. Unit {0} };
 
-    fn run(&self, group: GroupId, arg: &Text<64>) -> RunEnd {
+    fn run(&self, group: GroupId, _command: u8, arg: &Text<64>) -> RunEnd {
         let mut pass = self.pass.lock(self.rt);
         steal(self.rt, self.shared, &mut *pass, group);
         success(arg)
     }
 
-    fn fallback(&self, _group: GroupId, _cause: Cause, _arg: &Text<64>) -> FallbackEnd {
+    fn fallback(
+        &self,
+        _group: GroupId,
+        _command: u8,
+        _cause: Cause,
+        _arg: &Text<64>,
+    ) -> FallbackEnd {
         FallbackEnd::Missing
     }
 }
@@ -117,11 +123,7 @@ fn robbed<R: Wait + Abort + AllocGlobal>(rt: &R, shared: &Shared) -> Vec<Pass> {
 
 #[test]
 fn ticket_that_another_pass_collected_is_taken(rt: HostRuntime) {
-    let inline = GroupProps {
-        strategy: Strategy::Semaphore,
-        ..props()
-    };
-    let shared = service(&rt, props(), inline, 10);
+    let shared = service(&rt, props(), by_callers(), 10);
     let passes = robbed(&rt, &shared);
     assert_end(&rt, shared, passes, "0 of 10, 5 of 10 changed, running");
 }

@@ -3,7 +3,7 @@ use Rattle.std.proofs.Common.{◌≡◌, ℕ, zero, suc, ◌+◌, ◌<◌, ◌�
 use Rattle.std.specs.Prelude.{◌||◌, eqb, slice_get, if◌then◌else◌}
 use Rattle.std.specs.List.{range_with_len}
 use Rattle.std.proofs.lemmas.Bool.{cases_eq, eq-eqb, ne_eqb}
-use Rattle.std.proofs.lemmas.List.{map-append, length-replicate}
+use Rattle.std.proofs.lemmas.List.{map-append, get_or-replicate, length-replicate}
 use Rattle.std.proofs.lemmas.List.Sums.{sum_by-append, sum_by-cons}
 use Rattle.bh_base.specs.declared.ticket.Ticket.{Ticket}
 use Rattle.bh_slot_arena.specs.Slots.{lists_in, slots_on}
@@ -11,10 +11,11 @@ use Rattle.bh_cache.specs.declared.lists.GroupLists.{GroupLists}
 use Rattle.bh_cache.specs.Listed.{listed, put_in}
 use Rattle.bh_cache.specs.Slots.{Slots, has, is_live, is_on, is_owned, ticket_at, has_one, one, count_below, IsApart, IsArena, InOrder, Once}
 use Rattle.bh_cache.proofs.Order.{count_same}
-use Rattle.bh_base.specs.Tickets.{is_queued, is_in_fallback}
+use Rattle.bh_base.specs.Tickets.{is_queued}
 use Rattle.bh_tickets.specs.declared.group_slots.GroupSlots.{GroupSlots}
 use Rattle.bh_tickets.specs.declared.group_slots.Needless.TheVariants as needless
-use Rattle.bh_tickets.specs.GroupSlots.{IsGroupSlots, count_at, no_slot_taken, is_any, is_busy}
+use Rattle.bh_tickets.specs.GroupSlots.{IsGroupSlots, count_at, no_slot_taken, is_any}
+use Rattle.bh_tickets.specs.Counts.{AreCounts, busy_of, in_fallback_of, no_counts, queued_of}
 use Rattle.bh_tickets.specs.Growth.{HasMoreLists, HasNewLists, IsGrown, lists_from}
 use Rattle.bh_tickets.specs.TicketsView.{GroupTickets, no_tickets_in}
 use Rattle.bh_tickets.specs.Whole.{group_of, groups_of, view_of, slotted, slot_in, AreGroupSlots}
@@ -276,9 +277,14 @@ module _ (a m b : Slots) (ss : List GroupSlots) (g : GroupLists) (count : ℕ) (
         ∙ count_range (λ x. has x (range_with_len (length m.payloads) count)) (length m.payloads) count (λ x lt. has_before x (length m.payloads) count lt) (λ x le lt. has_range x (length m.payloads) count le lt);
     few = omega (arith, few);
     taken = sym (no_count is_any);
-    busy = sym (no_count is_busy);
     queued = sym (no_count is_queued);
-    in_fallback = sym (no_count is_in_fallback);
+    commands = refl;
+    counts = λ c lt. subst (AreCounts (count_at b g) c) (sym (get_or-replicate 16 c no_counts no_counts lt)) (record {
+      busy = sym (no_count (busy_of c));
+      queued = sym (no_count (queued_of c));
+      in_fallback = sym (no_count (in_fallback_of c));
+    });
+    known = λ x t e. absurd (no_ticket x t e);
     needed = λ x t e k. absurd (no_ticket x t e);
     noted = λ x e. absurd (nothing x e);
   }

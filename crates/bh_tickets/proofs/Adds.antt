@@ -2,16 +2,19 @@
 use Rattle.std.proofs.Common.{◌≡◌, ℕ, zero, suc, ◌+◌, ◌<◌, ◌≤◌, inl, inr, Bool, true, false, List, [], ◌∷◌, ◌++◌, length, Option, Some, None, refl, ◌∙◌, sym, ap, subst, arith}
 use Rattle.std.specs.Prelude.{◌||◌, ◌≢◌, eqb, reverse, slice_get, is_some, if◌then◌else◌}
 use Rattle.std.proofs.lemmas.Bool.{cases_eq, eq-eqb, ne_eqb}
-use Rattle.std.proofs.lemmas.List.{nil_from_length, length-reverse}
+use Rattle.std.proofs.lemmas.List.{nil_from_length, length-reverse, length-set}
 use Rattle.bh_base.specs.declared.ticket.Ticket.{Ticket}
 use Rattle.bh_base.specs.declared.ticket.TicketState.{TicketState}
-use Rattle.bh_base.specs.Tickets.{is_queued, is_in_fallback, is_kept}
+use Rattle.bh_base.specs.Tickets.{is_queued, is_kept}
 use Rattle.bh_index_lists.specs.Lists.{without}
 use Rattle.bh_cache.specs.declared.lists.GroupLists.{GroupLists}
 use Rattle.bh_tickets.specs.declared.group_slots.GroupSlots.{GroupSlots}
 use Rattle.bh_slot_arena.specs.Slots.{lists_in, slots_on, with_payload, with_moved}
 use Rattle.bh_cache.specs.Slots.{Slots, has, is_on, is_live_list, is_live, is_owned, ticket_at, list_for, serial_in, InOrder, count_below, has_one, one, IsArena}
-use Rattle.bh_tickets.specs.GroupSlots.{IsNumbered, IsGroupSlots, CanAdd, IsAdded, count_at, counted_in, is_any, is_busy, may_go}
+use Rattle.bh_tickets.specs.GroupSlots.{IsNumbered, IsGroupSlots, CanAdd, IsAdded, count_at, counted_in, is_any, may_go}
+use Rattle.bh_tickets.specs.declared.counts.CommandCounts.{CommandCounts}
+use Rattle.bh_tickets.specs.Counts.{HasRoomFor, counts_of}
+use Rattle.bh_tickets.proofs.ByCommand.{counts_more, has_room}
 use Rattle.bh_tickets.specs.declared.group_slots.Needless.TheVariants as needless
 use Rattle.bh_cache.proofs.Order.{order_same, order_without, order_append, front_on, front_none, count_le, count_same}
 use Rattle.bh_cache.proofs.Counts.{count_point}
@@ -87,6 +90,10 @@ count_few a s q group = omega (arith, group.taken, count_le (λ x. has_one q (ti
     any : (o : Option Ticket) → has_one q o ≡ true → has_one is_any o ≡ true
     any None e = absurd cc
     any (Some t) e = refl
+
+-- there is room in the counts for a ticket that can be added
+pub room_for : (a : Slots) (s : GroupSlots) (v : Ticket) → IsGroupSlots a s → CanAdd s v → HasRoomFor v (counts_of s.commands v.command)
+room_for a s v group can = has_room (count_at a s.lists) v (counts_of s.commands v.command) (group.counts v.command can.command) (λ q. omega (arith, count_few a s q group, can.room, group.few))
 
 or_first : (b c : Bool) → b ≡ true → (b || c) ≡ true
 or_first b c e = ap (λ d. d || c) e
@@ -180,6 +187,15 @@ module _ (a b : Slots) (s : GroupSlots) (x : ℕ) (v : Ticket) (arena : IsArena 
       | inr ne ↦ group.needed y u (sym (else_same y ne) ∙ e) k
     ]
 
+    known : (y : ℕ) (u : Ticket) → ticket_at b s.lists y ≡ Some u → u.command < 16
+    known y u e = elim (cases_eq y x) [
+      | inl q ↦
+          let f : Some v ≡ Some u = sym now_here ∙ ap (ticket_at b s.lists) (sym q) ∙ e in
+          let g : v ≡ u = cc in
+          subst (λ (z : Ticket). z.command < 16) g can.command
+      | inr ne ↦ group.known y u (sym (else_same y ne) ∙ e)
+    ]
+
     noted_at : (y : ℕ) → s.needless ≡ needless.One y → is_some (ticket_at b s.lists y) ≡ true
     noted_at y e = elim (cases_eq y x) [
       | inl q ↦ ap (λ z. is_some (ticket_at b s.lists z)) q ∙ ap is_some now_here
@@ -197,9 +213,10 @@ module _ (a b : Slots) (s : GroupSlots) (x : ℕ) (v : Ticket) (arena : IsArena 
           ∙ group.slots;
       few = group.few;
       taken = omega (arith, group.taken, recount is_any);
-      busy = omega (arith, group.busy, recount is_busy);
       queued = omega (arith, group.queued, recount is_queued);
-      in_fallback = omega (arith, group.in_fallback, recount is_in_fallback);
+      commands = omega (arith, group.commands, length-set {A = CommandCounts});
+      counts = counts_more (count_at a s.lists) (count_at b s.lists) v s.commands group.commands can.command group.counts recount;
+      known = known;
       needed = needed;
       noted = noted_at;
     }

@@ -18,6 +18,18 @@ serial_kept (change.StartFallback c) t = refl
 serial_kept change.AddHolder t = refl
 serial_kept change.TimeOut t = refl
 
+-- a ticket keeps its command
+pub command_kept : (c : TicketChange) (t : Ticket) → (changed_by c t).command ≡ t.command
+command_kept change.StartRun t = refl
+command_kept (change.EndRun s) t = refl
+command_kept change.StopRun t = refl
+command_kept change.ReleaseHolder t = refl
+command_kept (change.AnswerHolder a) t = refl
+command_kept (change.Answer a) t = refl
+command_kept (change.StartFallback c) t = refl
+command_kept change.AddHolder t = refl
+command_kept change.TimeOut t = refl
+
 -- a ticket keeps its cache name
 pub cache_kept : (c : TicketChange) (t : Ticket) → (changed_by c t).cache ≡ t.cache
 cache_kept change.StartRun t = refl

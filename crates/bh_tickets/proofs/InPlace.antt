@@ -1,5 +1,5 @@
 -- A ticket is changed in place.
-use Rattle.std.proofs.Common.{◌≡◌, ℕ, ◌⊎◌, true, false, Some, refl, ◌∙◌, sym, ap, subst}
+use Rattle.std.proofs.Common.{◌≡◌, ℕ, ◌<◌, ◌⊎◌, true, false, Some, refl, ◌∙◌, sym, ap, subst, arith}
 use Rattle.std.specs.Prelude.{◌≢◌, slice_get}
 use Rattle.std.proofs.lemmas.Bool.{eq-eqb}
 use Rattle.std.specs.Prelude.{if◌then◌else◌}
@@ -12,7 +12,7 @@ use Rattle.bh_tickets.specs.declared.group_slots.GroupSlots.{GroupSlots}
 use Rattle.bh_tickets.specs.declared.group_slots.Needless.{Needless}
 use Rattle.bh_tickets.specs.Changes.{IsAllowed, changed_by}
 use Rattle.bh_tickets.specs.GroupSlots.{CanBe, IsGroupSlots, IsPut, counted_in, counted_out, noted}
-use Rattle.bh_tickets.proofs.Changed.{cache_kept, cached_kept, serial_kept, waits_kept}
+use Rattle.bh_tickets.proofs.Changed.{cache_kept, cached_kept, command_kept, serial_kept, waits_kept}
 use Rattle.bh_tickets.proofs.Puts.{put_from, was_is, within_slots}
 use Rattle.bh_cache.proofs.Places.{get_set}
 
@@ -34,6 +34,10 @@ module _ (a : Slots) (s : GroupSlots) (x : ℕ) (change : TicketChange) (can : C
     read_is : read_now ≡ changed_by change was
     read_is = some_same read_now now (again ∙ get_set a.payloads x x now (within_slots a s.lists x was here_is) ∙ ap (λ c. if c then Some now else slice_get a.payloads x) (eq-eqb x x refl)) ∙ now_is
 
+    -- the changed ticket is of a command that is counted
+    pub read_known : IsGroupSlots a s → read_now.command < 16
+    read_known group = omega (arith, group.known x was here_is, ap (λ (u : Ticket). u.command) read_is, command_kept change was)
+
     -- a slot whose payload is changed, and that is on the list for the new state, has the changed ticket
     pub change_from : (b : Slots) → IsArena a 0 → IsGroupSlots a s → (from to : ℕ) → from ≡ list_for s.lists was.state → to ≡ list_for s.lists read_now.state
         → (from ≡ to → b ≡ with_payload x now a) → (from ≢ to → b ≡ with_moved 0 x to (with_payload x now a))
@@ -45,7 +49,7 @@ module _ (a : Slots) (s : GroupSlots) (x : ℕ) (change : TicketChange) (can : C
         let w : was ≡ t = some_same was t (sym here_is ∙ e) in
         subst (λ (u : Ticket). IsPut a s x (changed_by change u) b r) w
         (put_from a b s x was v arena group
-        (record { was = was; here = here_is; serial = serial_kept change was; cache = cache_kept change was; cached = cached_kept change was; waits = waits_kept change was (subst (IsAllowed change) allowed_was can.allowed) })
+        (record { was = was; here = here_is; serial = serial_kept change was; command = command_kept change was; cache = cache_kept change was; cached = cached_kept change was; waits = waits_kept change was (subst (IsAllowed change) allowed_was can.allowed) })
         read from to f (g ∙ ap (λ (u : Ticket). list_for s.lists u.state) read_is)
         (λ q. same q ∙ ap (λ (u : Ticket). with_payload x u a) now_is)
         (λ q. moved q ∙ ap (λ (u : Ticket). with_moved 0 x to (with_payload x u a)) now_is)

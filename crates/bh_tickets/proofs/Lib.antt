@@ -1,4 +1,5 @@
 pub mod Changed
+pub mod ByCommand
 pub mod Touched
 pub mod Chained
 pub mod Own

@@ -4,7 +4,7 @@ use Rattle.std.specs.Prelude.{◌||◌, slice_get, is_some, if◌then◌else◌}
 use Rattle.bh_base.specs.declared.ticket.Ticket.{Ticket}
 use Rattle.bh_base.specs.declared.ticket.TicketState.{TicketState}
 use Rattle.bh_base.specs.declared.ticket.TicketState.TheVariants as ticket
-use Rattle.bh_base.specs.Tickets.{is_queued, is_in_fallback}
+use Rattle.bh_base.specs.Tickets.{is_queued}
 use Rattle.bh_cache.specs.declared.lists.GroupLists.{GroupLists}
 use Rattle.bh_tickets.specs.declared.group_slots.GroupSlots.{GroupSlots}
 use Rattle.std.proofs.lemmas.Bool.{cases_eq}
@@ -12,7 +12,9 @@ use Rattle.bh_cache.specs.Listed.{listed, put_in}
 use Rattle.bh_tickets.specs.Whole.{group_of, slotted, slot_in}
 use Rattle.bh_slot_arena.specs.Slots.{lists_in, slots_on}
 use Rattle.bh_cache.specs.Slots.{Slots, has, is_on, is_live, is_owned, ticket_at, tickets_of, list_for, serial_in, InOrder, count_below, IsOwn, IsApart, IsFrame, IsArena, has_one, one}
-use Rattle.bh_tickets.specs.GroupSlots.{IsNumbered, IsArranged, IsGroupSlots, count_at, is_any, is_busy}
+use Rattle.bh_tickets.specs.GroupSlots.{IsNumbered, IsArranged, IsGroupSlots, count_at, is_any}
+use Rattle.bh_tickets.specs.Counts.{counts_of}
+use Rattle.bh_tickets.proofs.ByCommand.{counts_alike}
 use Rattle.bh_cache.proofs.Order.{order_same, count_same}
 use Rattle.bh_cache.specs.Chains.{IsChainFrame}
 use Rattle.bh_tickets.proofs.Chained.{KeepsOwn, chains_kept, names_apart, serials_apart}
@@ -166,9 +168,10 @@ module _ (a b : Slots) (h : GroupSlots) (same : IsSame h.lists a b) (arena : IsA
     slots = count_same (is_owned b h.lists) (is_owned a h.lists) (length b.payloads) owned_alike ∙ count_past (is_owned a h.lists) (length a.payloads) (length b.payloads) same.slots owned_past ∙ group.slots;
     few = group.few;
     taken = group.taken ∙ sym (count_alike is_any);
-    busy = group.busy ∙ sym (count_alike is_busy);
     queued = group.queued ∙ sym (count_alike is_queued);
-    in_fallback = group.in_fallback ∙ sym (count_alike is_in_fallback);
+    commands = group.commands;
+    counts = λ c lt. counts_alike (count_at a h.lists) (count_at b h.lists) c (counts_of h.commands c) count_alike (group.counts c lt);
+    known = λ x t p. group.known x t (sym (at_same x) ∙ p);
     needed = λ x t p. group.needed x t (sym (at_same x) ∙ p);
     noted = λ x e. ap is_some (at_same x) ∙ group.noted x e;
   }

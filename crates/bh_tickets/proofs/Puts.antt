@@ -1,18 +1,22 @@
 -- One ticket of a group changes.
-use Rattle.std.proofs.Common.{◌≡◌, ℕ, zero, suc, ◌+◌, ◌<◌, ◌≤◌, ◌⊎◌, inl, inr, Bool, true, false, length, Some, None, refl, ◌∙◌, sym, ap, subst, arith}
+use Rattle.std.proofs.Common.{◌≡◌, ℕ, zero, suc, ◌+◌, ◌-◌, ◌<◌, ◌≤◌, ◌⊎◌, inl, inr, Bool, true, false, length, Some, None, refl, ◌∙◌, sym, ap, subst, arith}
 use Rattle.std.specs.Prelude.{◌||◌, ◌≢◌, eqb, slice_get, is_some, if◌then◌else◌}
 use Rattle.std.proofs.lemmas.Bool.{cases_eq, eq-eqb}
+use Rattle.std.proofs.lemmas.List.{length-set}
 use Rattle.bh_base.specs.declared.ticket.Ticket.{Ticket}
 use Rattle.bh_base.specs.declared.ticket.TicketState.{TicketState}
 use Rattle.bh_base.specs.declared.ticket.TicketState.TheVariants as ticket
-use Rattle.bh_base.specs.Tickets.{is_queued, is_in_fallback, is_kept}
+use Rattle.bh_base.specs.Tickets.{is_queued, is_kept}
 use Rattle.bh_cache.specs.declared.lists.GroupLists.{GroupLists}
+use Rattle.bh_tickets.specs.declared.counts.CommandCounts.{CommandCounts}
 use Rattle.bh_tickets.specs.declared.group_slots.GroupSlots.{GroupSlots}
 use Rattle.bh_slot_arena.specs.Slots.{lists_in, slots_on, with_payload, with_moved}
 use Rattle.bh_cache.specs.Slots.{Slots, is_on, is_live_list, is_live, is_owned, ticket_at, list_for, serial_in, InOrder, count_below, has_one, one, IsArena}
 use Rattle.bh_tickets.specs.declared.group_slots.Needless.{Needless}
 use Rattle.bh_tickets.specs.declared.group_slots.Needless.TheVariants as needless
-use Rattle.bh_tickets.specs.GroupSlots.{IsNumbered, IsGroupSlots, CanPut, IsPut, count_at, counted_in, counted_out, is_any, is_busy, may_go, noted}
+use Rattle.bh_tickets.specs.GroupSlots.{IsNumbered, IsGroupSlots, CanPut, IsPut, count_at, counted_in, counted_out, is_any, may_go, noted}
+use Rattle.bh_tickets.specs.Counts.{AreCounts, HasRoomFor, IsCounted, all_less, all_more, counts_of, one_less}
+use Rattle.bh_tickets.proofs.ByCommand.{counts_less, counts_more, has_room, is_counted}
 use Rattle.bh_index_lists.specs.Lists.{without}
 use Rattle.bh_tickets.specs.Changes.{queued_in}
 use Rattle.bh_cache.proofs.Order.{order_same, order_without, count_le, count_same, one_le}
@@ -39,11 +43,6 @@ held_at a g x t e = by (is_live a g x) refl e
 -- a slot that has a ticket of the group is below the number of slots
 pub within_slots : (a : Slots) (g : GroupLists) (x : ℕ) (t : Ticket) → ticket_at a g x ≡ Some t → x < length a.payloads
 within_slots a g x t e = get_within a.payloads x t (held_at a g x t e).1
-
--- a test counts for one at most
-pub one_few : (b : Bool) → one b ≤ 1
-one_few true = omega arith
-one_few false = omega arith
 
 -- a number below n that passes is in the count
 pub count_has : (p : ℕ → Bool) (n x : ℕ) → x < n → one (p x) ≤ count_below n p
@@ -92,6 +91,22 @@ module _ (a : Slots) (s : GroupSlots) (x : ℕ) (t : Ticket) (group : IsGroupSlo
         count_room (λ y. has_one q (ticket_at a s.lists y)) (is_owned a s.lists) (length a.payloads) x (within_slots a s.lists x t here) (owned_if a s.lists q)
             (or_right (is_on a 0 s.lists.free x) (is_live a s.lists x) (held_at a s.lists x t here).0),
       )
+
+  -- the ticket's command is counted
+  known_at : t.command < 16
+  known_at = group.known x t here
+
+  -- the ticket is in the counts of its command
+  pub counted_there : IsCounted t (counts_of s.commands t.command)
+  counted_there = is_counted (count_at a s.lists) t (counts_of s.commands t.command) (group.counts t.command known_at) counted_at
+
+  -- the counts of all commands without the ticket
+  pub counts_without : (command : ℕ) → command < 16 → AreCounts (λ q. count_at a s.lists q - one (q t)) command (counts_of (all_less t s.commands) command)
+  counts_without = counts_less (count_at a s.lists) (λ q. count_at a s.lists q - one (q t)) t s.commands group.commands known_at group.counts (λ q. omega (arith, counted_at q))
+
+  -- without it, there is room in the counts for a ticket of a command that is counted
+  pub room_without : (v : Ticket) → v.command < 16 → HasRoomFor v (counts_of (all_less t s.commands) v.command)
+  room_without v known = has_room (λ q. count_at a s.lists q - one (q t)) v (counts_of (all_less t s.commands) v.command) (counts_without v.command known) (λ q. omega (arith, group.few, room_at q))
 
 -- ---- the queue
 
@@ -157,6 +172,12 @@ module _ (a b : Slots) (s : GroupSlots) (x : ℕ) (t v : Ticket) (arena : IsAren
   serial : v.serial ≡ t.serial
   serial = can.serial ∙ ap (λ (u : Ticket). u.serial) was
 
+  command : v.command ≡ t.command
+  command = can.command ∙ ap (λ (u : Ticket). u.command) was
+
+  v_known : v.command < 16
+  v_known = omega (arith, command, group.known x t here)
+
   lies : is_on a 0 (list_for s.lists t.state) x ≡ true
   lies = group.arranged.placed x t here
 
@@ -215,6 +236,16 @@ module _ (a b : Slots) (s : GroupSlots) (x : ℕ) (t v : Ticket) (arena : IsAren
       let m : count_at b s.lists q ≡ count_below (length a.payloads) (λ y. has_one q (ticket_at b s.lists y)) = ap (λ n. count_below n (λ y. has_one q (ticket_at b s.lists y))) touched.slots in
       omega (arith, k, l, m, count_point (λ y. has_one q (ticket_at a s.lists y)) (λ y. has_one q (ticket_at b s.lists y)) (length a.payloads) x (within_slots a s.lists x t here) (λ y ne. ap (has_one q) (else_same y ne)))
 
+  known : (y : ℕ) (u : Ticket) → ticket_at b s.lists y ≡ Some u → u.command < 16
+  known y u e = elim (cases_eq y x) [
+    | inl q ↦ subst (λ (z : Ticket). z.command < 16) (sym (is_v u (ap (ticket_at b s.lists) (sym q) ∙ e))) v_known
+    | inr ne ↦ group.known y u (sym (else_same y ne) ∙ e)
+  ]
+
+  counts : (c : ℕ) → c < 16 → AreCounts (count_at b s.lists) c (counts_of (all_more v (all_less t s.commands)) c)
+  counts = counts_more (λ q. count_at a s.lists q - one (q t)) (count_at b s.lists) v (all_less t s.commands) (length-set s.commands t.command (one_less t (counts_of s.commands t.command)) ∙ group.commands) v_known
+      (counts_without a s x t group here) (λ q. omega (arith, recount q, counted_at a s x t group here q))
+
   owned_slot : is_owned a s.lists x ≡ true
   owned_slot = or_right (is_on a 0 s.lists.free x) (is_live a s.lists x) (held_at a s.lists x t here).0
 
@@ -264,9 +295,10 @@ module _ (a b : Slots) (s : GroupSlots) (x : ℕ) (t v : Ticket) (arena : IsAren
       slots = owned_now;
       few = group.few;
       taken = omega (arith, group.taken, recount is_any);
-      busy = omega (arith, group.busy, recount is_busy, counted_at a s x t group here is_busy);
       queued = omega (arith, group.queued, recount is_queued, counted_at a s x t group here is_queued);
-      in_fallback = omega (arith, group.in_fallback, recount is_in_fallback, counted_at a s x t group here is_in_fallback);
+      commands = omega (arith, group.commands, length-set {A = CommandCounts});
+      counts = counts;
+      known = known;
       needed = needed;
       noted = noted_at;
     }

@@ -118,9 +118,10 @@ module _ (a : Slots) (s : GroupSlots) (b : Slots) (r : GroupSlots) (group : IsGr
         slots = g.slots;
         few = g.few;
         taken = g.taken;
-        busy = g.busy;
         queued = g.queued;
-        in_fallback = g.in_fallback;
+        commands = g.commands;
+        counts = g.counts;
+        known = g.known;
         needed = λ x t e k. absurd (not_both x t (ap (λ (l : GroupLists). ticket_at b l x) (sym change.lists) ∙ e) k);
         noted = λ x e. absurd (never x e);
       });

@@ -2,14 +2,17 @@
 use Rattle.std.proofs.Common.{◌≡◌, ℕ, ◌+◌, ◌-◌, ◌<◌, inl, inr, Bool, true, false, length, Option, Some, None, refl, ◌∙◌, sym, ap, subst, arith}
 use Rattle.std.specs.Prelude.{◌||◌, eqb, slice_get, is_some, if◌then◌else◌}
 use Rattle.std.proofs.lemmas.Bool.{cases_eq, eq-eqb, ne_eqb}
+use Rattle.std.proofs.lemmas.List.{length-set}
 use Rattle.bh_base.specs.declared.ticket.Ticket.{Ticket}
-use Rattle.bh_base.specs.Tickets.{is_queued, is_in_fallback, is_kept}
+use Rattle.bh_base.specs.Tickets.{is_queued, is_kept}
 use Rattle.bh_index_lists.specs.Lists.{without}
 use Rattle.bh_tickets.specs.declared.group_slots.GroupSlots.{GroupSlots}
 use Rattle.bh_tickets.specs.declared.group_slots.Needless.TheVariants as needless
 use Rattle.bh_slot_arena.specs.Slots.{slots_on, with_moved}
 use Rattle.bh_cache.specs.Slots.{Slots, is_on, is_live, is_live_list, is_owned, ticket_at, list_for, InOrder, count_below, has_one, one, IsArena}
-use Rattle.bh_tickets.specs.GroupSlots.{IsGroupSlots, IsGroupChange, IsReleasedAt, if_kept, may_go, count_at, counted_out, is_any, is_busy}
+use Rattle.bh_tickets.specs.GroupSlots.{IsGroupSlots, IsGroupChange, IsReleasedAt, if_kept, may_go, count_at, counted_out, is_any}
+use Rattle.bh_tickets.specs.declared.counts.CommandCounts.{CommandCounts}
+use Rattle.bh_tickets.proofs.ByCommand.{counts_less}
 use Rattle.bh_cache.proofs.Order.{order_without, count_same}
 use Rattle.bh_cache.proofs.Counts.{count_point}
 use Rattle.bh_tickets.proofs.Touched.{IsTouched, touched_moved, at_other, at_slot, touched_arena, touched_frame, owned_same}
@@ -110,6 +113,12 @@ module _ (a b : Slots) (s : GroupSlots) (x : ℕ) (t : Ticket) (arena : IsArena 
       let m : count_at b s.lists q ≡ count_below (length a.payloads) (λ y. has_one q (ticket_at b s.lists y)) = ap (λ n. count_below n (λ y. has_one q (ticket_at b s.lists y))) touched.slots in
       omega (arith, k, l, m, count_point (λ y. has_one q (ticket_at a s.lists y)) (λ y. has_one q (ticket_at b s.lists y)) (length a.payloads) x within (λ y ne. ap (has_one q) (else_same y ne)))
 
+  known : (y : ℕ) (u : Ticket) → ticket_at b s.lists y ≡ Some u → u.command < 16
+  known y u e = elim (cases_eq y x) [
+    | inl q ↦ let f : None ≡ Some u = sym gone ∙ ap (ticket_at b s.lists) (sym q) ∙ e in absurd cc
+    | inr ne ↦ group.known y u (sym (else_same y ne) ∙ e)
+  ]
+
   lies : is_on a 0 (list_for s.lists t.state) x ≡ true
   lies = group.arranged.placed x t here
 
@@ -128,9 +137,10 @@ module _ (a b : Slots) (s : GroupSlots) (x : ℕ) (t : Ticket) (arena : IsArena 
           ∙ group.slots;
       few = group.few;
       taken = omega (arith, group.taken, recount is_any);
-      busy = omega (arith, group.busy, recount is_busy);
       queued = omega (arith, group.queued, recount is_queued);
-      in_fallback = omega (arith, group.in_fallback, recount is_in_fallback);
+      commands = omega (arith, group.commands, length-set {A = CommandCounts});
+      counts = counts_less (count_at a s.lists) (count_at b s.lists) t s.commands group.commands (group.known x t here) group.counts recount;
+      known = known;
       needed = λ y u e k. ap (λ n. may_go n y) many;
       noted = λ y e. absurd (never_one y e);
     }

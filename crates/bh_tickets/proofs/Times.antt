@@ -55,6 +55,7 @@ module _ (a : Slots) (s : GroupSlots) (x : ℕ) (t : Ticket) (due : DueRule) (ar
     was = t;
     here = here;
     serial = refl;
+    command = refl;
     cache = refl;
     cached = refl;
     waits = λ e. absurd (never e);

@@ -3,7 +3,7 @@ use Rattle.std.proofs.Common.{◌≡◌, ℕ, ◌+◌, ◌<◌, ◌⊎◌, inl, 
 use Rattle.std.specs.Prelude.{◌||◌, count_by, slice_get, is_some, if◌then◌else◌}
 use Rattle.std.specs.Option.{option_map}
 use Rattle.bh_base.specs.declared.ticket.Ticket.{Ticket}
-use Rattle.bh_base.specs.Tickets.{is_cached_in, is_queued, is_in_fallback, is_kept}
+use Rattle.bh_base.specs.Tickets.{is_cached_in, is_queued, is_kept}
 use Rattle.bh_slot_arena.specs.Slots.{lists_in, slots_on}
 use Rattle.bh_cache.specs.Cache.{IsDropped, uncached_in}
 use Rattle.bh_cache.specs.Slots.{Slots, has, is_on, is_live, is_owned, ticket_at, tickets_of, list_for, serial_in, InOrder, Once, count_below, has_one, IsArena, IsOwn, IsFrame}
@@ -12,7 +12,8 @@ use Rattle.bh_cache.proofs.Order.{order_same, count_same}
 use Rattle.bh_tickets.specs.declared.group_slots.GroupSlots.{GroupSlots}
 use Rattle.bh_tickets.specs.declared.group_slots.Needless.{Needless}
 use Rattle.bh_tickets.specs.declared.group_slots.Needless.TheVariants as needless
-use Rattle.bh_tickets.specs.GroupSlots.{IsArranged, IsGroupSlots, IsUncached, count_at, is_any, is_busy, may_go}
+use Rattle.bh_tickets.specs.GroupSlots.{IsArranged, IsGroupSlots, IsUncached, count_at, is_any, may_go}
+use Rattle.bh_tickets.specs.Counts.{busy_of, in_fallback_of, queued_of}
 use Rattle.bh_tickets.proofs.Puts.{within_slots}
 use Rattle.bh_tickets.proofs.Others.{own_for}
 use Rattle.bh_cache.proofs.Walks.{on_queued}
@@ -162,9 +163,14 @@ module _ (a b : Slots) (s : GroupSlots) (context n : ℕ) (arena : IsArena a 0) 
       slots = ap (λ m. count_below m (is_owned b s.lists)) dropped.slots ∙ count_same (is_owned b s.lists) (is_owned a s.lists) (length a.payloads) owned_same ∙ group.slots;
       few = group.few;
       taken = group.taken ∙ sym (recount is_any (λ t. refl));
-      busy = group.busy ∙ sym (recount is_busy (λ t. refl));
       queued = group.queued ∙ sym (recount is_queued (λ t. refl));
-      in_fallback = group.in_fallback ∙ sym (recount is_in_fallback (λ t. refl));
+      commands = group.commands;
+      counts = λ c lt. record {
+        busy = (group.counts c lt).busy ∙ sym (recount (busy_of c) (λ t. refl));
+        queued = (group.counts c lt).queued ∙ sym (recount (queued_of c) (λ t. refl));
+        in_fallback = (group.counts c lt).in_fallback ∙ sym (recount (in_fallback_of c) (λ t. refl));
+      };
+      known = λ x t p. let h = before x t p in subst (λ c. c < 16) (same_by (λ (u : Ticket). u.command) h.0 t h.2 refl) (group.known x h.0 h.1);
       needed = needed;
       noted = noted_at;
     }

@@ -243,6 +243,7 @@ can_add_at a ss i s v whole is can =
       room = omega (arith, room, taken_is a s (whole.each i s is));
       serial = can.serial ∙ ap (λ (z : GroupTickets). z.next) store;
       few = subst (λ (z : GroupTickets). z.next < 2 ^ 63) store can.few;
+      command = can.command;
       needed = can.needed;
     }
 

@@ -1,14 +1,15 @@
 -- What a group keeps of its tickets beside their slots, and what its calls do.
-use Rattle.std.specs.Prelude.{eqb, if◌then◌else◌, ◌≡◌, ℕ, ◌+◌, ◌-◌, ◌<◌, ◌^◌, [], ◌∷◌, ◌++◌, filter, map, Bool, true, false, length, is_some, slice_get, Option, Some, None, List, count_by}
+use Rattle.std.specs.Prelude.{eqb, if◌then◌else◌, ◌≡◌, ℕ, ◌+◌, ◌-◌, ◌<◌, ◌^◌, [], ◌∷◌, ◌++◌, filter, map, Bool, true, false, length, replicate, is_some, slice_get, Option, Some, None, List, count_by}
 use Rattle.std.specs.List.{list_any}
 use Rattle.bh_base.specs.declared.ticket.Ticket.{Ticket}
-use Rattle.bh_base.specs.Tickets.{is_queued, is_in_fallback, is_kept}
+use Rattle.bh_base.specs.Tickets.{is_queued, is_kept}
 use Rattle.bh_index_lists.specs.Lists.{without}
 use Rattle.bh_tickets.specs.declared.states.DueRule.{DueRule}
 use Rattle.bh_tickets.specs.declared.group_slots.Needless.{Needless}
 use Rattle.bh_tickets.specs.declared.group_slots.Needless.TheVariants as needless
 use Rattle.bh_tickets.specs.declared.changes.TicketChange.{TicketChange}
 use Rattle.bh_tickets.specs.Changes.{IsAllowed, is_due_by, timed_out_by}
+use Rattle.bh_tickets.specs.Counts.{AreCounts, all_less, all_more, counts_of, no_counts}
 use Rattle.std.specs.Option.{option_map}
 use Rattle.bh_cache.specs.declared.lists.GroupLists.{GroupLists}
 use Rattle.bh_tickets.specs.declared.group_slots.GroupSlots.{GroupSlots}
@@ -36,9 +37,6 @@ pub record IsArranged (a : Slots) (g : GroupLists) (serial : ℕ) : Type 0 where
 abbrev pub count_at : Slots → GroupLists → (Ticket → Bool) → ℕ
 count_at a g q = count_below (length a.payloads) (λ x. has_one q (ticket_at a g x))
 
-abbrev pub is_busy : Ticket → Bool
-is_busy t = t.busy
-
 abbrev pub is_any : Ticket → Bool
 is_any t = true
 
@@ -60,7 +58,7 @@ noted x needless.Many = needless.Many
 
 -- so many slots, none of which has a ticket
 abbrev pub no_slot_taken : GroupLists → ℕ → GroupSlots
-no_slot_taken lists slots = record { lists = lists; slots = record { max = slots; taken = 0 }; next = 1; busy = 0; queued = 0; in_fallback = 0; needless = needless.Nothing }
+no_slot_taken lists slots = record { lists = lists; slots = record { max = slots; taken = 0 }; next = 1; queued = 0; commands = replicate 16 no_counts; needless = needless.Nothing }
 
 -- what a group keeps fits its tickets in the arena
 pub record IsGroupSlots (a : Slots) (s : GroupSlots) : Type 0 where
@@ -71,9 +69,11 @@ pub record IsGroupSlots (a : Slots) (s : GroupSlots) : Type 0 where
   pub slots : count_below (length a.payloads) (is_owned a s.lists) ≡ s.slots.max
   pub few : s.slots.max < 2 ^ 63
   pub taken : s.slots.taken ≡ count_at a s.lists is_any
-  pub busy : s.busy ≡ count_at a s.lists is_busy
   pub queued : s.queued ≡ count_at a s.lists is_queued
-  pub in_fallback : s.in_fallback ≡ count_at a s.lists is_in_fallback
+  pub commands : length s.commands ≡ 16
+  pub counts : (command : ℕ) → command < 16 → AreCounts (count_at a s.lists) command (counts_of s.commands command)
+  -- each ticket is of a command that is counted
+  pub known : (x : ℕ) (t : Ticket) → ticket_at a s.lists x ≡ Some t → t.command < 16
   -- a ticket that nobody needs was noted, and a slot that was noted alone has a ticket
   pub needed : (x : ℕ) (t : Ticket) → ticket_at a s.lists x ≡ Some t → is_kept t ≡ false → may_go s.needless x ≡ true
   pub noted : (x : ℕ) → s.needless ≡ needless.One x → is_some (ticket_at a s.lists x) ≡ true
@@ -90,16 +90,17 @@ pub record IsGroupChange (a : Slots) (s : GroupSlots) (b : Slots) (r : GroupSlot
 
 -- the counts without a ticket, and with one
 abbrev pub counted_out : Ticket → GroupSlots → GroupSlots
-counted_out t s = record s { busy = s.busy - one t.busy; queued = s.queued - one (is_queued t); in_fallback = s.in_fallback - one (is_in_fallback t) }
+counted_out t s = record s { queued = s.queued - one (is_queued t); commands = all_less t s.commands }
 
 abbrev pub counted_in : Ticket → GroupSlots → GroupSlots
-counted_in t s = record s { busy = s.busy + one t.busy; queued = s.queued + one (is_queued t); in_fallback = s.in_fallback + one (is_in_fallback t) }
+counted_in t s = record s { queued = s.queued + one (is_queued t); commands = all_more t s.commands }
 
--- the slot has a ticket of this serial and this cache name, which waits if this one does
+-- the slot has a ticket of this serial, this command and this cache name, which waits if this one does
 pub record CanPut (a : Slots) (s : GroupSlots) (x : ℕ) (v : Ticket) : Type 0 where
   pub was : Ticket
   pub here : ticket_at a s.lists x ≡ Some was
   pub serial : v.serial ≡ was.serial
+  pub command : v.command ≡ was.command
   pub cache : v.cache ≡ was.cache
   pub cached : v.cached ≡ was.cached
   pub waits : is_queued v ≡ true → is_queued was ≡ true
@@ -120,11 +121,12 @@ pub record IsPut (a : Slots) (s : GroupSlots) (x : ℕ) (v : Ticket) (b : Slots)
   pub here : ticket_at b s.lists x ≡ Some v
   pub others : (y : ℕ) → (y ≡ x → ⊥) → ticket_at b s.lists y ≡ ticket_at a s.lists y
 
--- a ticket of the next serial that somebody needs, where a slot is free
+-- a ticket of the next serial and of a command below 16 that somebody needs, where a slot is free
 pub record CanAdd (s : GroupSlots) (v : Ticket) : Type 0 where
   pub room : s.slots.taken < s.slots.max
   pub serial : v.serial ≡ s.next
   pub few : s.next < 2 ^ 63
+  pub command : v.command < 16
   pub needed : is_kept v ≡ true
 
 -- the ticket is behind the others, and other groups are as they were

@@ -59,9 +59,10 @@ pub record ChangesOnly (group : ℕ) (old new : TicketsView) : Type 0 where
   pub room : (group_at new group).room ≡ (group_at old group).room
   pub next : (group_at new group).next ≡ (group_at old group).next
 
--- a ticket of the next serial that somebody needs, where a slot is free
+-- a ticket of the next serial and of a command below 16 that somebody needs, where a slot is free
 pub record CanPush (g : GroupTickets) (v : Ticket) : Type 0 where
   pub room : length g.items < g.room
   pub serial : v.serial ≡ g.next
   pub few : g.next < 2 ^ 63
+  pub command : v.command < 16
   pub needed : is_kept v ≡ true

@@ -2,14 +2,16 @@
 
 ghost use Rattle.std.specs.Prelude.{◌≡◌, ◌≢◌, ◌+◌, ◌-◌, ◌<◌, ◌≤◌, ◌^◌, Some, true, length, is_some};
 ghost use Rattle.bh_base.specs.declared.ticket.Ticket.{Ticket};
-ghost use Rattle.bh_base.specs.Tickets.{is_queued, is_in_fallback, is_kept};
+ghost use Rattle.bh_base.specs.Tickets.{is_queued, is_kept};
 ghost use Rattle.bh_slot_arena.specs.Slots.{lists_in, with_moved};
 ghost use Rattle.bh_cache.specs.Slots.{IsArena, list_for, ticket_at, one};
 ghost use Rattle.bh_tickets.specs.GroupSlots.{IsGroupSlots, CanBe, IsPut, CanAdd, IsAdded, IsReleasedAt, IsTimed, IsUncached, counted_in, counted_out, no_slot_taken, noted};
 ghost use Rattle.bh_tickets.specs.Changes.{changed_by};
+ghost use Rattle.bh_tickets.specs.Counts.{HasRoomFor, IsCounted, counts_of};
 
 use crate::changes::{TicketChange, apply};
-use crate::states::{DueRule, is_due, is_in_fallback, is_kept, is_queued};
+use crate::counts::{CommandCounts, one};
+use crate::states::{DueRule, is_due, is_kept, is_queued};
 use bh_admit::Permits;
 use bh_base::{Serial, Ticket, TicketState};
 use bh_cache::{GroupLists, drop_context, place, place_free};
@@ -32,10 +34,10 @@ pub struct GroupSlots {
     pub slots: Permits,
     /// The next ticket's serial.
     pub next: Serial,
-    /// How many of the tickets are busy, queued and in their fallback.
-    pub busy: u64,
+    /// How many of the tickets are queued, of whatever command.
     pub queued: u64,
-    pub in_fallback: u64,
+    /// What is counted of the tickets of each command, by its number.
+    pub commands: [CommandCounts; 16],
     pub needless: Needless,
 }
 
@@ -48,19 +50,11 @@ impl GroupSlots {
             lists,
             slots: Permits::new(slots),
             next: 1,
-            busy: 0,
             queued: 0,
-            in_fallback: 0,
+            commands: [CommandCounts::new(); 16],
             needless: Needless::Nothing,
         }
     }
-}
-
-/// What a ticket adds to a count: 1 where it counts, else 0.
-fn one(counts: bool) -> u64
-    ensures { result ≡ one counts }
-{
-    if counts { 1 } else { 0 }
 }
 
 /// What may be needed no more, with one slot more.
@@ -95,26 +89,24 @@ fn list_for(lists: &GroupLists, state: &TicketState) -> usize
 
 /// The ticket is taken out of the group's counts.
 fn count_out(group: &mut GroupSlots, ticket: &Ticket)
-    requires busy { one ticket.now.busy ≤ group.old.busy }
+    requires command { ticket.now.command < length group.old.commands }
     requires queued { one (is_queued ticket.now) ≤ group.old.queued }
-    requires in_fallback { one (is_in_fallback ticket.now) ≤ group.old.in_fallback }
+    requires counted { IsCounted ticket.now (counts_of group.old.commands ticket.now.command) }
     ensures { group.new ≡ counted_out ticket.now group.old }
 {
-    group.busy -= one(ticket.busy);
     group.queued -= one(is_queued(ticket));
-    group.in_fallback -= one(is_in_fallback(ticket));
+    group.commands[ticket.command as usize].count_out(ticket);
 }
 
 /// The ticket is taken into the group's counts.
 fn count_in(group: &mut GroupSlots, ticket: &Ticket)
-    requires busy { group.old.busy + one ticket.now.busy < 2 ^ 64 }
+    requires command { ticket.now.command < length group.old.commands }
     requires queued { group.old.queued + one (is_queued ticket.now) < 2 ^ 64 }
-    requires in_fallback { group.old.in_fallback + one (is_in_fallback ticket.now) < 2 ^ 64 }
+    requires room { HasRoomFor ticket.now (counts_of group.old.commands ticket.now.command) }
     ensures { group.new ≡ counted_in ticket.now group.old }
 {
-    group.busy += one(ticket.busy);
     group.queued += one(is_queued(ticket));
-    group.in_fallback += one(is_in_fallback(ticket));
+    group.commands[ticket.command as usize].count_in(ticket);
 }
 
 /// Moves a slot to the end of a list, where it lies on another.
@@ -155,7 +147,7 @@ pub fn change(
     }
 }
 
-/// A new ticket, in the slot of the group that was freed last: what lies there was read lately, so it is near.
+/// A new ticket, in the slot of the group that was freed last, which is likely still in the processor's cache.
 pub fn add(arena: &mut Arena<Ticket, 3>, group: &mut GroupSlots, ticket: &Ticket)
     requires arena { IsArena arena.old 0 }
     requires group { IsGroupSlots arena.old group.old }

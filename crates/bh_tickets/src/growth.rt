@@ -68,6 +68,7 @@ pub fn add_slots(
 fn blank_ticket() -> Ticket {
     Ticket {
         serial: 0,
+        command: 0,
         arg: Text::new("").unwrap(),
         cache: None,
         submitted: 0,

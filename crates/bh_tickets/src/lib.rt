@@ -3,6 +3,7 @@
 #![tactic(auto)]
 
 mod changes;
+mod counts;
 mod due;
 mod group_slots;
 mod growth;

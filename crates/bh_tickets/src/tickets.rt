@@ -1,11 +1,11 @@
 //! The tickets of all groups.
 
 ghost use Rattle.std.specs.List.{list_any};
-ghost use Rattle.std.specs.Prelude.{◌≡◌, ◌≢◌, ℕ, ◌+◌, ◌-◌, ◌^◌, ◌<◌, ◌≤◌, ◌==◌, Bool, [], ◌∷◌, ◌++◌, count_by, filter, find, false, length, map, nat_le, slice_get, IfSome, None, OnErr, OnOk, Some};
+ghost use Rattle.std.specs.Prelude.{◌≡◌, ◌≢◌, ℕ, ◌+◌, ◌-◌, ◌^◌, ◌<◌, ◌≤◌, ◌==◌, ◌&&◌, Bool, [], ◌∷◌, ◌++◌, count_by, filter, find, false, length, map, nat_le, slice_get, IfSome, None, OnErr, OnOk, Some};
 ghost use Rattle.bh_base.specs.declared.ticket.Ticket.{Ticket};
 ghost use Rattle.bh_base.specs.declared.ticket.TicketState.TheVariants as ticket;
 ghost use Rattle.bh_base.specs.Machine.{released_by_one};
-ghost use Rattle.bh_base.specs.Tickets.{changed_first, in_state, is_busy_at, is_cached_as, is_cached_in, is_held_at, is_in_fallback, is_in_fallback_at, is_kept, is_queued};
+ghost use Rattle.bh_base.specs.Tickets.{changed_first, in_state, is_busy_at, is_cached_as, is_cached_in, is_held_at, is_in_fallback, is_in_fallback_at, is_kept, is_of, is_queued};
 ghost use Rattle.bh_cache.specs.Cache.{uncached_in};
 ghost use Rattle.bh_tickets.specs.Changes.{answered, fallback_started, is_due_by, joined, queued_in, run_settled, run_started, run_stopped, timed_out_by};
 ghost use Rattle.bh_tickets.specs.TicketsView.{CanPush, ChangesOnly, IsFirstAt, IsThere, group_at, in_slot, no_tickets_in, slots_of};
@@ -83,28 +83,39 @@ impl Tickets {
         self.groups[group].slots.taken()
     }
 
-    /// How many runs of a group are under way, timed out ones included.
-    pub fn busy_count(&self, group: usize) -> u64
-        requires { group < length self.now.groups }
-        ensures { result ≡ count_by (λ t. t.busy) (group_at self.now group).items }
+    /// How many runs of the command are under way, timed out ones included.
+    pub fn busy_count(&self, group: usize, command: u8) -> u64
+        requires group { group < length self.now.groups }
+        requires command { command < 16 }
+        ensures { result ≡ count_by (λ t. is_of command t && t.busy) (group_at self.now group).items }
     {
-        self.groups[group].busy
+        self.groups[group].commands[command as usize].busy
     }
 
-    /// How many wait for a worker.
-    pub fn queued_count(&self, group: usize) -> u64
+    /// How many of the command's tickets wait for a worker.
+    pub fn queued_count(&self, group: usize, command: u8) -> u64
+        requires group { group < length self.now.groups }
+        requires command { command < 16 }
+        ensures { result ≡ count_by (λ t. is_of command t && is_queued t) (group_at self.now group).items }
+    {
+        self.groups[group].commands[command as usize].queued
+    }
+
+    /// How many of the command's tickets have their fallback running.
+    pub fn in_fallback_count(&self, group: usize, command: u8) -> u64
+        requires group { group < length self.now.groups }
+        requires command { command < 16 }
+        ensures { result ≡ count_by (λ t. is_of command t && is_in_fallback t) (group_at self.now group).items }
+    {
+        self.groups[group].commands[command as usize].in_fallback
+    }
+
+    /// How many of the group's tickets wait for a worker, of whatever command.
+    pub fn waiting_count(&self, group: usize) -> u64
         requires { group < length self.now.groups }
         ensures { result ≡ count_by is_queued (group_at self.now group).items }
     {
         self.groups[group].queued
-    }
-
-    /// How many have their fallback running.
-    pub fn in_fallback_count(&self, group: usize) -> u64
-        requires { group < length self.now.groups }
-        ensures { result ≡ count_by is_in_fallback (group_at self.now group).items }
-    {
-        self.groups[group].in_fallback
     }
 
     /// The next ticket's serial.
@@ -168,13 +179,19 @@ impl Tickets {
     }
 
     /// The slot of the ticket that is cached under the context and the key.
-    pub fn find_cached(&self, group: usize, context: u64, key: &Text<32>) -> Option<u32>
+    pub fn find_cached(
+        &self,
+        group: usize,
+        command: u8,
+        context: u64,
+        key: &Text<32>,
+    ) -> Option<u32>
         requires { group < length self.now.groups }
-        ensures found { IfSome result (λ slot. IsFirstAt (is_cached_as (context, key.now)) (group_at self.now group) slot) }
-        ensures none { result ≡ None → find (is_cached_as (context, key.now)) (group_at self.now group).items ≡ None }
+        ensures found { IfSome result (λ slot. IsFirstAt (is_cached_as command (context, key.now)) (group_at self.now group) slot) }
+        ensures none { result ≡ None → find (is_cached_as command (context, key.now)) (group_at self.now group).items ≡ None }
     {
         let entry = &self.groups[group];
-        bh_cache::find(&self.arena, &entry.lists, context, key)
+        bh_cache::find(&self.arena, &entry.lists, command, context, key)
     }
 
     /// Whether a ticket waits for a worker.

@@ -40,7 +40,7 @@ adds_taken a p q s (reply.Inline x) t h = h
 adds_taken a p q s (reply.FallbackDue x y) t h = h
 adds_taken a p q s (reply.Joined x) t h = h
 adds_taken a p q s reply.GroupFull t h = h
-adds_taken a p q s (reply.Assigned x y) t h = h
+adds_taken a p q s (reply.Assigned x y z) t h = h
 adds_taken a p q s reply.Idle t h = h
 adds_taken a p q s reply.Done t h = h
 adds_taken a p q s reply.Late t h = h
@@ -55,6 +55,7 @@ adds_taken a p q s (reply.Closed x) t h = h
 adds_taken a p q s (reply.Metrics x) t h = h
 adds_taken a p q s reply.Worn t h = absurd (let e : true ≡ false = t in cc)
 adds_taken a p q s reply.NoGroup t h = absurd (let e : true ≡ false = t in cc)
+adds_taken a p q s reply.NoCommand t h = absurd (let e : true ≡ false = t in cc)
 
 -- a step of the pass's own group that was no refusal
 pub taken : (moments : ℕ → Type 0) (a : Bool) (p q : PassView) (o : Op) (r : Reply) → is_refusal r ≡ false → StepAdds moments a p o r q → StepTaken moments a p o r q

@@ -7,6 +7,7 @@ use Rattle.bh_base.specs.declared.step.Op.TheVariants as op
 use Rattle.bh_base.specs.declared.step.FallbackEnd.{FallbackEnd}
 use Rattle.bh_base.specs.declared.step.Request.{Request}
 use Rattle.bh_base.specs.declared.step.RunEnd.{RunEnd}
+use Rattle.bh_base.specs.declared.step.RunEnd.TheVariants as run_end
 use Rattle.bh_base.specs.declared.reply.Answer.{Answer}
 use Rattle.bh_base.specs.declared.reply.CallError.{CallError}
 use Rattle.bh_base.specs.declared.reply.CallError.TheVariants as error
@@ -16,17 +17,18 @@ use Rattle.bh_base.specs.declared.reply.Reply.TheVariants as reply
 use Rattle.bh_journal.specs.declared.pass.Marks.{Marks}
 use Rattle.bh_journal.specs.declared.pass.Receipt.{Receipt}
 use Rattle.bh_journal.specs.Passes.{PassView, marked_worn, marked_no_group}
-use Rattle.bh_audit.specs.Calls.{AddsCollect}
+use Rattle.bh_audit.specs.Calls.{AddsCollect, CanBeMissing}
 use Rattle.bh_base.specs.Replies.{is_refusal}
 use Rattle.bh_workers.specs.Receipts.{IsReceiptOf, IsRunEnd, StepAdds, StepTaken, end_op}
 use Rattle.bh_workers.specs.Calls.{CallAdds, IsCall, IsCallMade, IsCollected, IsCollectedLast, IsFallbackEnd, IsFallenBack, IsRefused, IsRunInline, IsSettled, IsWaiting, MarksAre, Only, Then}
-use Rattle.bh_workers.proofs.Adding.{Gains-append, added_receipt, none_by_no_group, none_by_worn, taken}
+use Rattle.bh_workers.proofs.Adding.{Gains-append, added_receipt, none_by_no_group, none_by_same, none_by_worn, taken}
 
 -- marks that are so after a part of a call are so after the whole of it
 marks_then : (result : Result Answer CallError) (r : Receipt) (made : List Receipt) (m n k : Marks) → n ≡ m → MarksAre result made n k → MarksAre result (r ∷ made) m k
 marks_then (Ok answer) r made m n k same is = is ∙ same
 marks_then (Err error.GroupFull) r made m n k same is = is ∙ same
 marks_then (Err error.PassFull) r made m n k same is = is ∙ same
+marks_then (Err error.NoCommand) r made m n k same is = is ∙ same
 marks_then (Err error.Taken) r made m n k same is = is ∙ same
 marks_then (Err error.Worn) r made m n k same is = is ∙ ap (λ (x : Marks). record x { worn = true }) same
 marks_then (Err error.NoGroup) r made m n k same is = is ∙ ap (λ (x : Marks). record x { no_group = true }) same
@@ -115,37 +117,58 @@ module _ (moments : ℕ → Type 0) where
       step_only moments a p q (op.Collect serial) (reply.RunFallback cause) (Err error.Stopped) t
       (inr (t.marks, record { before = []; last = t.receipt; is = refl; cause = cause; reply = t.is.reply }))
 
--- a call that submitted its request does not end as a full pass
-module _ (ends : GroupId → List ℕ → RunEnd → Type 0) (fallback_ends : GroupId → Cause → List ℕ → FallbackEnd → Type 0) (moments : ℕ → Type 0) where
-  abbrev full : Result Answer CallError
-  full = Err error.PassFull
+-- a result that comes of no refusal and of no Collect
+pub record IsNoEnd (moments : ℕ → Type 0) (result : Result Answer CallError) : Type 0 where
+  pub refused : (made : List Receipt) → IsRefused result made → ⊥
+  pub collected : (g : GroupId) (serial : ℕ) (made : List Receipt) → IsCollected moments g serial result made → ⊥
+  pub waited : result ≢ Err error.Stopped
 
-  collected_last_unfull : (g : GroupId) (serial : ℕ) (made : List Receipt) → IsCollectedLast moments g serial full made → ⊥
-  collected_last_unfull g serial made (inl h) = h
-  collected_last_unfull g serial made (inr h) = (let e : Err error.PassFull ≡ Err error.Stopped = h.0 in absurd cc)
+-- so it comes of no call that has a ticket
+module _ (ends : GroupId → ℕ → List ℕ → RunEnd → Type 0) (fallback_ends : GroupId → ℕ → Cause → List ℕ → FallbackEnd → Type 0) (moments : ℕ → Type 0) where
+  collected_last_unended : (result : Result Answer CallError) → IsNoEnd moments result → (g : GroupId) (serial : ℕ) (made : List Receipt) → IsCollectedLast moments g serial result made → ⊥
+  collected_last_unended result never g serial made (inl h) = never.collected g serial made h
+  collected_last_unended result never g serial made (inr h) = never.waited h.0
 
-  fallen_back_unfull : (g : GroupId) (serial : ℕ) (cause : Cause) (arg : List ℕ) (made : List Receipt) → IsFallenBack fallback_ends moments g serial cause arg full made → ⊥
-  fallen_back_unfull g serial cause arg made (inl h) = h
-  fallen_back_unfull g serial cause arg [] (inr h) = h
-  fallen_back_unfull g serial cause arg (r ∷ rs) (inr h) = collected_last_unfull g serial rs h.1
+  fallen_back_unended : (result : Result Answer CallError) → IsNoEnd moments result → (g : GroupId) (serial : ℕ) (cause : Cause) (request : Request) (made : List Receipt)
+      → IsFallenBack fallback_ends moments g serial cause request result made → ⊥
+  fallen_back_unended result never g serial cause request made (inl h) = never.refused made h
+  fallen_back_unended result never g serial cause request [] (inr h) = h
+  fallen_back_unended result never g serial cause request (r ∷ rs) (inr h) = collected_last_unended result never g serial rs h.1
 
-  settled_unfull : (g : GroupId) (serial : ℕ) (arg : List ℕ) (made : List Receipt) → IsSettled fallback_ends moments g serial arg full made → ⊥
-  settled_unfull g serial arg made (inl h) = h
-  settled_unfull g serial arg [] (inr h) = h.1
-  settled_unfull g serial arg (r ∷ rs) (inr h) = fallen_back_unfull g serial h.0 arg rs h.1.1
+  pub settled_unended : (result : Result Answer CallError) → IsNoEnd moments result → (g : GroupId) (serial : ℕ) (request : Request) (made : List Receipt)
+      → IsSettled fallback_ends moments g serial request result made → ⊥
+  settled_unended result never g serial request made (inl h) = never.collected g serial made h
+  settled_unended result never g serial request [] (inr h) = h.1
+  settled_unended result never g serial request (r ∷ rs) (inr h) = fallen_back_unended result never g serial h.0 request rs h.1.1
 
-  run_inline_unfull : (g : GroupId) (serial : ℕ) (arg : List ℕ) (made : List Receipt) → IsRunInline ends fallback_ends moments g serial arg full made → ⊥
-  run_inline_unfull g serial arg made (inl h) = h
-  run_inline_unfull g serial arg [] (inr h) = h
-  run_inline_unfull g serial arg (r ∷ rs) (inr h) = settled_unfull g serial arg rs h.1
+  pub run_inline_unended : (result : Result Answer CallError) → IsNoEnd moments result → (g : GroupId) (serial : ℕ) (request : Request) (made : List Receipt)
+      → IsRunInline ends fallback_ends moments g serial request result made → ⊥
+  run_inline_unended result never g serial request made (inl h) = never.refused made h
+  run_inline_unended result never g serial request [] (inr h) = h
+  run_inline_unended result never g serial request (r ∷ rs) (inr h) = settled_unended result never g serial request rs h.1
 
-  call_unfull : (g : GroupId) (request : Request) (made : List Receipt) → IsCallMade ends fallback_ends moments g request full made → ⊥
-  call_unfull g request made (inl h) = h
-  call_unfull g request made (inr (inl h)) = (let e : Err error.PassFull ≡ Err error.GroupFull = h.0 in absurd cc)
-  call_unfull g request [] (inr (inr (inl h))) = h.1
-  call_unfull g request (r ∷ rs) (inr (inr (inl h))) = settled_unfull g h.0 request.arg rs h.1.1
-  call_unfull g request [] (inr (inr (inr h))) = h.1
-  call_unfull g request (r ∷ rs) (inr (inr (inr h))) = run_inline_unfull g h.0 request.arg rs h.1.1
+  call_unended : (result : Result Answer CallError) → IsNoEnd moments result → result ≢ Err error.GroupFull → (g : GroupId) (request : Request) (made : List Receipt)
+      → IsCallMade ends fallback_ends moments g request result made → ⊥
+  call_unended result never roomy g request made (inl h) = never.refused made h
+  call_unended result never roomy g request made (inr (inl h)) = roomy h.0
+  call_unended result never roomy g request [] (inr (inr (inl h))) = h.1
+  call_unended result never roomy g request (r ∷ rs) (inr (inr (inl h))) = settled_unended result never g h.0 request rs h.1.1
+  call_unended result never roomy g request [] (inr (inr (inr h))) = h.1
+  call_unended result never roomy g request (r ∷ rs) (inr (inr (inr h))) = run_inline_unended result never g h.0 request rs h.1.1
+
+  -- a call that submitted its request does not end as a full pass
+  call_unfull : (g : GroupId) (request : Request) (made : List Receipt) → IsCallMade ends fallback_ends moments g request (Err error.PassFull) made → ⊥
+  call_unfull =
+      let full : Result Answer CallError = Err error.PassFull in
+      let never : IsNoEnd moments full = record { refused = λ made h. h; collected = λ g serial made h. h; waited = λ e. (let f : full ≡ Err error.Stopped = e in cc) } in
+      call_unended full never (λ e. (let f : full ≡ Err error.GroupFull = e in cc))
+
+  -- nor as one whose command is missing, where the Submit was not refused so
+  call_unmissing : (g : GroupId) (request : Request) (made : List Receipt) → IsCallMade ends fallback_ends moments g request (Err error.NoCommand) made → ⊥
+  call_unmissing =
+      let missing : Result Answer CallError = Err error.NoCommand in
+      let never : IsNoEnd moments missing = record { refused = λ made h. h; collected = λ g serial made h. h; waited = λ e. (let f : missing ≡ Err error.Stopped = e in cc) } in
+      call_unended missing never (λ e. (let f : missing ≡ Err error.GroupFull = e in cc))
 
   call_made : (g : GroupId) (request : Request) (result : Result Answer CallError) (made : List Receipt) → IsCallMade ends fallback_ends moments g request result made
       → IsCall ends fallback_ends moments g request result made
@@ -153,6 +176,7 @@ module _ (ends : GroupId → List ℕ → RunEnd → Type 0) (fallback_ends : Gr
   call_made g request (Err error.GroupFull) made h = h
   call_made g request (Err error.Worn) made h = h
   call_made g request (Err error.PassFull) made h = absurd (call_unfull g request made h)
+  call_made g request (Err error.NoCommand) made h = absurd (call_unmissing g request made h)
   call_made g request (Err error.Stopped) made h = h
   call_made g request (Err error.Taken) made h = h
   call_made g request (Err error.NoGroup) made h = h
@@ -165,53 +189,53 @@ module _ (ends : GroupId → List ℕ → RunEnd → Type 0) (fallback_ends : Gr
       in_other_words a p q result (IsCallMade ends fallback_ends moments p.group request result) (IsCall ends fallback_ends moments p.group request result) (call_made p.group request result) k
 
   -- a collect after a fallback's end
-  pub falls_back : (a : Bool) (p m q : PassView) (g : GroupId) (serial : ℕ) (cause : Cause) (arg : List ℕ) (end : FallbackEnd) (answer : Reply) (result : Result Answer CallError)
-      → is_refusal answer ≡ false → g ≡ p.group → fallback_ends g cause arg end → StepAdds moments a p (op.FallbackDone serial end) answer m
+  pub falls_back : (a : Bool) (p m q : PassView) (g : GroupId) (serial : ℕ) (cause : Cause) (request : Request) (end : FallbackEnd) (answer : Reply) (result : Result Answer CallError)
+      → is_refusal answer ≡ false → g ≡ p.group → fallback_ends g request.command cause request.arg end → StepAdds moments a p (op.FallbackDone serial end) answer m
       → CallAdds a m result q (IsCollectedLast moments m.group serial result)
-      → CallAdds a p result q (IsFallenBack fallback_ends moments p.group serial cause arg result)
-  falls_back a p m q g serial cause arg end answer result accepted same possible h k =
+      → CallAdds a p result q (IsFallenBack fallback_ends moments p.group serial cause request result)
+  falls_back a p m q g serial cause request end answer result accepted same possible h k =
       let t = taken moments a p m (op.FallbackDone serial end) answer accepted h in
-      let told : IsFallbackEnd fallback_ends moments p.group serial cause arg t.receipt =
-      record { end = end; answered = answer; possible = (let P : GroupId → Type 0 = λ x. fallback_ends x cause arg end in subst P same possible); told = t.is } in
+      let told : IsFallbackEnd fallback_ends moments p.group serial cause request t.receipt =
+      record { end = end; answered = answer; possible = (let P : GroupId → Type 0 = λ x. fallback_ends x request.command cause request.arg end in subst P same possible); told = t.is } in
       let Last : GroupId → List Receipt → Type 0 = λ x. IsCollectedLast moments x serial result in
-      in_other_words a p q result (Then (IsFallbackEnd fallback_ends moments p.group serial cause arg) (Last p.group)) (IsFallenBack fallback_ends moments p.group serial cause arg result) (λ made h. inr h)
-      (step_then moments a p m q (op.FallbackDone serial end) answer result (IsFallbackEnd fallback_ends moments p.group serial cause arg) (Last p.group) t told
+      in_other_words a p q result (Then (IsFallbackEnd fallback_ends moments p.group serial cause request) (Last p.group)) (IsFallenBack fallback_ends moments p.group serial cause request result) (λ made h. inr h)
+      (step_then moments a p m q (op.FallbackDone serial end) answer result (IsFallbackEnd fallback_ends moments p.group serial cause request) (Last p.group) t told
       (of_group a m q m.group p.group result Last t.gains.group k))
 
   -- a fallback after a Collect
-  pub settles : (a : Bool) (p m q : PassView) (serial : ℕ) (cause : Cause) (arg : List ℕ) (result : Result Answer CallError)
+  pub settles : (a : Bool) (p m q : PassView) (serial : ℕ) (cause : Cause) (request : Request) (result : Result Answer CallError)
       → StepTaken moments a p (op.Collect serial) (reply.RunFallback cause) m
-      → CallAdds a m result q (IsFallenBack fallback_ends moments m.group serial cause arg result)
-      → CallAdds a p result q (IsSettled fallback_ends moments p.group serial arg result)
-  settles a p m q serial cause arg result t k =
+      → CallAdds a m result q (IsFallenBack fallback_ends moments m.group serial cause request result)
+      → CallAdds a p result q (IsSettled fallback_ends moments p.group serial request result)
+  settles a p m q serial cause request result t k =
       let First : Receipt → Type 0 = IsReceiptOf moments p.group (op.Collect serial) (reply.RunFallback cause) in
-      let Rest : GroupId → List Receipt → Type 0 = λ x. IsFallenBack fallback_ends moments x serial cause arg result in
-      in_other_words a p q result (Then First (Rest p.group)) (IsSettled fallback_ends moments p.group serial arg result) (λ made h. inr (cause, h))
+      let Rest : GroupId → List Receipt → Type 0 = λ x. IsFallenBack fallback_ends moments x serial cause request result in
+      in_other_words a p q result (Then First (Rest p.group)) (IsSettled fallback_ends moments p.group serial request result) (λ made h. inr (cause, h))
       (step_then moments a p m q (op.Collect serial) (reply.RunFallback cause) result First (Rest p.group) t t.is (of_group a m q m.group p.group result Rest t.gains.group k))
 
   -- an answer after the end of a run by the caller
-  pub runs_inline : (a : Bool) (p m q : PassView) (g : GroupId) (serial : ℕ) (arg : List ℕ) (end : RunEnd) (answer : Reply) (result : Result Answer CallError)
-      → is_refusal answer ≡ false → g ≡ p.group → ends g arg end → StepAdds moments a p (end_op serial end) answer m
-      → CallAdds a m result q (IsSettled fallback_ends moments m.group serial arg result)
-      → CallAdds a p result q (IsRunInline ends fallback_ends moments p.group serial arg result)
-  runs_inline a p m q g serial arg end answer result accepted same possible h k =
+  pub runs_inline : (a : Bool) (p m q : PassView) (g : GroupId) (serial : ℕ) (request : Request) (end : RunEnd) (answer : Reply) (result : Result Answer CallError)
+      → is_refusal answer ≡ false → g ≡ p.group → ends g request.command request.arg end → StepAdds moments a p (end_op serial end) answer m
+      → CallAdds a m result q (IsSettled fallback_ends moments m.group serial request result)
+      → CallAdds a p result q (IsRunInline ends fallback_ends moments p.group serial request result)
+  runs_inline a p m q g serial request end answer result accepted same possible h k =
       let t = taken moments a p m (end_op serial end) answer accepted h in
-      let told : IsRunEnd ends moments p.group serial arg t.receipt =
-      record { end = end; answered = answer; possible = (let P : GroupId → Type 0 = λ x. ends x arg end in subst P same possible); told = t.is } in
-      let Rest : GroupId → List Receipt → Type 0 = λ x. IsSettled fallback_ends moments x serial arg result in
-      in_other_words a p q result (Then (IsRunEnd ends moments p.group serial arg) (Rest p.group)) (IsRunInline ends fallback_ends moments p.group serial arg result) (λ made h. inr h)
-      (step_then moments a p m q (end_op serial end) answer result (IsRunEnd ends moments p.group serial arg) (Rest p.group) t told
+      let told : IsRunEnd ends moments p.group serial request.command request.arg t.receipt =
+      record { end = end; answered = answer; possible = (let P : GroupId → Type 0 = λ x. ends x request.command request.arg end in subst P same possible); told = t.is } in
+      let Rest : GroupId → List Receipt → Type 0 = λ x. IsSettled fallback_ends moments x serial request result in
+      in_other_words a p q result (Then (IsRunEnd ends moments p.group serial request.command request.arg) (Rest p.group)) (IsRunInline ends fallback_ends moments p.group serial request result) (λ made h. inr h)
+      (step_then moments a p m q (end_op serial end) answer result (IsRunEnd ends moments p.group serial request.command request.arg) (Rest p.group) t told
       (of_group a m q m.group p.group result Rest t.gains.group k))
 
   -- an answer after a Submit that asks for nothing else
   pub waits : (a : Bool) (p m q : PassView) (request : Request) (serial : ℕ) (answer : Reply) (result : Result Answer CallError)
       → is_refusal answer ≡ false → StepAdds moments a p (op.Submit request) answer m
       → ((r : Receipt) → IsReceiptOf moments p.group (op.Submit request) answer r → IsWaiting moments p.group request serial r)
-      → CallAdds a m result q (IsSettled fallback_ends moments m.group serial request.arg result)
+      → CallAdds a m result q (IsSettled fallback_ends moments m.group serial request result)
       → CallAdds a p result q (IsCallMade ends fallback_ends moments p.group request result)
   waits a p m q request serial answer result accepted h names k =
       let t = taken moments a p m (op.Submit request) answer accepted h in
-      let Rest : GroupId → List Receipt → Type 0 = λ x. IsSettled fallback_ends moments x serial request.arg result in
+      let Rest : GroupId → List Receipt → Type 0 = λ x. IsSettled fallback_ends moments x serial request result in
       in_other_words a p q result (Then (IsWaiting moments p.group request serial) (Rest p.group)) (IsCallMade ends fallback_ends moments p.group request result) (λ made h. inr (inr (inl (serial, h))))
       (step_then moments a p m q (op.Submit request) answer result (IsWaiting moments p.group request serial) (Rest p.group) t (names t.receipt t.is)
       (of_group a m q m.group p.group result Rest t.gains.group k))
@@ -219,12 +243,12 @@ module _ (ends : GroupId → List ℕ → RunEnd → Type 0) (fallback_ends : Gr
   -- a run by the caller after a Submit that asks for it
   pub runs : (a : Bool) (p m q : PassView) (request : Request) (serial : ℕ) (result : Result Answer CallError)
       → StepAdds moments a p (op.Submit request) (reply.Inline serial) m
-      → CallAdds a m result q (IsRunInline ends fallback_ends moments m.group serial request.arg result)
+      → CallAdds a m result q (IsRunInline ends fallback_ends moments m.group serial request result)
       → CallAdds a p result q (IsCallMade ends fallback_ends moments p.group request result)
   runs a p m q request serial result h k =
       let t = taken moments a p m (op.Submit request) (reply.Inline serial) refl h in
       let First : Receipt → Type 0 = IsReceiptOf moments p.group (op.Submit request) (reply.Inline serial) in
-      let Rest : GroupId → List Receipt → Type 0 = λ x. IsRunInline ends fallback_ends moments x serial request.arg result in
+      let Rest : GroupId → List Receipt → Type 0 = λ x. IsRunInline ends fallback_ends moments x serial request result in
       in_other_words a p q result (Then First (Rest p.group)) (IsCallMade ends fallback_ends moments p.group request result) (λ made h. inr (inr (inr (serial, h))))
       (step_then moments a p m q (op.Submit request) (reply.Inline serial) result First (Rest p.group) t t.is (of_group a m q m.group p.group result Rest t.gains.group k))
 
@@ -235,25 +259,42 @@ module _ (ends : GroupId → List ℕ → RunEnd → Type 0) (fallback_ends : Gr
       let t = taken moments a p q (op.Submit request) reply.GroupFull refl h in
       record { made = t.receipt ∷ []; gains = t.gains; marks = t.marks; is = inr (inl (refl, (t.is, refl))) }
 
--- a reply that is neither refusal was accepted
-pub accepted_reply : (r : Reply) → r ≢ reply.Worn → r ≢ reply.NoGroup → is_refusal r ≡ false
-accepted_reply (reply.Queued x) w n = refl
-accepted_reply (reply.Inline x) w n = refl
-accepted_reply (reply.FallbackDue x y) w n = refl
-accepted_reply (reply.Joined x) w n = refl
-accepted_reply reply.GroupFull w n = refl
-accepted_reply (reply.Assigned x y) w n = refl
-accepted_reply reply.Idle w n = refl
-accepted_reply reply.Done w n = refl
-accepted_reply reply.Late w n = refl
-accepted_reply reply.NotRunning w n = refl
-accepted_reply (reply.Expired x) w n = refl
-accepted_reply reply.Pending w n = refl
-accepted_reply (reply.RunFallback x) w n = refl
-accepted_reply (reply.Answered x) w n = refl
-accepted_reply reply.NoTicket w n = refl
-accepted_reply reply.NotInFallback w n = refl
-accepted_reply (reply.Closed x) w n = refl
-accepted_reply (reply.Metrics x) w n = refl
-accepted_reply reply.Worn w n = absurd (w refl)
-accepted_reply reply.NoGroup w n = absurd (n refl)
+  -- a Submit of a command that the group lacks
+  pub finds_missing : (a : Bool) (p q : PassView) (request : Request) → StepAdds moments a p (op.Submit request) reply.NoCommand q → CanBeMissing (op.Submit request)
+      → CallAdds a p (Err error.NoCommand) q (IsCall ends fallback_ends moments p.group request (Err error.NoCommand))
+  finds_missing a p q request h lacks =
+      record { made = []; gains = none_by_same a p q h.2; marks = ap (λ (x : PassView). x.marks) h.2; is = (refl, lacks) }
+
+-- the end of a run names no command
+pub end_known : (serial : ℕ) (end : RunEnd) → CanBeMissing (end_op serial end) → ⊥
+end_known serial (run_end.Success body) h = (let both : true ≡ false = h.1 in cc)
+end_known serial run_end.Failure h = (let both : true ≡ false = h.1 in cc)
+end_known serial run_end.BadRequest h = (let both : true ≡ false = h.1 in cc)
+
+-- nor does that of a fallback
+pub fallback_end_known : (serial : ℕ) (end : FallbackEnd) → CanBeMissing (op.FallbackDone serial end) → ⊥
+fallback_end_known serial end h = (let both : true ≡ false = h.1 in cc)
+
+-- a reply that is no refusal was accepted
+pub accepted_reply : (r : Reply) → r ≢ reply.Worn → r ≢ reply.NoGroup → r ≢ reply.NoCommand → is_refusal r ≡ false
+accepted_reply (reply.Queued x) w n m = refl
+accepted_reply (reply.Inline x) w n m = refl
+accepted_reply (reply.FallbackDue x y) w n m = refl
+accepted_reply (reply.Joined x) w n m = refl
+accepted_reply reply.GroupFull w n m = refl
+accepted_reply (reply.Assigned x y z) w n m = refl
+accepted_reply reply.Idle w n m = refl
+accepted_reply reply.Done w n m = refl
+accepted_reply reply.Late w n m = refl
+accepted_reply reply.NotRunning w n m = refl
+accepted_reply (reply.Expired x) w n m = refl
+accepted_reply reply.Pending w n m = refl
+accepted_reply (reply.RunFallback x) w n m = refl
+accepted_reply (reply.Answered x) w n m = refl
+accepted_reply reply.NoTicket w n m = refl
+accepted_reply reply.NotInFallback w n m = refl
+accepted_reply (reply.Closed x) w n m = refl
+accepted_reply (reply.Metrics x) w n m = refl
+accepted_reply reply.Worn w n m = absurd (w refl)
+accepted_reply reply.NoGroup w n m = absurd (n refl)
+accepted_reply reply.NoCommand w n m = absurd (m refl)

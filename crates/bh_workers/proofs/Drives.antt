@@ -81,6 +81,7 @@ marks_stay : (result : Result Answer CallError) (made : List Receipt) (m m' : Ma
 marks_stay (Ok answer) made m m' h = same_stay m m' h
 marks_stay (Err error.GroupFull) made m m' h = same_stay m m' h
 marks_stay (Err error.PassFull) made m m' h = same_stay m m' h
+marks_stay (Err error.NoCommand) made m m' h = same_stay m m' h
 marks_stay (Err error.Taken) made m m' h = same_stay m m' h
 marks_stay (Err error.Worn) made m m' h =
     record { worn = λ k. ap (λ (x : Marks). x.worn) h; no_group = λ k. ap (λ (x : Marks). x.no_group) h ∙ k; stopped = λ k. ap (λ (x : Marks). x.stopped) h ∙ k }
@@ -95,6 +96,7 @@ marked : (result : Result Answer CallError) (made : List Receipt) (m m' : Marks)
 marked (Ok answer) made m m' h = tt
 marked (Err error.GroupFull) made m m' h = tt
 marked (Err error.PassFull) made m m' h = tt
+marked (Err error.NoCommand) made m m' h = tt
 marked (Err error.Taken) made m m' h = tt
 marked (Err error.Worn) made m m' h = ap (λ (x : Marks). x.worn) h
 marked (Err error.NoGroup) made m m' h = ap (λ (x : Marks). x.no_group) h
@@ -106,13 +108,14 @@ still_marked : (result : Result Answer CallError) (part : List Receipt) (m m' : 
 still_marked (Ok answer) part m m' s h = tt
 still_marked (Err error.GroupFull) part m m' s h = tt
 still_marked (Err error.PassFull) part m m' s h = tt
+still_marked (Err error.NoCommand) part m m' s h = tt
 still_marked (Err error.Taken) part m m' s h = tt
 still_marked (Err error.Worn) part m m' s h = s.worn h
 still_marked (Err error.NoGroup) part m m' s h = s.no_group h
 still_marked (Err error.Stopped) part m m' s (inl h) = inl (s.stopped h)
 still_marked (Err error.Stopped) part m m' s (inr h) = inr h
 
-module _ (ends : GroupId → List ℕ → RunEnd → Type 0) (fallback_ends : GroupId → Cause → List ℕ → FallbackEnd → Type 0) (moments : ℕ → Type 0) where
+module _ (ends : GroupId → ℕ → List ℕ → RunEnd → Type 0) (fallback_ends : GroupId → ℕ → Cause → List ℕ → FallbackEnd → Type 0) (moments : ℕ → Type 0) where
   -- calls, and one more
   calls_then : (g : GroupId) (m m' : Marks) (qs : List Request) (bs : List (Result Answer CallError)) (rs : List Receipt) (q : Request) (b : Result Answer CallError) (part : List Receipt)
       → MarksStay m m' → AreCalls ends fallback_ends moments g m qs bs rs → IsCall ends fallback_ends moments g q b part → IsMarked m' b part
@@ -216,7 +219,7 @@ callers_push {D} {C} a room lists hs h i l all len here is k l' h' atl ath =
     ]
 
 -- the same in equal words
-pub called_as : (ends : GroupId → List ℕ → RunEnd → Type 0) (fallback_ends : GroupId → Cause → List ℕ → FallbackEnd → Type 0) (moments : ℕ → Type 0) (a a' : Bool) (g g' : GroupId) (n n' : ℕ) (qs qs' : List Request) (r r' : Called)
+pub called_as : (ends : GroupId → ℕ → List ℕ → RunEnd → Type 0) (fallback_ends : GroupId → ℕ → Cause → List ℕ → FallbackEnd → Type 0) (moments : ℕ → Type 0) (a a' : Bool) (g g' : GroupId) (n n' : ℕ) (qs qs' : List Request) (r r' : Called)
     → a ≡ a' → g ≡ g' → n ≡ n' → qs ≡ qs' → r ≡ r' → CalledAs ends fallback_ends moments a g n qs r → CalledAs ends fallback_ends moments a' g' n' qs' r'
 called_as ends fallback_ends moments a a' g g' n n' qs qs' r r' ea eg en eq er h =
     let A : Bool → Type 0 = λ x. CalledAs ends fallback_ends moments x g' n' qs' r' in
@@ -227,7 +230,7 @@ called_as ends fallback_ends moments a a' g g' n n' qs qs' r r' ea eg en eq er h
     subst A ea (subst G eg (subst N en (subst Q eq (subst R er h))))
 
 -- the room of a pass is what was asked for in an audited service, and in another none is needed
-pub with_room : (ends : GroupId → List ℕ → RunEnd → Type 0) (fallback_ends : GroupId → Cause → List ℕ → FallbackEnd → Type 0) (moments : ℕ → Type 0) (a : Bool) (g : GroupId) (room : ℕ) (qs : List Request) (r : Called)
+pub with_room : (ends : GroupId → ℕ → List ℕ → RunEnd → Type 0) (fallback_ends : GroupId → ℕ → Cause → List ℕ → FallbackEnd → Type 0) (moments : ℕ → Type 0) (a : Bool) (g : GroupId) (room : ℕ) (qs : List Request) (r : Called)
     → CalledAs ends fallback_ends moments a g (if a then room else 0) qs r → CalledAs ends fallback_ends moments a g room qs r
 with_room ends fallback_ends moments true g room qs r h = h
 with_room ends fallback_ends moments false g room qs r h = record { caller = h.caller; unrefused = λ has. h.unrefused (λ e. absurd (let f : false ≡ true = e in cc)) }

@@ -19,6 +19,7 @@ use Rattle.bh_journal.specs.declared.pass.Receipt.{Receipt}
 use Rattle.bh_workers.specs.Receipts.{IsReceiptOf, IsRunEnd, end_op}
 use Rattle.bh_workers.specs.Calls.{IsCall, IsCallMade, IsCollected, IsCollectedLast, IsFallbackEnd, IsFallenBack, IsNothing, IsRefused, IsRunInline, IsSettled, IsWaiting, Only, Then}
 use Rattle.bh_workers.specs.CallLaw.{AreToldBy, CollectsItsTicket, IsStepAt, IsTold, SubmitsFor}
+use Rattle.bh_workers.proofs.Calling.{IsNoEnd, run_inline_unended, settled_unended}
 
 -- a last receipt that is so
 record EndsIn (IsSo : Receipt → Type 0) (made : List Receipt) : Type 0 where
@@ -68,6 +69,7 @@ module _ (moments : ℕ → Type 0) (g : GroupId) where
   refused_within most (Ok answer) made h = absurd h
   refused_within most (Err error.GroupFull) made h = absurd h
   refused_within most (Err error.PassFull) made h = absurd h
+  refused_within most (Err error.NoCommand) made h = absurd h
   refused_within most (Err error.Taken) made h = absurd h
   refused_within most (Err error.Stopped) made h = absurd h
   refused_within most (Err error.Worn) made h = within_nothing most (IsStepAt moments g) made h
@@ -79,6 +81,7 @@ module _ (moments : ℕ → Type 0) (g : GroupId) where
   collected_within serial (Err error.Stopped) made h = only_within (op.Collect serial) reply.Pending made h
   collected_within serial (Err error.GroupFull) made h = absurd h
   collected_within serial (Err error.PassFull) made h = absurd h
+  collected_within serial (Err error.NoCommand) made h = absurd h
   collected_within serial (Err error.Worn) made h = within_nothing 1 (IsStepAt moments g) made h
   collected_within serial (Err error.NoGroup) made h = within_nothing 1 (IsStepAt moments g) made h
 
@@ -96,36 +99,36 @@ module _ (moments : ℕ → Type 0) (g : GroupId) where
   waiting_names request serial r (inr (inl h)) = record { answered = reply.Joined serial; names = refl; submitted = h }
   waiting_names request serial r (inr (inr h)) = record { answered = reply.FallbackDue serial h.0; names = refl; submitted = h.1 }
 
-module _ (ends : GroupId → List ℕ → RunEnd → Type 0) (fallback_ends : GroupId → Cause → List ℕ → FallbackEnd → Type 0) (moments : ℕ → Type 0) (g : GroupId) where
-  fallen_back_within : (serial : ℕ) (cause : Cause) (arg : List ℕ) (result : Result Answer CallError) (made : List Receipt)
-      → IsFallenBack fallback_ends moments g serial cause arg result made → Within 2 (IsStepAt moments g) made
-  fallen_back_within serial cause arg result made (inl h) = refused_within moments g 2 result made h
-  fallen_back_within serial cause arg result made (inr h) =
-      within_then 1 (IsStepAt moments g) (IsFallbackEnd fallback_ends moments g serial cause arg) (IsCollectedLast moments g serial result)
+module _ (ends : GroupId → ℕ → List ℕ → RunEnd → Type 0) (fallback_ends : GroupId → ℕ → Cause → List ℕ → FallbackEnd → Type 0) (moments : ℕ → Type 0) (g : GroupId) where
+  fallen_back_within : (serial : ℕ) (cause : Cause) (request : Request) (result : Result Answer CallError) (made : List Receipt)
+      → IsFallenBack fallback_ends moments g serial cause request result made → Within 2 (IsStepAt moments g) made
+  fallen_back_within serial cause request result made (inl h) = refused_within moments g 2 result made h
+  fallen_back_within serial cause request result made (inr h) =
+      within_then 1 (IsStepAt moments g) (IsFallbackEnd fallback_ends moments g serial cause request) (IsCollectedLast moments g serial result)
       (λ r e. step_at moments g (op.FallbackDone serial e.end) e.answered r e.told) (collected_last_within moments g serial result) made h
 
-  settled_within : (serial : ℕ) (arg : List ℕ) (result : Result Answer CallError) (made : List Receipt) → IsSettled fallback_ends moments g serial arg result made → Within 3 (IsStepAt moments g) made
-  settled_within serial arg result made (inl h) = within_more 1 3 (IsStepAt moments g) made (omega arith) (collected_within moments g serial result made h)
-  settled_within serial arg result made (inr h) =
-      within_then 2 (IsStepAt moments g) (IsReceiptOf moments g (op.Collect serial) (reply.RunFallback h.0)) (IsFallenBack fallback_ends moments g serial h.0 arg result)
-      (step_at moments g (op.Collect serial) (reply.RunFallback h.0)) (fallen_back_within serial h.0 arg result) made h.1
+  settled_within : (serial : ℕ) (request : Request) (result : Result Answer CallError) (made : List Receipt) → IsSettled fallback_ends moments g serial request result made → Within 3 (IsStepAt moments g) made
+  settled_within serial request result made (inl h) = within_more 1 3 (IsStepAt moments g) made (omega arith) (collected_within moments g serial result made h)
+  settled_within serial request result made (inr h) =
+      within_then 2 (IsStepAt moments g) (IsReceiptOf moments g (op.Collect serial) (reply.RunFallback h.0)) (IsFallenBack fallback_ends moments g serial h.0 request result)
+      (step_at moments g (op.Collect serial) (reply.RunFallback h.0)) (fallen_back_within serial h.0 request result) made h.1
 
-  run_inline_within : (serial : ℕ) (arg : List ℕ) (result : Result Answer CallError) (made : List Receipt) → IsRunInline ends fallback_ends moments g serial arg result made → Within 4 (IsStepAt moments g) made
-  run_inline_within serial arg result made (inl h) = refused_within moments g 4 result made h
-  run_inline_within serial arg result made (inr h) =
-      within_then 3 (IsStepAt moments g) (IsRunEnd ends moments g serial arg) (IsSettled fallback_ends moments g serial arg result)
-      (λ r e. step_at moments g (end_op serial e.end) e.answered r e.told) (settled_within serial arg result) made h
+  run_inline_within : (serial : ℕ) (request : Request) (result : Result Answer CallError) (made : List Receipt) → IsRunInline ends fallback_ends moments g serial request result made → Within 4 (IsStepAt moments g) made
+  run_inline_within serial request result made (inl h) = refused_within moments g 4 result made h
+  run_inline_within serial request result made (inr h) =
+      within_then 3 (IsStepAt moments g) (IsRunEnd ends moments g serial request.command request.arg) (IsSettled fallback_ends moments g serial request result)
+      (λ r e. step_at moments g (end_op serial e.end) e.answered r e.told) (settled_within serial request result) made h
 
   call_within : (request : Request) (result : Result Answer CallError) (made : List Receipt) → IsCallMade ends fallback_ends moments g request result made → Within 5 (IsStepAt moments g) made
   call_within request result made (inl h) = refused_within moments g 5 result made h
   call_within request result made (inr (inl h)) = within_more 1 5 (IsStepAt moments g) made (omega arith) (only_within moments g (op.Submit request) reply.GroupFull made h.1)
   call_within request result made (inr (inr (inl h))) =
       within_more 4 5 (IsStepAt moments g) made (omega arith)
-      (within_then 3 (IsStepAt moments g) (IsWaiting moments g request h.0) (IsSettled fallback_ends moments g h.0 request.arg result)
-      (waiting_at moments g request h.0) (settled_within h.0 request.arg result) made h.1)
+      (within_then 3 (IsStepAt moments g) (IsWaiting moments g request h.0) (IsSettled fallback_ends moments g h.0 request result)
+      (waiting_at moments g request h.0) (settled_within h.0 request result) made h.1)
   call_within request result made (inr (inr (inr h))) =
-      within_then 4 (IsStepAt moments g) (IsReceiptOf moments g (op.Submit request) (reply.Inline h.0)) (IsRunInline ends fallback_ends moments g h.0 request.arg result)
-      (step_at moments g (op.Submit request) (reply.Inline h.0)) (run_inline_within h.0 request.arg result) made h.1
+      within_then 4 (IsStepAt moments g) (IsReceiptOf moments g (op.Submit request) (reply.Inline h.0)) (IsRunInline ends fallback_ends moments g h.0 request result)
+      (step_at moments g (op.Submit request) (reply.Inline h.0)) (run_inline_within h.0 request result) made h.1
 
   -- a result that comes of a Collect answered so, and of nothing else
   record ComesOf (result : Result Answer CallError) (answered : Reply) : Type 0 where
@@ -150,29 +153,29 @@ module _ (ends : GroupId → List ℕ → RunEnd → Type 0) (fallback_ends : Gr
     roomy = λ e. (let f : Err error.Taken ≡ Err error.GroupFull = e in absurd cc);
   }
 
-  fallen_back_ends : (serial : ℕ) (cause : Cause) (arg : List ℕ) (result : Result Answer CallError) (answered : Reply) → ComesOf result answered → (made : List Receipt)
-      → IsFallenBack fallback_ends moments g serial cause arg result made → EndsIn (IsReceiptOf moments g (op.Collect serial) answered) made
-  fallen_back_ends serial cause arg result answered c made (inl h) = absurd (c.unrefused made h)
-  fallen_back_ends serial cause arg result answered c [] (inr h) = absurd h
-  fallen_back_ends serial cause arg result answered c (e ∷ rs) (inr h) =
+  fallen_back_ends : (serial : ℕ) (cause : Cause) (request : Request) (result : Result Answer CallError) (answered : Reply) → ComesOf result answered → (made : List Receipt)
+      → IsFallenBack fallback_ends moments g serial cause request result made → EndsIn (IsReceiptOf moments g (op.Collect serial) answered) made
+  fallen_back_ends serial cause request result answered c made (inl h) = absurd (c.unrefused made h)
+  fallen_back_ends serial cause request result answered c [] (inr h) = absurd h
+  fallen_back_ends serial cause request result answered c (e ∷ rs) (inr h) =
       let Last : Receipt → Type 0 = IsReceiptOf moments g (op.Collect serial) answered in
       elim h.1 [
         | inl k ↦ ends_in_more Last e rs (ends_in_only Last rs (c.collected serial rs k))
         | inr k ↦ absurd (c.waited k.0)
       ]
 
-  settled_ends : (serial : ℕ) (arg : List ℕ) (result : Result Answer CallError) (answered : Reply) → ComesOf result answered → (made : List Receipt)
-      → IsSettled fallback_ends moments g serial arg result made → EndsIn (IsReceiptOf moments g (op.Collect serial) answered) made
-  settled_ends serial arg result answered c made (inl h) = ends_in_only (IsReceiptOf moments g (op.Collect serial) answered) made (c.collected serial made h)
-  settled_ends serial arg result answered c [] (inr h) = absurd h.1
-  settled_ends serial arg result answered c (r ∷ rs) (inr h) =
-      ends_in_more (IsReceiptOf moments g (op.Collect serial) answered) r rs (fallen_back_ends serial h.0 arg result answered c rs h.1.1)
+  settled_ends : (serial : ℕ) (request : Request) (result : Result Answer CallError) (answered : Reply) → ComesOf result answered → (made : List Receipt)
+      → IsSettled fallback_ends moments g serial request result made → EndsIn (IsReceiptOf moments g (op.Collect serial) answered) made
+  settled_ends serial request result answered c made (inl h) = ends_in_only (IsReceiptOf moments g (op.Collect serial) answered) made (c.collected serial made h)
+  settled_ends serial request result answered c [] (inr h) = absurd h.1
+  settled_ends serial request result answered c (r ∷ rs) (inr h) =
+      ends_in_more (IsReceiptOf moments g (op.Collect serial) answered) r rs (fallen_back_ends serial h.0 request result answered c rs h.1.1)
 
-  run_inline_ends : (serial : ℕ) (arg : List ℕ) (result : Result Answer CallError) (answered : Reply) → ComesOf result answered → (made : List Receipt)
-      → IsRunInline ends fallback_ends moments g serial arg result made → EndsIn (IsReceiptOf moments g (op.Collect serial) answered) made
-  run_inline_ends serial arg result answered c made (inl h) = absurd (c.unrefused made h)
-  run_inline_ends serial arg result answered c [] (inr h) = absurd h
-  run_inline_ends serial arg result answered c (e ∷ rs) (inr h) = ends_in_more (IsReceiptOf moments g (op.Collect serial) answered) e rs (settled_ends serial arg result answered c rs h.1)
+  run_inline_ends : (serial : ℕ) (request : Request) (result : Result Answer CallError) (answered : Reply) → ComesOf result answered → (made : List Receipt)
+      → IsRunInline ends fallback_ends moments g serial request result made → EndsIn (IsReceiptOf moments g (op.Collect serial) answered) made
+  run_inline_ends serial request result answered c made (inl h) = absurd (c.unrefused made h)
+  run_inline_ends serial request result answered c [] (inr h) = absurd h
+  run_inline_ends serial request result answered c (e ∷ rs) (inr h) = ends_in_more (IsReceiptOf moments g (op.Collect serial) answered) e rs (settled_ends serial request result answered c rs h.1)
 
   collects : (request : Request) (answered : Reply) (serial : ℕ) (r : Receipt) (rs : List Receipt) → SubmitsFor moments g request serial r → EndsIn (IsReceiptOf moments g (op.Collect serial) answered) rs
       → CollectsItsTicket moments g request answered (r ∷ rs)
@@ -192,40 +195,24 @@ module _ (ends : GroupId → List ℕ → RunEnd → Type 0) (fallback_ends : Gr
   call_collects request result answered c made (inr (inl h)) = absurd (c.roomy h.0)
   call_collects request result answered c [] (inr (inr (inl h))) = absurd h.1
   call_collects request result answered c (r ∷ rs) (inr (inr (inl h))) =
-      collects request answered h.0 r rs (waiting_names moments g request h.0 r h.1.0) (settled_ends h.0 request.arg result answered c rs h.1.1)
+      collects request answered h.0 r rs (waiting_names moments g request h.0 r h.1.0) (settled_ends h.0 request result answered c rs h.1.1)
   call_collects request result answered c [] (inr (inr (inr h))) = absurd h.1
   call_collects request result answered c (r ∷ rs) (inr (inr (inr h))) =
-      collects request answered h.0 r rs (record { answered = reply.Inline h.0; names = refl; submitted = h.1.0 }) (run_inline_ends h.0 request.arg result answered c rs h.1.1)
+      collects request answered h.0 r rs (record { answered = reply.Inline h.0; names = refl; submitted = h.1.0 }) (run_inline_ends h.0 request result answered c rs h.1.1)
 
   abbrev no_slot : Result Answer CallError
   no_slot = Err error.GroupFull
 
-  no_slot_last : (serial : ℕ) (made : List Receipt) → IsCollectedLast moments g serial no_slot made → ⊥
-  no_slot_last serial made (inl h) = h
-  no_slot_last serial made (inr h) = (let e : Err error.GroupFull ≡ Err error.Stopped = h.0 in absurd cc)
-
-  no_slot_settled : (serial : ℕ) (arg : List ℕ) (made : List Receipt) → IsSettled fallback_ends moments g serial arg no_slot made → ⊥
-  no_slot_settled serial arg made (inl h) = h
-  no_slot_settled serial arg [] (inr h) = h.1
-  no_slot_settled serial arg (r ∷ rs) (inr h) = fallen_back rs h.1.1
-    where
-      fallen_back : (rs : List Receipt) → IsFallenBack fallback_ends moments g serial h.0 arg no_slot rs → ⊥
-      fallen_back rs (inl k) = k
-      fallen_back [] (inr k) = k
-      fallen_back (e ∷ es) (inr k) = no_slot_last serial es k.1
-
-  no_slot_inline : (serial : ℕ) (arg : List ℕ) (made : List Receipt) → IsRunInline ends fallback_ends moments g serial arg no_slot made → ⊥
-  no_slot_inline serial arg made (inl h) = h
-  no_slot_inline serial arg [] (inr h) = h
-  no_slot_inline serial arg (r ∷ rs) (inr h) = no_slot_settled serial arg rs h.1
+  full : IsNoEnd moments no_slot
+  full = record { refused = λ made h. h; collected = λ g serial made h. h; waited = λ e. (let f : no_slot ≡ Err error.Stopped = e in absurd cc) }
 
   no_slot_submits : (request : Request) (made : List Receipt) → IsCallMade ends fallback_ends moments g request no_slot made → Only (IsReceiptOf moments g (op.Submit request) reply.GroupFull) made
   no_slot_submits request made (inl h) = absurd h
   no_slot_submits request made (inr (inl h)) = h.1
   no_slot_submits request [] (inr (inr (inl h))) = absurd h.1
-  no_slot_submits request (r ∷ rs) (inr (inr (inl h))) = absurd (no_slot_settled h.0 request.arg rs h.1.1)
+  no_slot_submits request (r ∷ rs) (inr (inr (inl h))) = absurd (settled_unended ends fallback_ends moments no_slot full g h.0 request rs h.1.1)
   no_slot_submits request [] (inr (inr (inr h))) = absurd h.1
-  no_slot_submits request (r ∷ rs) (inr (inr (inr h))) = absurd (no_slot_inline h.0 request.arg rs h.1.1)
+  no_slot_submits request (r ∷ rs) (inr (inr (inr h))) = absurd (run_inline_unended ends fallback_ends moments no_slot full g h.0 request rs h.1.1)
 
   told : (request : Request) (result : Result Answer CallError) (made : List Receipt) → Within 5 (IsStepAt moments g) made → AreToldBy moments g request result made → IsTold moments g request result made
   told request result made w t = record { few = w.few; steps = w.all; told = t }
@@ -238,6 +225,7 @@ module _ (ends : GroupId → List ℕ → RunEnd → Type 0) (fallback_ends : Gr
       told request (Err error.Taken) made (call_within request (Err error.Taken) made h) (call_collects request (Err error.Taken) reply.NoTicket taken_comes made h)
   call_tells request (Err error.GroupFull) made h = told request (Err error.GroupFull) made (call_within request (Err error.GroupFull) made h) (no_slot_submits request made h)
   call_tells request (Err error.PassFull) made h = told request (Err error.PassFull) made (within_nothing 5 (IsStepAt moments g) made h) h
+  call_tells request (Err error.NoCommand) made h = told request (Err error.NoCommand) made (within_nothing 5 (IsStepAt moments g) made h.0) h.0
   call_tells request (Err error.Worn) made h = told request (Err error.Worn) made (call_within request (Err error.Worn) made h) tt
   call_tells request (Err error.NoGroup) made h = told request (Err error.NoGroup) made (call_within request (Err error.NoGroup) made h) tt
   call_tells request (Err error.Stopped) made h = told request (Err error.Stopped) made (call_within request (Err error.Stopped) made h) tt

@@ -46,6 +46,7 @@ AreToldBy moments g request (Ok answer) made = CollectsItsTicket moments g reque
 AreToldBy moments g request (Err error.Taken) made = CollectsItsTicket moments g request reply.NoTicket made
 AreToldBy moments g request (Err error.GroupFull) made = Only (IsReceiptOf moments g (op.Submit request) reply.GroupFull) made
 AreToldBy moments g request (Err error.PassFull) made = IsNothing made
+AreToldBy moments g request (Err error.NoCommand) made = IsNothing made
 AreToldBy moments g request result made = Unit {0}
 
 -- a step of the group at a moment that the clock names
@@ -59,6 +60,6 @@ pub record IsTold (moments : ℕ → Type 0) (g : GroupId) (request : Request) (
   pub steps : AllByRecursion (IsStepAt moments g) made
   pub told : AreToldBy moments g request result made
 
-abbrev pub CallLaw : (GroupId → List ℕ → RunEnd → Type 0) → (GroupId → Cause → List ℕ → FallbackEnd → Type 0) → (ℕ → Type 0) → Type 0
+abbrev pub CallLaw : (GroupId → ℕ → List ℕ → RunEnd → Type 0) → (GroupId → ℕ → Cause → List ℕ → FallbackEnd → Type 0) → (ℕ → Type 0) → Type 0
 CallLaw ends fallback_ends moments =
     (g : GroupId) (request : Request) (result : Result Answer CallError) (made : List Receipt) → IsCall ends fallback_ends moments g request result made → IsTold moments g request result made

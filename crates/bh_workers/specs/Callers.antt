@@ -15,7 +15,7 @@ use Rattle.bh_workers.specs.declared.driving.RequestList.{RequestList}
 use Rattle.bh_workers.specs.Calls.{CallAdds, IsCall}
 use Rattle.bh_workers.specs.Driving.{HasRoomFor, IsCaller, NoneIsFull}
 
-module _ (ends : GroupId → List ℕ → RunEnd → Type 0) (fallback_ends : GroupId → Cause → List ℕ → FallbackEnd → Type 0) (moments : ℕ → Type 0) where
+module _ (ends : GroupId → ℕ → List ℕ → RunEnd → Type 0) (fallback_ends : GroupId → ℕ → Cause → List ℕ → FallbackEnd → Type 0) (moments : ℕ → Type 0) where
   -- a call was made, and its answer added to the others
   abbrev pub MakesCall : Bool → PassView → List (Result Answer CallError) → Request → PassView → List (Result Answer CallError) → Type 0
   MakesCall audited p answers request p' answers' =

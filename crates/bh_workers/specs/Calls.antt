@@ -14,6 +14,7 @@ use Rattle.bh_base.specs.declared.reply.Reply.TheVariants as reply
 use Rattle.bh_journal.specs.declared.pass.Marks.{Marks}
 use Rattle.bh_journal.specs.declared.pass.Receipt.{Receipt}
 use Rattle.bh_journal.specs.Passes.{PassView}
+use Rattle.bh_audit.specs.Calls.{CanBeMissing}
 use Rattle.bh_workers.specs.Receipts.{Gains, IsReceiptOf, IsRunEnd}
 
 -- nothing is added
@@ -29,7 +30,7 @@ Then First Rest (r ∷ rs) = First r × Rest rs
 abbrev pub Only : (Receipt → Type 0) → List Receipt → Type 0
 Only First = Then First IsNothing
 
--- a step was refused, which adds nothing
+-- a step was refused, as the group is worn or not registered, which adds nothing
 abbrev pub IsRefused : Result Answer CallError → List Receipt → Type 0
 IsRefused (Err error.Worn) made = IsNothing made
 IsRefused (Err error.NoGroup) made = IsNothing made
@@ -42,11 +43,12 @@ IsWaiting moments g request serial r =
     ⊎ IsReceiptOf moments g (op.Submit request) (reply.Joined serial) r
     ⊎ ((cause : Cause) × IsReceiptOf moments g (op.Submit request) (reply.FallbackDue serial cause) r)
 
--- the end of the fallback of a ticket: one that the dependency names for the group, the cause and the argument
-pub record IsFallbackEnd (fallback_ends : GroupId → Cause → List ℕ → FallbackEnd → Type 0) (moments : ℕ → Type 0) (g : GroupId) (serial : ℕ) (cause : Cause) (arg : List ℕ) (r : Receipt) : Type 0 where
+-- the end of the fallback of a ticket: one that the dependency names for the group, the request's command, the cause and
+-- the request's argument
+pub record IsFallbackEnd (fallback_ends : GroupId → ℕ → Cause → List ℕ → FallbackEnd → Type 0) (moments : ℕ → Type 0) (g : GroupId) (serial : ℕ) (cause : Cause) (request : Request) (r : Receipt) : Type 0 where
   pub end : FallbackEnd
   pub answered : Reply
-  pub possible : fallback_ends g cause arg end
+  pub possible : fallback_ends g request.command cause request.arg end
   pub told : IsReceiptOf moments g (op.FallbackDone serial end) answered r
 
 -- the ticket was collected, with no fallback to be run
@@ -62,37 +64,39 @@ IsCollectedLast moments g serial result made =
     IsCollected moments g serial result made
     ⊎ ((result ≡ Err error.Stopped) × ((cause : Cause) × Only (IsReceiptOf moments g (op.Collect serial) (reply.RunFallback cause)) made))
 
-module _ (fallback_ends : GroupId → Cause → List ℕ → FallbackEnd → Type 0) (moments : ℕ → Type 0) where
+module _ (fallback_ends : GroupId → ℕ → Cause → List ℕ → FallbackEnd → Type 0) (moments : ℕ → Type 0) where
   -- the fallback of the cause was run, and its end told; then the ticket was collected for the last time
-  abbrev pub IsFallenBack : GroupId → ℕ → Cause → List ℕ → Result Answer CallError → List Receipt → Type 0
-  IsFallenBack g serial cause arg result made =
+  abbrev pub IsFallenBack : GroupId → ℕ → Cause → Request → Result Answer CallError → List Receipt → Type 0
+  IsFallenBack g serial cause request result made =
       IsRefused result made
-      ⊎ Then (IsFallbackEnd fallback_ends moments g serial cause arg) (IsCollectedLast moments g serial result) made
+      ⊎ Then (IsFallbackEnd fallback_ends moments g serial cause request) (IsCollectedLast moments g serial result) made
 
   -- the ticket was collected, and its fallback was run where the Collect said so
-  abbrev pub IsSettled : GroupId → ℕ → List ℕ → Result Answer CallError → List Receipt → Type 0
-  IsSettled g serial arg result made =
+  abbrev pub IsSettled : GroupId → ℕ → Request → Result Answer CallError → List Receipt → Type 0
+  IsSettled g serial request result made =
       IsCollected moments g serial result made
-      ⊎ ((cause : Cause) × Then (IsReceiptOf moments g (op.Collect serial) (reply.RunFallback cause)) (IsFallenBack g serial cause arg result) made)
+      ⊎ ((cause : Cause) × Then (IsReceiptOf moments g (op.Collect serial) (reply.RunFallback cause)) (IsFallenBack g serial cause request result) made)
 
-module _ (ends : GroupId → List ℕ → RunEnd → Type 0) (fallback_ends : GroupId → Cause → List ℕ → FallbackEnd → Type 0) (moments : ℕ → Type 0) where
+module _ (ends : GroupId → ℕ → List ℕ → RunEnd → Type 0) (fallback_ends : GroupId → ℕ → Cause → List ℕ → FallbackEnd → Type 0) (moments : ℕ → Type 0) where
   -- the caller ran the ticket and told the end; then the ticket was settled
-  abbrev pub IsRunInline : GroupId → ℕ → List ℕ → Result Answer CallError → List Receipt → Type 0
-  IsRunInline g serial arg result made =
+  abbrev pub IsRunInline : GroupId → ℕ → Request → Result Answer CallError → List Receipt → Type 0
+  IsRunInline g serial request result made =
       IsRefused result made
-      ⊎ Then (IsRunEnd ends moments g serial arg) (IsSettled fallback_ends moments g serial arg result) made
+      ⊎ Then (IsRunEnd ends moments g serial request.command request.arg) (IsSettled fallback_ends moments g serial request result) made
 
   -- a Submit of the request, and then what its reply asks for
   abbrev pub IsCallMade : GroupId → Request → Result Answer CallError → List Receipt → Type 0
   IsCallMade g request result made =
       IsRefused result made
       ⊎ ((result ≡ Err error.GroupFull) × Only (IsReceiptOf moments g (op.Submit request) reply.GroupFull) made)
-      ⊎ ((serial : ℕ) × Then (IsWaiting moments g request serial) (IsSettled fallback_ends moments g serial request.arg result) made)
-      ⊎ ((serial : ℕ) × Then (IsReceiptOf moments g (op.Submit request) (reply.Inline serial)) (IsRunInline g serial request.arg result) made)
+      ⊎ ((serial : ℕ) × Then (IsWaiting moments g request serial) (IsSettled fallback_ends moments g serial request result) made)
+      ⊎ ((serial : ℕ) × Then (IsReceiptOf moments g (op.Submit request) (reply.Inline serial)) (IsRunInline g serial request result) made)
 
-  -- the receipts of a call that gave this result
+  -- the receipts of a call that gave this result: none where the pass was too full for it, and none where its Submit was
+  -- refused as the group lacks the command
   abbrev pub IsCall : GroupId → Request → Result Answer CallError → List Receipt → Type 0
   IsCall g request (Err error.PassFull) made = IsNothing made
+  IsCall g request (Err error.NoCommand) made = IsNothing made × CanBeMissing (op.Submit request)
   IsCall g request result made = IsCallMade g request result made
 
 -- the last receipt says that a fallback is to be run

@@ -51,11 +51,11 @@ FindRoom audited room (l ∷ lists) (answers ∷ others) =
 FindRoom audited room lists answers = ⊥
 
 -- the pass of a worker has nothing but its work
-abbrev pub IsWorkerPass : (GroupId → List ℕ → RunEnd → Type 0) → (ℕ → Type 0) → PassView → Type 0
+abbrev pub IsWorkerPass : (GroupId → ℕ → List ℕ → RunEnd → Type 0) → (ℕ → Type 0) → PassView → Type 0
 IsWorkerPass ends moments p = IsWork ends moments p.group p.receipts
 
 -- the passes that a worker gave back have nothing but its work
-abbrev pub IsWorked : {Z E : Type 0} → (GroupId → List ℕ → RunEnd → Type 0) → (ℕ → Type 0) → Result (Vec PassView Z) E → Type 0
+abbrev pub IsWorked : {Z E : Type 0} → (GroupId → ℕ → List ℕ → RunEnd → Type 0) → (ℕ → Type 0) → Result (Vec PassView Z) E → Type 0
 IsWorked ends moments worked = IfOk worked (λ passes. AllByRecursion (IsWorkerPass ends moments) passes.items)
 
 -- a pass of the timer has nothing but Expires
@@ -69,7 +69,7 @@ IsMarked marks (Err error.NoGroup) part = marks.no_group ≡ true
 IsMarked marks (Err error.Stopped) part = (marks.stopped ≡ true) ⊎ EndsInFallback part
 IsMarked marks result part = Unit {0}
 
-module _ (ends : GroupId → List ℕ → RunEnd → Type 0) (fallback_ends : GroupId → Cause → List ℕ → FallbackEnd → Type 0) (moments : ℕ → Type 0) where
+module _ (ends : GroupId → ℕ → List ℕ → RunEnd → Type 0) (fallback_ends : GroupId → ℕ → Cause → List ℕ → FallbackEnd → Type 0) (moments : ℕ → Type 0) where
   -- the receipts are cut into as many parts as there are requests, in their order, each as a call of the request adds
   -- it for its answer
   abbrev pub AreCalls : GroupId → Marks → List Request → List (Result Answer CallError) → List Receipt → Type 0

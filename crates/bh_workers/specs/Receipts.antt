@@ -23,11 +23,11 @@ end_op serial (run_end.Success body) = op.Finish serial body
 end_op serial run_end.Failure = op.Fail serial false
 end_op serial run_end.BadRequest = op.Fail serial true
 
--- the end of the run of a ticket: one that the dependency names for the group and the argument
-pub record IsRunEnd (ends : GroupId → List ℕ → RunEnd → Type 0) (moments : ℕ → Type 0) (g : GroupId) (serial : ℕ) (arg : List ℕ) (r : Receipt) : Type 0 where
+-- the end of the run of a ticket: one that the dependency names for the group, the command and the argument
+pub record IsRunEnd (ends : GroupId → ℕ → List ℕ → RunEnd → Type 0) (moments : ℕ → Type 0) (g : GroupId) (serial command : ℕ) (arg : List ℕ) (r : Receipt) : Type 0 where
   pub end : RunEnd
   pub answered : Reply
-  pub possible : ends g arg end
+  pub possible : ends g command arg end
   pub told : IsReceiptOf moments g (end_op serial end) answered r
 
 -- what a service keeps of the receipts of the steps made: all of them where it is audited, else none

@@ -8,17 +8,18 @@ use Rattle.bh_journal.specs.declared.pass.Receipt.{Receipt}
 use Rattle.bh_journal.specs.Passes.{PassView}
 use Rattle.bh_workers.specs.Receipts.{IsReceiptOf, IsRunEnd}
 
--- a Start by which the ticket was assigned with its argument
+-- a Start by which the ticket was assigned with its command and its argument
 pub record IsAssigned (moments : ℕ → Type 0) (g : GroupId) (r : Receipt) : Type 0 where
   pub serial : ℕ
+  pub command : ℕ
   pub arg : List ℕ
-  pub start : IsReceiptOf moments g op.Start (reply.Assigned serial arg) r
+  pub start : IsReceiptOf moments g op.Start (reply.Assigned serial command arg) r
 
-module _ (ends : GroupId → List ℕ → RunEnd → Type 0) (moments : ℕ → Type 0) where
+module _ (ends : GroupId → ℕ → List ℕ → RunEnd → Type 0) (moments : ℕ → Type 0) where
   -- a Start, and the end of the run that it assigned
   pub record IsRunWithEnd (g : GroupId) (r e : Receipt) : Type 0 where
     pub assigned : IsAssigned moments g r
-    pub end : IsRunEnd ends moments g assigned.serial assigned.arg e
+    pub end : IsRunEnd ends moments g assigned.serial assigned.command assigned.arg e
 
   -- runs one after another, of which only the last may lack its end
   abbrev pub IsWork : GroupId → List Receipt → Type 0
@@ -35,10 +36,10 @@ module _ (ends : GroupId → List ℕ → RunEnd → Type 0) (moments : ℕ → 
   IsTurn g false rs = ⊥
 
   -- the end of the run of a ticket, or none where it was refused
-  abbrev pub IsEnding : GroupId → ℕ → List ℕ → Bool → List Receipt → Type 0
-  IsEnding g serial arg true (e ∷ []) = IsRunEnd ends moments g serial arg e
-  IsEnding g serial arg true rs = ⊥
-  IsEnding g serial arg false rs = rs ≡ []
+  abbrev pub IsEnding : GroupId → ℕ → ℕ → List ℕ → Bool → List Receipt → Type 0
+  IsEnding g serial command arg true (e ∷ []) = IsRunEnd ends moments g serial command arg e
+  IsEnding g serial command arg true rs = ⊥
+  IsEnding g serial command arg false rs = rs ≡ []
 
 -- why a worker ends: its pass is marked, or too full for one more run
 abbrev pub HasReasonToEnd : Bool → PassView → Type 0

@@ -9,7 +9,7 @@ use crate::dependency::Dependency;
 use crate::environment::Environment;
 use crate::worker::end_op;
 use bh_audit::{Clock, Pass, Shared};
-use bh_base::{Answer, CallError, Cause, Op, Reply, Request, Serial, Text};
+use bh_base::{Answer, CallError, Cause, Op, Reply, Request, Serial};
 use std::sync::Wait;
 
 /// The most receipts that a call adds.
@@ -22,6 +22,7 @@ pub const MOST_RECEIPTS: u64 = 5;
 ///
 /// - `PassFull` where the service is audited and fewer than five receipts are free: before any step, with the pass
 ///   unchanged;
+/// - `NoCommand` where the group lacks the request's command, with nothing added to the pass;
 /// - `GroupFull` where the group has no free slot;
 /// - `Worn` and `NoGroup` where a step was refused so;
 /// - `Taken` where another pass collected the ticket;
@@ -61,15 +62,15 @@ impl<'e, D: Dependency, C: Clock, R: Wait> Environment<'e, D, C, R> {
             return Err(CallError::PassFull);
         }
         let reply = self.make_step(pass, Op::Submit(request));
-        let arg = &request.arg;
         match &reply {
             Reply::Queued(serial) | Reply::Joined(serial) | Reply::FallbackDue { serial, .. } => {
-                self.settle(pass, *serial, arg)
+                self.settle(pass, *serial, &request)
             }
-            Reply::Inline(serial) => self.run_inline(pass, *serial, arg),
+            Reply::Inline(serial) => self.run_inline(pass, *serial, &request),
             Reply::GroupFull => Err(CallError::GroupFull),
             Reply::Worn => Err(CallError::Worn),
             Reply::NoGroup => Err(CallError::NoGroup),
+            Reply::NoCommand => Err(CallError::NoCommand),
             _ => unreachable!(),
         }
     }
@@ -79,28 +80,35 @@ impl<'e, D: Dependency, C: Clock, R: Wait> Environment<'e, D, C, R> {
         &self,
         pass: &mut Pass,
         serial: Serial,
-        arg: &Text<64>,
+        request: &Request,
     ) -> Result<Answer, CallError>
         requires { self.now.shared.now.audited ≡ true → 4 ≤ pass.old.room }
-        ensures { CallAdds self.now.shared.now.audited pass.old result pass.new (IsRunInline D.ends D.fallback_ends C.moments pass.old.group serial arg.now result) }
+        ensures { CallAdds self.now.shared.now.audited pass.old result pass.new (IsRunInline D.ends D.fallback_ends C.moments pass.old.group serial request.now result) }
     {
-        let end = self.dependency.run(pass.group(), arg);
+        let end = self
+            .dependency
+            .run(pass.group(), request.command, &request.arg);
         let reply = self.make_step(pass, end_op(serial, end));
         match &reply {
             Reply::Worn => Err(CallError::Worn),
             Reply::NoGroup => Err(CallError::NoGroup),
-            _ => self.settle(pass, serial, arg),
+            _ => self.settle(pass, serial, request),
         }
     }
 
     /// Waits for the answer of the ticket, and runs its fallback where that is due.
-    fn settle(&self, pass: &mut Pass, serial: Serial, arg: &Text<64>) -> Result<Answer, CallError>
+    fn settle(
+        &self,
+        pass: &mut Pass,
+        serial: Serial,
+        request: &Request,
+    ) -> Result<Answer, CallError>
         requires { self.now.shared.now.audited ≡ true → 3 ≤ pass.old.room }
-        ensures { CallAdds self.now.shared.now.audited pass.old result pass.new (IsSettled D.fallback_ends C.moments pass.old.group serial arg.now result) }
+        ensures { CallAdds self.now.shared.now.audited pass.old result pass.new (IsSettled D.fallback_ends C.moments pass.old.group serial request.now result) }
     {
         match self.collect(pass, serial) {
             Collected::Ended(result) => result,
-            Collected::Fallback(cause) => self.fall_back(pass, serial, cause, arg),
+            Collected::Fallback(cause) => self.fall_back(pass, serial, cause, request),
         }
     }
 
@@ -110,12 +118,14 @@ impl<'e, D: Dependency, C: Clock, R: Wait> Environment<'e, D, C, R> {
         pass: &mut Pass,
         serial: Serial,
         cause: Cause,
-        arg: &Text<64>,
+        request: &Request,
     ) -> Result<Answer, CallError>
         requires { self.now.shared.now.audited ≡ true → 2 ≤ pass.old.room }
-        ensures { CallAdds self.now.shared.now.audited pass.old result pass.new (IsFallenBack D.fallback_ends C.moments pass.old.group serial cause arg.now result) }
+        ensures { CallAdds self.now.shared.now.audited pass.old result pass.new (IsFallenBack D.fallback_ends C.moments pass.old.group serial cause request.now result) }
     {
-        let end = self.dependency.fallback(pass.group(), cause, arg);
+        let end = self
+            .dependency
+            .fallback(pass.group(), request.command, cause, &request.arg);
         let reply = self.make_step(pass, Op::FallbackDone { serial, end });
         match &reply {
             Reply::Worn => Err(CallError::Worn),

@@ -67,7 +67,8 @@ impl From<ThreadError> for DriveError {
 /// and for each list one caller, which makes the list's requests one after another. Once all callers have ended it
 /// stops the service, and gives back the answers and all passes, each of which had room for so many receipts.
 ///
-/// No request is answered `PassFull` where that is room for five receipts for each request of its list.
+/// No request is answered `PassFull` where that is room for five receipts for each request of its list. One whose
+/// command the group lacks is answered `NoCommand`, and those after it are made.
 ///
 /// `NoGroup` comes exactly where the group of a list is not registered, before a thread starts. With `Memory` and
 /// `Spawn` the service is stopped, the threads have ended, and their passes are given up.

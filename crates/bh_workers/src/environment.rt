@@ -1,7 +1,9 @@
 //! What the calls, the workers and the timer of a service have at hand, and one step by it.
 
 ghost use Rattle.std.specs.Prelude.{◌≡◌, ◌+◌, ◌≤◌, true};
+ghost use Rattle.bh_base.specs.declared.reply.Reply.TheVariants.{NoCommand};
 ghost use Rattle.bh_base.specs.Replies.{can_reply};
+ghost use Rattle.bh_audit.specs.Calls.{CanBeMissing};
 ghost use Rattle.bh_workers.specs.Receipts.{StepAdds};
 
 use bh_audit::{Clock, Pass, Shared};
@@ -25,6 +27,7 @@ impl<'e, D, C: Clock, R: Wait> Environment<'e, D, C, R> {
         requires { self.now.shared.now.audited ≡ true → 1 ≤ pass.old.room }
         ensures adds { StepAdds C.moments self.now.shared.now.audited pass.old op result pass.new }
         ensures kinds { can_reply op result ≡ true }
+        ensures missing { result ≡ NoCommand → CanBeMissing op }
         ensures room { pass.old.room ≤ pass.new.room + 1 }
     {
         let group = pass.group();

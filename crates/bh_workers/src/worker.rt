@@ -1,7 +1,6 @@
 //! A worker: it starts tickets of its pass's group, runs them and tells their ends.
 
-ghost use Rattle.std.specs.Prelude.{◌≡◌, ℕ, ◌+◌, ◌<◌, ◌≤◌, List, true, false, ◌⊎◌};
-ghost use Rattle.bh_base.specs.declared.reply.Reply.TheVariants.{NoGroup, Worn};
+ghost use Rattle.std.specs.Prelude.{◌≡◌, ℕ, ◌+◌, ◌<◌, ◌≤◌, List, true, false, not};
 ghost use Rattle.bh_base.specs.Replies.{is_refusal};
 ghost use Rattle.bh_journal.specs.declared.pass.Receipt.{Receipt};
 ghost use Rattle.bh_workers.specs.Receipts.{Gains, IsRunEnd, end_op};
@@ -58,18 +57,22 @@ impl<'e, D: Dependency, C: Clock, R: Wait> Environment<'e, D, C, R> {
             return false;
         };
         match &next {
-            Next::Assigned { serial, arg } => self.run_to_end(pass, *serial, arg),
+            Next::Assigned {
+                serial,
+                command,
+                arg,
+            } => self.run_to_end(pass, *serial, *command, arg),
             _ => false,
         }
     }
 
     /// Runs the ticket and tells its end. False where the group is worn or not registered.
-    fn run_to_end(&self, pass: &mut Pass, serial: Serial, arg: &Text<64>) -> bool
+    fn run_to_end(&self, pass: &mut Pass, serial: Serial, command: u8, arg: &Text<64>) -> bool
         requires { self.now.shared.now.audited ≡ true → 0 < pass.old.room }
-        ensures adds { (made : List Receipt) × Gains self.now.shared.now.audited pass.old pass.new made × IsEnding D.ends C.moments pass.old.group serial arg.now result made }
+        ensures adds { (made : List Receipt) × Gains self.now.shared.now.audited pass.old pass.new made × IsEnding D.ends C.moments pass.old.group serial command arg.now result made }
         ensures ended { result ≡ false → HasReasonToEnd self.now.shared.now.audited pass.new }
     {
-        let end = self.dependency.run(pass.group(), arg);
+        let end = self.dependency.run(pass.group(), command, arg);
         let reply = self.make_step(pass, end_op(serial, end));
         was_taken(&reply)
     }
@@ -88,8 +91,7 @@ pub(crate) fn end_op(serial: Serial, end: RunEnd) -> Op
 
 /// Whether the step was made.
 fn was_taken(reply: &Reply) -> bool
-    ensures taken { result ≡ true → is_refusal reply.now ≡ false }
-    ensures refused { result ≡ false → (reply.now ≡ Worn) ⊎ (reply.now ≡ NoGroup) }
+    ensures { result ≡ not (is_refusal reply.now) }
 {
-    !matches!(reply, Reply::Worn | Reply::NoGroup)
+    !matches!(reply, Reply::Worn | Reply::NoGroup | Reply::NoCommand)
 }

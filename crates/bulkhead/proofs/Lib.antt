@@ -1,3 +1,2 @@
-pub mod SettingsFile
 pub mod RunStatus
 pub mod Files

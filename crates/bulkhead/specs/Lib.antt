@@ -1,2 +1,1 @@
-pub mod SettingsFile
 pub mod Status

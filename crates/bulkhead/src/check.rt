@@ -2,13 +2,12 @@
 
 ghost use Rattle.std.specs.Prelude.{◌≡◌, ◌⊎◌, IfOk, IsErr};
 ghost use Rattle.bh_props.specs.Shown.{settings_view};
-ghost use Rattle.bulkhead.specs.SettingsFile.{settings_in};
+ghost use Rattle.bh_props.specs.SettingsFile.{settings_in};
 ghost use Rattle.bulkhead.specs.Status.{CheckStatus};
 
 use crate::report;
-use crate::settings_file::settings_in;
 use bh_lines::PortError;
-use bh_props::Settings;
+use bh_props::{Settings, settings_in};
 use bh_streams::{WatchedWriter, write};
 use std::alloc::Global;
 use std::io::Write;

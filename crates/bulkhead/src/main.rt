@@ -6,7 +6,6 @@ pub mod file;
 mod report;
 pub mod run;
 pub mod serve;
-pub mod settings_file;
 #[cfg(test)]
 mod tests;
 

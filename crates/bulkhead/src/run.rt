@@ -2,14 +2,13 @@
 
 ghost use Rattle.std.specs.Prelude.{◌≡◌, ◌⊎◌, IfSome, IfOk, IsErr};
 ghost use Rattle.bh_props.specs.Shown.{settings_view};
-ghost use Rattle.bulkhead.specs.SettingsFile.{settings_in};
+ghost use Rattle.bh_props.specs.SettingsFile.{settings_in};
 ghost use Rattle.bh_lines.specs.Lines.{cut};
 ghost use Rattle.bulkhead.specs.Status.{RunStatus};
 
 use crate::report;
-use crate::settings_file::settings_in;
 use bh_port::script::script;
-use bh_props::Settings;
+use bh_props::{Settings, settings_in};
 use bh_streams::{WatchedReader, WatchedWriter};
 use std::alloc::Global;
 use std::io::{Read, Write};

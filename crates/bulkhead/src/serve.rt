@@ -1,11 +1,10 @@
 //! The service on a port of this machine.
 
 ghost use Rattle.std.specs.Prelude.{◌≡◌, ◌⊎◌, IsErr};
-ghost use Rattle.bulkhead.specs.SettingsFile.{settings_in};
+ghost use Rattle.bh_props.specs.SettingsFile.{settings_in};
 
 use crate::report;
-use crate::settings_file::settings_in;
-use bh_props::{Settings, SettingsError};
+use bh_props::{Settings, SettingsError, settings_in};
 use bh_serve::{Acceptor, Limits, serve_through};
 use std::alloc::Global;
 use std::io::{Read, Write};

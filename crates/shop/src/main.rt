@@ -32,18 +32,24 @@ const MOST_SLOTS: u32 = 1_000;
 struct Shop;
 
 impl Dependency for Shop {
-    ghost ends = { λ group arg end. Unit {0} };
+    ghost ends = { λ group command arg end. Unit {0} };
 
-    ghost fallback_ends = { λ group cause arg end. Unit {0} };
+    ghost fallback_ends = { λ group command cause arg end. Unit {0} };
 
-    fn run(&self, group: GroupId, arg: &Text<64>) -> RunEnd {
+    fn run(&self, group: GroupId, _command: u8, arg: &Text<64>) -> RunEnd {
         if group == PAYMENT {
             return RunEnd::Failure;
         }
         Text::new(arg.as_str()).map_or(RunEnd::Failure, RunEnd::Success)
     }
 
-    fn fallback(&self, _group: GroupId, _cause: Cause, _arg: &Text<64>) -> FallbackEnd {
+    fn fallback(
+        &self,
+        _group: GroupId,
+        _command: u8,
+        _cause: Cause,
+        _arg: &Text<64>,
+    ) -> FallbackEnd {
         Text::new("pay on delivery").map_or(FallbackEnd::Failure, FallbackEnd::Success)
     }
 }
@@ -96,7 +102,12 @@ fn list_of(alloc: Global, group: GroupId, words: &str) -> Option<RequestList> {
     let mut requests = Vec::new(alloc);
     for word in words.split_whitespace() {
         let arg = Text::new(word).ok()?;
-        requests.push(Request { cache: None, arg }).ok()?;
+        let request = Request {
+            command: 0,
+            cache: None,
+            arg,
+        };
+        requests.push(request).ok()?;
     }
     Some(RequestList { group, requests })
 }

@@ -28,11 +28,11 @@ impl Group {
 
     /// Which tickets are due at the latest moment.
     pub fn due_rule(&self) -> DueRule
-        ensures { result ≡ record { timeout_on = self.now.props.timeout_on; timeout_ms = self.now.props.timeout_ms; moment = self.now.history.latest } }
+        ensures { result ≡ record { timeout_on = self.now.props.command.timeout_on; timeout_ms = self.now.props.command.timeout_ms; moment = self.now.history.latest } }
     {
         DueRule {
-            timeout_on: self.props.timeout_on,
-            timeout_ms: self.props.timeout_ms,
+            timeout_on: self.props.command.timeout_on,
+            timeout_ms: self.props.command.timeout_ms,
             moment: self.history.latest(),
         }
     }

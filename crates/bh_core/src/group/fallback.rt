@@ -1,8 +1,9 @@
 //! Collect and fallback-done: answers, and the fallbacks that may give them.
 
-ghost use Rattle.std.specs.Prelude.{◌≡◌};
+ghost use Rattle.std.specs.Prelude.{◌≡◌, ◌<◌};
 ghost use Rattle.bh_base.specs.declared.step.Op.TheVariants as op;
 ghost use Rattle.bh_base.specs.declared.ticket.TicketState.TheVariants as ticket;
+ghost use Rattle.bh_base.specs.Commands.{command_count};
 ghost use Rattle.bh_base.specs.Machine.{collected_in, fallback_answer, fallback_done_in};
 ghost use Rattle.bh_base.specs.Tickets.{is_held_at, is_in_fallback_at};
 ghost use Rattle.bh_core.specs.Stepping.{IsBounded, IsDone, IsDoneBy};
@@ -23,36 +24,48 @@ impl Group {
     {
         match tickets.find_held(self.number, serial) {
             None => Reply::NoTicket,
-            Some(slot) => match tickets.get(self.number, slot).state {
-                TicketState::Answered(answer) => {
-                    tickets.release_holder(self.number, slot);
-                    return Reply::Answered(answer);
+            Some(slot) => {
+                let ticket = tickets.get(self.number, slot);
+                let command = ticket.command;
+                match ticket.state {
+                    TicketState::Answered(answer) => {
+                        tickets.release_holder(self.number, slot);
+                        return Reply::Answered(answer);
+                    }
+                    TicketState::NeedsFallback(cause) => return self.fall_back(
+                        tickets, serial, slot, command, cause,
+                    ),
+                    TicketState::Queued => return Reply::Pending,
+                    TicketState::Running => return Reply::Pending,
+                    TicketState::InFallback(_) => return Reply::Pending,
                 }
-                TicketState::NeedsFallback(cause) => return self.fall_back(
-                    tickets, serial, slot, cause,
-                ),
-                TicketState::Queued => return Reply::Pending,
-                TicketState::Running => return Reply::Pending,
-                TicketState::InFallback(_) => return Reply::Pending,
-            },
+            }
         }
     }
 
-    /// A holder asks for the answer of a ticket that needs a fallback.
-    fn fall_back(&mut self, tickets: &mut Tickets, serial: Serial, slot: u32, cause: Cause) -> Reply
+    /// A holder asks for the answer of a ticket of the command that needs a fallback.
+    fn fall_back(
+        &mut self,
+        tickets: &mut Tickets,
+        serial: Serial,
+        slot: u32,
+        command: u8,
+        cause: Cause,
+    ) -> Reply
         requires has { HasTickets tickets.old self.old }
         requires bounded { IsBounded (view_in tickets.old self.old) }
         requires held { IsFirstAt (is_held_at serial) (group_at tickets.old self.old.number) slot }
-        ensures done { IsDoneBy (view_in tickets.old self.old) (collected_in (ticket.NeedsFallback cause) serial (view_in tickets.old self.old).present) result (view_in tickets.new self.new) }
+        requires known { command < command_count self.old.props }
+        ensures done { IsDoneBy (view_in tickets.old self.old) (collected_in (ticket.NeedsFallback cause) command serial (view_in tickets.old self.old).present) result (view_in tickets.new self.new) }
         ensures left { Leaves tickets.old self.old tickets.new self.new }
     {
-        if !self.props.fallback_on {
+        if !self.props.command.fallback_on {
             let answer = error(cause, FallbackFault::Disabled);
             tickets.answer_holder(self.number, slot, &answer);
             self.record(EventKind::ExceptionThrown);
             return Reply::Answered(answer);
         }
-        if tickets.in_fallback_count(self.number) >= self.props.fallback_permits {
+        if tickets.in_fallback_count(self.number, command) >= self.props.command.fallback_permits {
             let answer = error(cause, FallbackFault::Rejected);
             tickets.answer_holder(self.number, slot, &answer);
             self.record(EventKind::FallbackRejection);

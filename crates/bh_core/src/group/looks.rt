@@ -4,6 +4,7 @@ ghost use Rattle.std.specs.Prelude.{◌≡◌, ◌==◌, ℕ, max};
 ghost use Rattle.bh_base.specs.declared.step.Op.TheVariants as op;
 ghost use Rattle.bh_base.specs.Seen.{view_reply};
 ghost use Rattle.bh_core.specs.GroupView.{HasTickets, view_in};
+ghost use Rattle.bh_core.specs.Stepping.{IsSteady};
 ghost use Rattle.bh_core.specs.Looks.{expires_some, is_assigned, is_pending};
 
 use super::Group;
@@ -41,13 +42,14 @@ impl Group {
 
     /// Whether a `Start` would be answered `Assigned`, at whatever moment.
     pub fn is_startable(&self, tickets: &Tickets) -> bool
-        requires { HasTickets tickets.now self.now }
+        requires has { HasTickets tickets.now self.now }
+        requires steady { IsSteady (view_in tickets.now self.now) }
         ensures { (moment : ℕ) → result ≡ is_assigned (view_reply (view_in tickets.now self.now) op.Start moment) }
     {
         if self.is_worn() {
             return false;
         }
-        tickets.busy_count(self.number) < self.props.core && tickets.any_queued(self.number)
+        self.pool_busy_count(tickets) < self.props.core && tickets.any_queued(self.number)
     }
 
     /// Whether a `Collect` of the serial would be answered `Pending`, at whatever moment.

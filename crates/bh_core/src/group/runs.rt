@@ -2,24 +2,27 @@
 
 ghost use Rattle.std.specs.Prelude.{◌≡◌, find, false};
 ghost use Rattle.bh_base.specs.declared.step.Op.TheVariants as op;
-ghost use Rattle.bh_base.specs.Machine.{run_ended};
+ghost use Rattle.bh_base.specs.Machine.{pool_busy_count, run_ended};
+ghost use Rattle.bh_base.specs.Order.{AreKnown};
 ghost use Rattle.bh_base.specs.Tickets.{is_busy_at};
 ghost use Rattle.bh_core.specs.Stepping.{IsBounded, IsDone, IsDoneBy};
 ghost use Rattle.bh_core.specs.GroupView.{HasTickets, Leaves, view_in};
 ghost use Rattle.bh_tickets.specs.Changes.{queued_in};
+ghost use Rattle.bh_tickets.specs.TicketsView.{group_at};
 
 use super::Group;
-use bh_base::{Answer, Cause, End, EventKind, Reply, Serial, Text, TicketState};
+use bh_base::{Answer, Cause, End, EventKind, Reply, Serial, Strategy, Text, TicketState};
 use bh_tickets::{Tickets, is_running};
 
 impl Group {
     /// The first queued ticket runs, where a worker is free.
     pub fn start(&self, tickets: &mut Tickets) -> Reply
-        requires { HasTickets tickets.old self.now }
+        requires has { HasTickets tickets.old self.now }
+        requires bounded { IsBounded (view_in tickets.old self.now) }
         ensures done { IsDone (view_in tickets.old self.now) op.Start result (view_in tickets.new self.now) }
         ensures left { Leaves tickets.old self.now tickets.new self.now }
     {
-        if tickets.busy_count(self.number) >= self.props.core {
+        if self.pool_busy_count(tickets) >= self.props.core {
             return Reply::Idle;
         }
         match tickets.first_queued(self.number) {
@@ -27,10 +30,27 @@ impl Group {
             Some(slot) => {
                 let ticket = tickets.get(self.number, slot);
                 let serial = ticket.serial;
+                let command = ticket.command;
                 let arg = ticket.arg;
                 tickets.start_run(self.number, slot);
-                Reply::Assigned { serial, arg }
+                Reply::Assigned {
+                    serial,
+                    command,
+                    arg,
+                }
             }
+        }
+    }
+
+    /// How many workers of the group's thread pool are at a run.
+    pub fn pool_busy_count(&self, tickets: &Tickets) -> u64
+        requires has { HasTickets tickets.now self.now }
+        requires known { AreKnown self.now.props (group_at tickets.now self.now.number).items }
+        ensures { result ≡ pool_busy_count (view_in tickets.now self.now).present }
+    {
+        match self.props.command.strategy {
+            Strategy::Thread => tickets.busy_count(self.number, 0),
+            Strategy::Semaphore => 0,
         }
     }
 

@@ -2,6 +2,8 @@
 
 ghost use Rattle.std.specs.Prelude.{◌≡◌, ◌<◌, ◌≤◌, None, Some, length};
 ghost use Rattle.bh_base.specs.declared.step.Op.TheVariants as op;
+ghost use Rattle.bh_base.specs.Commands.{command_count, props_of};
+ghost use Rattle.bh_base.specs.Order.{AreKnown};
 ghost use Rattle.bh_base.specs.Machine.{due_fallback, is_admitted, placed, rejected, submitted};
 ghost use Rattle.bh_base.specs.Seen.{view_rolling};
 ghost use Rattle.bh_core.specs.Stepping.{IsBounded, IsDone, IsDoneBy, IsJoinable, asked_with, view_with_ticket};
@@ -20,6 +22,7 @@ impl Group {
     pub fn submit(&mut self, tickets: &mut Tickets, request: &Request) -> Reply
         requires has { HasTickets tickets.old self.old }
         requires bounded { IsBounded (view_in tickets.old self.old) }
+        requires known { request.now.command < command_count self.old.props }
         ensures done { IsDone (view_in tickets.old self.old) (op.Submit request.now) result (view_in tickets.new self.new) }
         ensures left { Leaves tickets.old self.old tickets.new self.new }
     {
@@ -32,13 +35,18 @@ impl Group {
     /// The slot of the cached ticket that the request may join.
     fn find_cached(&self, tickets: &Tickets, request: &Request) -> Option<u32>
         requires { HasTickets tickets.now self.now }
-        ensures { IsJoinable (view_in tickets.now self.now).present (group_at tickets.now self.now.number) request.now.cache result }
+        ensures { IsJoinable (view_in tickets.now self.now).present (group_at tickets.now self.now.number) request.now result }
     {
-        if !self.props.cache_on {
+        if !self.props.command.cache_on {
             return None;
         }
         match &request.cache {
-            Some((context, key)) => tickets.find_cached(self.number, *context, key),
+            Some((context, key)) => tickets.find_cached(
+                self.number,
+                request.command,
+                *context,
+                key,
+            ),
             None => None,
         }
     }
@@ -47,7 +55,7 @@ impl Group {
     fn join(&mut self, tickets: &mut Tickets, request: &Request, slot: u32) -> Reply
         requires has { HasTickets tickets.old self.old }
         requires bounded { IsBounded (view_in tickets.old self.old) }
-        requires found { IsJoinable (view_in tickets.old self.old).present (group_at tickets.old self.old.number) request.now.cache (Some slot) }
+        requires found { IsJoinable (view_in tickets.old self.old).present (group_at tickets.old self.old.number) request.now (Some slot) }
         ensures done { IsDone (view_in tickets.old self.old) (op.Submit request.now) result (view_in tickets.new self.new) }
         ensures left { Leaves tickets.old self.old tickets.new self.new }
     {
@@ -61,6 +69,7 @@ impl Group {
     fn make_ticket(&mut self, tickets: &mut Tickets, request: &Request) -> Reply
         requires has { HasTickets tickets.old self.old }
         requires bounded { IsBounded (view_in tickets.old self.old) }
+        requires known { request.now.command < command_count self.old.props }
         ensures done { IsDoneBy (view_in tickets.old self.old) (submitted None request.now (view_rolling (view_in tickets.old self.old) (view_in tickets.old self.old).present.latest) (view_in tickets.old self.old).present) result (view_in tickets.new self.new) }
         ensures left { Leaves tickets.old self.old tickets.new self.new }
     {
@@ -70,7 +79,7 @@ impl Group {
         let health = self.health_asked(tickets);
         let said = self.circuit.admit(
             self.history.latest(),
-            &self.props,
+            &self.props.command,
             health,
             tickets.next_serial(self.number),
         );
@@ -95,7 +104,7 @@ impl Group {
     {
         if self
             .circuit
-            .takes_snapshot(self.history.latest(), &self.props)
+            .takes_snapshot(self.history.latest(), &self.props.command)
         {
             return self.history.health();
         }
@@ -109,15 +118,16 @@ impl Group {
     fn place(&mut self, tickets: &mut Tickets, request: &Request, test: bool) -> Reply
         requires has { HasTickets tickets.old self.old }
         requires bounded { IsBounded (view_in tickets.old self.old) }
+        requires known { request.now.command < command_count self.old.props }
         requires free { length (view_in tickets.old self.old).present.tickets < (view_in tickets.old self.old).present.props.slots }
         ensures done { IsDoneBy (view_in tickets.old self.old) (placed request.now test (view_in tickets.old self.old).present) result (view_in tickets.new self.new) }
         ensures left { Leaves tickets.old self.old tickets.new self.new }
     {
-        if !self.is_admitted(tickets) {
+        if !self.is_admitted(tickets, request.command) {
             return self.reject(tickets, request, test);
         }
         let serial = tickets.next_serial(self.number);
-        match self.props.strategy {
+        match self.props.command.strategy {
             Strategy::Semaphore => {
                 self.add_ticket(tickets, request, &TicketState::Running, true, test);
                 return Reply::Inline(serial);
@@ -129,17 +139,20 @@ impl Group {
         }
     }
 
-    /// Whether a permit is free, or the pool takes one more.
-    fn is_admitted(&self, tickets: &Tickets) -> bool
-        requires { HasTickets tickets.now self.now }
-        ensures { result ≡ is_admitted (view_in tickets.now self.now).present (view_in tickets.now self.now).present.props.strategy }
+    /// Whether a permit of the command is free, or the pool of the group takes one more.
+    fn is_admitted(&self, tickets: &Tickets, command: u8) -> bool
+        requires has { HasTickets tickets.now self.now }
+        requires tickets { AreKnown self.now.props (group_at tickets.now self.now.number).items }
+        requires known { command < command_count self.now.props }
+        ensures { result ≡ is_admitted (view_in tickets.now self.now).present command (props_of command self.now.props).strategy }
     {
-        let busy = tickets.busy_count(self.number);
-        match self.props.strategy {
-            Strategy::Semaphore => busy < self.props.semaphore,
+        match self.props.command.strategy {
+            Strategy::Semaphore => {
+                tickets.busy_count(self.number, command) < self.props.command.semaphore
+            }
             Strategy::Thread => pool_admits(
-                busy,
-                tickets.queued_count(self.number),
+                self.pool_busy_count(tickets),
+                tickets.waiting_count(self.number),
                 self.props.core,
                 self.props.max_queue,
                 self.props.queue_threshold,
@@ -151,12 +164,13 @@ impl Group {
     fn reject(&mut self, tickets: &mut Tickets, request: &Request, test: bool) -> Reply
         requires has { HasTickets tickets.old self.old }
         requires bounded { IsBounded (view_in tickets.old self.old) }
+        requires known { request.now.command < command_count self.old.props }
         requires free { length (view_in tickets.old self.old).present.tickets < (view_in tickets.old self.old).present.props.slots }
-        ensures done { IsDoneBy (view_in tickets.old self.old) (rejected (view_in tickets.old self.old).present.props.strategy request.now test (view_in tickets.old self.old).present) result (view_in tickets.new self.new) }
+        ensures done { IsDoneBy (view_in tickets.old self.old) (rejected (view_in tickets.old self.old).present.props.command.strategy request.now test (view_in tickets.old self.old).present) result (view_in tickets.new self.new) }
         ensures left { Leaves tickets.old self.old tickets.new self.new }
     {
         self.tell_circuit(tickets.next_serial(self.number), End::Error);
-        match self.props.strategy {
+        match self.props.command.strategy {
             Strategy::Semaphore => {
                 return self.fall_back_from(
                     tickets,
@@ -189,6 +203,7 @@ impl Group {
     ) -> Reply
         requires has { HasTickets tickets.old self.old }
         requires bounded { IsBounded (view_in tickets.old self.old) }
+        requires known { request.now.command < command_count self.old.props }
         requires free { length (view_in tickets.old self.old).present.tickets < (view_in tickets.old self.old).present.props.slots }
         ensures done { IsDoneBy (view_in tickets.old self.old) (due_fallback cause event request.now test (view_in tickets.old self.old).present) result (view_in tickets.new self.new) }
         ensures left { Leaves tickets.old self.old tickets.new self.new }
@@ -216,19 +231,21 @@ impl Group {
     )
         requires has { HasTickets tickets.old self.now }
         requires bounded { IsBounded (view_in tickets.old self.now) }
+        requires known { request.now.command < command_count self.now.props }
         requires free { length (view_in tickets.old self.now).present.tickets < (view_in tickets.old self.now).present.props.slots }
         ensures view { view_in tickets.new self.now ≡ view_with_ticket request.now state.now busy test (view_in tickets.old self.now) }
         ensures left { Leaves tickets.old self.now tickets.new self.now }
     {
         let ticket = Ticket {
             serial: tickets.next_serial(self.number),
+            command: request.command,
             arg: request.arg,
             cache: request.cache,
             submitted: self.history.latest(),
             state: *state,
             busy,
             holders: 1,
-            cached: self.props.cache_on && request.cache.is_some(),
+            cached: self.props.command.cache_on && request.cache.is_some(),
             test,
         };
         tickets.push(self.number, &ticket);

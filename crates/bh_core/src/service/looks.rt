@@ -1,8 +1,9 @@
 //! Looks at the groups that change nothing, by what a step would be answered.
 
-ghost use Rattle.std.specs.Prelude.{◌≡◌, ◌<◌, ℕ, [], length, slice_get, IfSome, IsNone, IsSomeAnd, None, Some, false};
+ghost use Rattle.std.specs.Prelude.{◌≡◌, ◌<◌, ℕ, [], length, slice_get, IfSome, IsNone, IsSomeAnd, None, Some, false, true};
 ghost use Rattle.bh_base.specs.declared.step.Op.{Op};
 ghost use Rattle.bh_base.specs.declared.step.Op.TheVariants as op;
+ghost use Rattle.bh_base.specs.Commands.{is_known};
 ghost use Rattle.bh_base.specs.Runs.{View};
 ghost use Rattle.bh_base.specs.Seen.{view_reply};
 ghost use Rattle.bh_core.specs.Looks.{expires_some, is_assigned, is_pending, is_worn_out};
@@ -39,10 +40,11 @@ impl Core {
         }
     }
 
-    /// Whether the group has done all the steps that it may: every further one would be answered `Worn`.
+    /// Whether the group has done all the steps that it may: every further one would be answered `Worn`, unless it names
+    /// a command that the group lacks.
     /// False where the group is not registered.
     pub fn worn(&self, group: GroupId) -> bool
-        ensures known { (v : View) (o : Op) (moment : ℕ) → slice_get self.now.views group.0 ≡ Some v → result ≡ is_worn_out (view_reply v o moment) }
+        ensures known { (v : View) (o : Op) (moment : ℕ) → slice_get self.now.views group.0 ≡ Some v → is_known o v.present.props ≡ true → result ≡ is_worn_out (view_reply v o moment) }
         ensures unknown { slice_get self.now.views group.0 ≡ None → result ≡ false }
     {
         match find(&self.groups, group) {

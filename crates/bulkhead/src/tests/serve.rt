@@ -1,7 +1,7 @@
 //! Connections over the loopback interface, with the service in a thread of its own.
 
 use super::{assert_bytes, assert_end};
-use crate::settings_file::settings_in;
+use bh_props::settings_in;
 use bh_serve::serve_on;
 use std::io::{Read, Write};
 use std::net::{Net, Shutdown, SocketAddr, TcpListener, TcpStream};

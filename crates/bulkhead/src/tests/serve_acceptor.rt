@@ -3,7 +3,7 @@
 use super::serve::{THREE_GROUPS, assert_call, assert_heard, connect, listen, say};
 use super::{assert_bytes, assert_end};
 use crate::serve::watch;
-use crate::settings_file::settings_in;
+use bh_props::settings_in;
 use bh_serve::{Acceptor, Limits, serve_through};
 use std::io::{ErrorKind, Write};
 use std::net::{Net, OpenListener, SocketAddr, TcpListener, TcpStream};

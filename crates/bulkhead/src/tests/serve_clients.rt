@@ -3,7 +3,7 @@
 use super::serve::{THREE_GROUPS, assert_call, assert_heard, connect, hear, listen, say};
 use super::serve_acceptor::{Scene, at_a_time, in_all};
 use super::{assert_bytes, assert_end};
-use crate::settings_file::settings_in;
+use bh_props::settings_in;
 use bh_serve::{Acceptor, Limits, serve_through};
 use std::net::{Net, TcpListener, TcpStream};
 use std::process::Abort;

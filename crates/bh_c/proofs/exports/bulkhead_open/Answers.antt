@@ -2,7 +2,7 @@ use Rattle.std.proofs.Common.{sym, subst}
 use Rattle.std.specs.Prelude.{IsSomeAnd}
 use Rattle.bh_c.specs.declared.outcome.Outcome.TheVariants.{Done}
 use Rattle.bh_c.specs.Exports.{IsOpened}
-use Rattle.bh_c.specs.Settings.{settings_in}
+use Rattle.bh_props.specs.SettingsFile.{settings_in}
 use Rattle.bh_c.proofs.exports.bulkhead_open.Goals as goal
 
 pub returns-in-Ok : goal.returns-in-Ok

@@ -9,7 +9,7 @@ use Rattle.bh_cache.proofs.cache.find_on.Goals.{then-has_name, else-has_name}
 
 pub loop-preserved : goal.loop-preserved
 loop-preserved c =
-    let p = is_cached_as (c.args.context, c.args.key.now) in
+    let p = is_cached_as c.args.command (c.args.context, c.args.key.now) in
     let ps = c.args.arena.now.payloads in
     let xs = slots_on c.args.arena.now 2 c.args.chain in
     let at : slice_get xs c.loop.counter ≡ Some c.in-Some.slot = sym c.loop.invariant.place ∙ c.in-Some.is in

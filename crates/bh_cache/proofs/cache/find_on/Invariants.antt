@@ -11,5 +11,5 @@ invariant-loop l = record {
   here : l.counter ≤ length (slots_on l.arena 2 l.chain);
   place : l.place ≡ slice_get (slots_on l.arena 2 l.chain) l.counter;
   within : IfSome l.found (λ slot. slot < length l.arena.payloads);
-  rest : earliest (is_cached_as (l.context, l.key)) l.arena.payloads None (slots_on l.arena 2 l.chain) ≡ earliest (is_cached_as (l.context, l.key)) l.arena.payloads l.found (drop l.counter (slots_on l.arena 2 l.chain));
+  rest : earliest (is_cached_as l.command (l.context, l.key)) l.arena.payloads None (slots_on l.arena 2 l.chain) ≡ earliest (is_cached_as l.command (l.context, l.key)) l.arena.payloads l.found (drop l.counter (slots_on l.arena 2 l.chain));
 }

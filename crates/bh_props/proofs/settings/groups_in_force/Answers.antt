@@ -10,4 +10,4 @@ pub loop-name-preserved : goal.loop-name-preserved
 loop-name-preserved c =
     let value : List ℕ → GroupProps = λ name. props_of (λ p. in_force p name (view c.args.root.now)) in
     insert_entry-next value _ _ _ _ _ _ c.requires c.loop-name-test.true c.name-item.is c.loop-name.invariant
-    (c.props_in_force.ensures ∙ ap value c.as_str.ensures) c.in_ok-insert.ensures.entries
+    (c.props_in_force.ensures ∙ ap value c.as_str.ensures.text) c.in_ok-insert.ensures.entries

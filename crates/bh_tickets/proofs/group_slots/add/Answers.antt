@@ -1,27 +1,22 @@
 use Rattle.std.proofs.Common.{sym, ap, ◌∙◌, arith, ◌+◌}
-use Rattle.bh_base.specs.Tickets.{is_queued, is_in_fallback}
+use Rattle.bh_base.specs.Tickets.{is_queued}
 use Rattle.std.specs.Prelude.{if◌then◌else◌}
 use Rattle.bh_admit.specs.Permits.{PermitCount}
 use Rattle.bh_tickets.specs.declared.group_slots.GroupSlots.{GroupSlots}
 use Rattle.bh_slot_arena.specs.Slots.{slots_on}
 use Rattle.bh_cache.proofs.Walks.{arena_is}
-use Rattle.bh_tickets.specs.GroupSlots.{is_busy, counted_in}
-use Rattle.bh_tickets.proofs.Puts.{one_few}
-use Rattle.bh_tickets.proofs.Adds.{count_few, back_on, not_full, add_from, placed_from, to_list}
+use Rattle.bh_tickets.specs.GroupSlots.{counted_in}
+use Rattle.bh_tickets.proofs.ByCommand.{one_few}
+use Rattle.bh_tickets.proofs.Adds.{count_few, room_for, back_on, not_full, add_from, placed_from, to_list}
 use Rattle.std.proofs.Common.{length-set}
 use Rattle.bh_tickets.proofs.group_slots.add.Goals as goal
-
-pub count_in-requires-clause-busy : goal.count_in-requires-clause-busy
-count_in-requires-clause-busy c =
-    omega (arith, c.requires.group.busy, c.requires.group.few, c.requires.ticket.room, one_few c.args.ticket.now.busy, count_few c.args.arena.now c.args.group.now is_busy c.requires.group)
 
 pub count_in-requires-clause-queued : goal.count_in-requires-clause-queued
 count_in-requires-clause-queued c =
     omega (arith, c.requires.group.queued, c.requires.group.few, c.requires.ticket.room, one_few (is_queued c.args.ticket.now), count_few c.args.arena.now c.args.group.now is_queued c.requires.group)
 
-pub count_in-requires-clause-in_fallback : goal.count_in-requires-clause-in_fallback
-count_in-requires-clause-in_fallback c =
-    omega (arith, c.requires.group.in_fallback, c.requires.group.few, c.requires.ticket.room, one_few (is_in_fallback c.args.ticket.now), count_few c.args.arena.now c.args.group.now is_in_fallback c.requires.group)
+pub count_in-requires-clause-room : goal.count_in-requires-clause-room
+count_in-requires-clause-room c = room_for c.args.arena.now c.args.group.now c.args.ticket.now c.requires.group c.requires.ticket
 
 pub returns-in_default : goal.returns-in_default
 returns-in_default c = absurd (not_full c.args.arena.now c.args.group.now c.args.ticket.now c.requires.arena c.requires.group c.requires.ticket (sym c.back.ensures ∙ c.in_default.is))

@@ -1,32 +1,28 @@
-use Rattle.std.proofs.Common.{inl, inr, sym, ap, ◌∙◌, refl, arith}
-use Rattle.bh_base.specs.Tickets.{is_queued, is_in_fallback}
+use Rattle.std.proofs.Common.{inl, inr, sym, ap, ◌∙◌, refl, arith, length-set}
+use Rattle.bh_base.specs.Tickets.{is_queued}
 use Rattle.bh_cache.specs.Slots.{list_for}
+use Rattle.bh_tickets.specs.declared.counts.CommandCounts.{CommandCounts}
 use Rattle.bh_tickets.specs.declared.group_slots.GroupSlots.{GroupSlots}
-use Rattle.bh_tickets.specs.GroupSlots.{counted_in, is_busy, noted}
-use Rattle.bh_tickets.proofs.InPlace.{change_from, here_is}
-use Rattle.bh_tickets.proofs.Puts.{counted_at, one_few, room_at}
+use Rattle.bh_tickets.specs.GroupSlots.{counted_in, noted}
+use Rattle.bh_tickets.proofs.InPlace.{change_from, here_is, read_known}
+use Rattle.bh_tickets.proofs.Puts.{counted_at, counted_there, room_at, room_without}
+use Rattle.bh_tickets.proofs.ByCommand.{one_few}
 use Rattle.bh_tickets.proofs.group_slots.change.Goals as goal
-
-pub count_out-requires-clause-busy : goal.count_out-requires-clause-busy
-count_out-requires-clause-busy c =
-    let here = here_is c.args.arena.now c.args.group.now c.args.slot c.args.change.now c.requires.allowed c.get-was.result.now c.get-was.ensures in
-    omega (arith, c.requires.group.busy, counted_at c.args.arena.now c.args.group.now c.args.slot c.get-was.result.now c.requires.group here is_busy)
 
 pub count_out-requires-clause-queued : goal.count_out-requires-clause-queued
 count_out-requires-clause-queued c =
     let here = here_is c.args.arena.now c.args.group.now c.args.slot c.args.change.now c.requires.allowed c.get-was.result.now c.get-was.ensures in
     omega (arith, c.requires.group.queued, counted_at c.args.arena.now c.args.group.now c.args.slot c.get-was.result.now c.requires.group here is_queued)
 
-pub count_out-requires-clause-in_fallback : goal.count_out-requires-clause-in_fallback
-count_out-requires-clause-in_fallback c =
+pub count_out-requires-clause-counted : goal.count_out-requires-clause-counted
+count_out-requires-clause-counted c =
     let here = here_is c.args.arena.now c.args.group.now c.args.slot c.args.change.now c.requires.allowed c.get-was.result.now c.get-was.ensures in
-    omega (arith, c.requires.group.in_fallback, counted_at c.args.arena.now c.args.group.now c.args.slot c.get-was.result.now c.requires.group here is_in_fallback)
+    counted_there c.args.arena.now c.args.group.now c.args.slot c.get-was.result.now c.requires.group here
 
-pub count_in-requires-clause-busy : goal.count_in-requires-clause-busy
-count_in-requires-clause-busy c =
-    let here = here_is c.args.arena.now c.args.group.now c.args.slot c.args.change.now c.requires.allowed c.get-was.result.now c.get-was.ensures in
-    let out = ap (λ (s : GroupSlots). s.busy) c.count_out.ensures in
-    omega (arith, out, c.requires.group.busy, c.requires.group.few, one_few c.get-ticket.result.now.busy, room_at c.args.arena.now c.args.group.now c.args.slot c.get-was.result.now c.requires.group here is_busy)
+pub count_in-requires-clause-command : goal.count_in-requires-clause-command
+count_in-requires-clause-command c =
+    let known = read_known c.args.arena.now c.args.group.now c.args.slot c.args.change.now c.requires.allowed c.get-was.result.now c.get-was.ensures c.get_mut.result.now c.apply.new.ticket c.get-ticket.result.now c.get_mut.ensures.value c.apply.ensures c.get-ticket.ensures c.requires.group in
+    rw c.count_out.ensures (omega (arith, known, c.requires.group.commands, length-set {A = CommandCounts}))
 
 pub count_in-requires-clause-queued : goal.count_in-requires-clause-queued
 count_in-requires-clause-queued c =
@@ -34,11 +30,11 @@ count_in-requires-clause-queued c =
     let out = ap (λ (s : GroupSlots). s.queued) c.count_out.ensures in
     omega (arith, out, c.requires.group.queued, c.requires.group.few, one_few (is_queued c.get-ticket.result.now), room_at c.args.arena.now c.args.group.now c.args.slot c.get-was.result.now c.requires.group here is_queued)
 
-pub count_in-requires-clause-in_fallback : goal.count_in-requires-clause-in_fallback
-count_in-requires-clause-in_fallback c =
+pub count_in-requires-clause-room : goal.count_in-requires-clause-room
+count_in-requires-clause-room c =
     let here = here_is c.args.arena.now c.args.group.now c.args.slot c.args.change.now c.requires.allowed c.get-was.result.now c.get-was.ensures in
-    let out = ap (λ (s : GroupSlots). s.in_fallback) c.count_out.ensures in
-    omega (arith, out, c.requires.group.in_fallback, c.requires.group.few, one_few (is_in_fallback c.get-ticket.result.now), room_at c.args.arena.now c.args.group.now c.args.slot c.get-was.result.now c.requires.group here is_in_fallback)
+    let known = read_known c.args.arena.now c.args.group.now c.args.slot c.args.change.now c.requires.allowed c.get-was.result.now c.get-was.ensures c.get_mut.result.now c.apply.new.ticket c.get-ticket.result.now c.get_mut.ensures.value c.apply.ensures c.get-ticket.ensures c.requires.group in
+    rw c.count_out.ensures (room_without c.args.arena.now c.args.group.now c.args.slot c.get-was.result.now c.requires.group here c.get-ticket.result.now known)
 
 pub returns-then-not-needed : goal.returns-then-not-needed
 returns-then-not-needed c =

@@ -1,12 +1,12 @@
 use Rattle.std.proofs.Common.{None, sym, ap, ◌∙◌, arith, ◌-◌}
-use Rattle.bh_base.specs.Tickets.{is_queued, is_in_fallback}
+use Rattle.bh_base.specs.Tickets.{is_queued}
 use Rattle.bh_admit.specs.Permits.{PermitCount}
 use Rattle.bh_tickets.specs.declared.group_slots.GroupSlots.{GroupSlots}
 use Rattle.bh_slot_arena.specs.Slots.{with_moved}
 use Rattle.bh_cache.specs.Chains.{with_placed}
 use Rattle.bh_cache.specs.Slots.{Slots}
-use Rattle.bh_tickets.specs.GroupSlots.{is_busy, is_any}
-use Rattle.bh_tickets.proofs.Puts.{counted_at}
+use Rattle.bh_tickets.specs.GroupSlots.{is_any}
+use Rattle.bh_tickets.proofs.Puts.{counted_at, counted_there}
 use Rattle.bh_cache.proofs.Walks.{arena_is}
 use Rattle.bh_tickets.proofs.Releases.{there_at, there_within, stays_at, gone_from}
 use Rattle.bh_tickets.proofs.group_slots.release_at.Goals as goal
@@ -19,20 +19,15 @@ returns-then-is_kept c =
     let here = there_at c.args.arena.now c.args.group.now c.args.slot c.get-was.result.now c.requires.there c.get-was.ensures in
     stays_at c.args.arena.now c.args.group.now c.args.slot c.get-was.result.now c.requires.arena c.requires.group here (sym c.is_kept.ensures ∙ c.if-is_kept.true)
 
-pub count_out-requires-clause-busy : goal.count_out-requires-clause-busy
-count_out-requires-clause-busy c =
-    let here = there_at c.args.arena.now c.args.group.now c.args.slot c.get-was.result.now c.requires.there c.get-was.ensures in
-    omega (arith, c.requires.group.busy, counted_at c.args.arena.now c.args.group.now c.args.slot c.get-was.result.now c.requires.group here is_busy)
-
 pub count_out-requires-clause-queued : goal.count_out-requires-clause-queued
 count_out-requires-clause-queued c =
     let here = there_at c.args.arena.now c.args.group.now c.args.slot c.get-was.result.now c.requires.there c.get-was.ensures in
     omega (arith, c.requires.group.queued, counted_at c.args.arena.now c.args.group.now c.args.slot c.get-was.result.now c.requires.group here is_queued)
 
-pub count_out-requires-clause-in_fallback : goal.count_out-requires-clause-in_fallback
-count_out-requires-clause-in_fallback c =
+pub count_out-requires-clause-counted : goal.count_out-requires-clause-counted
+count_out-requires-clause-counted c =
     let here = there_at c.args.arena.now c.args.group.now c.args.slot c.get-was.result.now c.requires.there c.get-was.ensures in
-    omega (arith, c.requires.group.in_fallback, counted_at c.args.arena.now c.args.group.now c.args.slot c.get-was.result.now c.requires.group here is_in_fallback)
+    counted_there c.args.arena.now c.args.group.now c.args.slot c.get-was.result.now c.requires.group here
 
 pub give-requires : goal.give-requires
 give-requires c =

@@ -1,6 +1,6 @@
 use Rattle.std.proofs.Common.{◌≡◌}
 use Rattle.bh_base.specs.declared.reply.Reply.TheVariants as reply
-use Rattle.bh_audit.proofs.Looking.{collects}
+use Rattle.bh_audit.proofs.Looking.{collects, collects_known}
 use Rattle.bh_audit.proofs.locked.Locked.try_collect.Goals as goal
 use Rattle.bh_audit.proofs.locked.Locked.try_collect.Goals.{else-not-self-via-then-not-self+else-pending, else-not-self-via-else-not-self}
 
@@ -13,3 +13,7 @@ returns-clause-told g c = λ is.
           (rw w.core.ensures at w.pending.ensures.known) waits)
       | else-not-self-via-else-not-self w ↦ w.if-not-self.false
     ]
+
+pub returns-clause-known : goal.returns-clause-known
+returns-clause-known g c =
+    collects_known c.args.self.now.book.groups _ c.group-group.result c.args.serial c.now-now.result c.step-reply.result.0 c.step-reply.ensures.groups

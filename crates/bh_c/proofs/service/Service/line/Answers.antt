@@ -11,7 +11,7 @@ returns-in-Ok-Ok-clause-told c =
     let service = settings_view c.args.self.now.settings in
     let same = line_text-same c.args.line.now c.in-Some.text.now c.in-Some.ensures in
     line-step service c.args.line.now c.args.self.now.core c.line_of_step.new.self.core c.args.buffer.now c.line_of_step.new.buffer c.line_of_step.new.needed (sym c.in-Some.ensures ∙ ap Some same)
-    c.in-Ok-Ok.step c.line_of_step.result (ap (line_step (names_in service)) (sym same) ∙ sym c.in-Ok-Ok.ensures.said ∙ c.in-Ok-Ok.field-0-is) (subst (λ said. IfOk said (λ step. step.group.0 < length service.groups)) c.in-Ok-Ok.field-0-is c.in-Ok-Ok.ensures.group) c.line_of_step.ensures.told
+    c.in-Ok-Ok.step (ap (line_step (names_in service)) (sym same) ∙ sym c.in-Ok-Ok.ensures.said ∙ c.in-Ok-Ok.field-0-is) (subst (λ said. IfOk said (λ step. step.group.0 < length service.groups)) c.in-Ok-Ok.field-0-is c.in-Ok-Ok.ensures.group) c.line_of_step.ensures.step c.line_of_step.ensures.line
 
 pub returns-in-Ok-Err-clause-told : goal.returns-in-Ok-Err-clause-told
 returns-in-Ok-Err-clause-told c =

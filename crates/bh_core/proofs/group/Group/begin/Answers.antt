@@ -14,7 +14,7 @@ returns-clause-bounded c = λ ts has kept.
     let g = c.self.inside in
     let h = g.history in
     let n = c.advance.new.self in
-    let w = window_of g.props in
+    let w = window_of g.props.command in
     let steady : IsSteady (view_in ts (group_view g)) = rw (← c.self.view_is) at kept in
     let own : HasTickets ts (group_view g) = rw (← c.self.view_is) at has in
     let fresh : g.steps < g.limit = rw (← c.self.view_is) at c.requires in
@@ -26,5 +26,6 @@ returns-clause-bounded c = λ ts has kept.
       events = omega (arith, moved, counted-moved w h.latest m h.table h.health c.self.invariant.served.buckets, steady.events, fresh, c.self.invariant.limit);
       serial = own.serial;
       step = omega arith;
+      known = steady.known;
       held = (let number : g.steps ≡ g.steps + 1 - 1 = omega arith in subst (λ m. HeldBy m (group_at ts g.number).items) number steady.held);
     }

@@ -24,7 +24,7 @@ returns-clause-done c =
     let g = group_view c.self.inside in
     let n = c.args.serial in
     let v : View = view_in ts g in
-    let free : in_fallback_count v.present < v.present.props.fallback_permits = rw c.in_fallback_count.ensures at c.if-in_fallback_count-self.false in
-    rw (← c.self.view_is) (done_quiet v (collected_in (ticket.NeedsFallback c.args.cause) n v.present) (reply.RunFallback c.args.cause) (changed (is_held_at n) (fallback_started c.args.cause) v.present) (view_in us g)
-    (fall_runs v.present n c.args.cause c.if-not-self.false free)
+    let free : in_fallback_count c.args.command v.present < v.present.props.command.fallback_permits = rw c.in_fallback_count.ensures at c.if-in_fallback_count-self.false in
+    rw (← c.self.view_is) (done_quiet v (collected_in (ticket.NeedsFallback c.args.cause) c.args.command n v.present) (reply.RunFallback c.args.cause) (changed (is_held_at n) (fallback_started c.args.cause) v.present) (view_in us g)
+    (fall_runs v.present c.args.command n c.args.cause c.if-not-self.false free)
     (view_changed ts us g (is_held_at n) (fallback_started c.args.cause) (c.start_fallback.ensures.items (is_held_at n) (rw (← c.self.view_is) at c.requires.held)) c.start_fallback.ensures.left.next))

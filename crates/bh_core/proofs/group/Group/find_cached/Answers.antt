@@ -9,9 +9,9 @@ pub returns-in-Some : goal.returns-in-Some
 returns-in-Some c =
     let ts = c.args.tickets.now in
     let v : View = view_in ts (group_view c.self.inside) in
-    rw (← c.self.view_is, c.in-Some.is) (joinable_is v.present (group_at ts c.self.inside.number) (Some (c.in-Some.context, c.in-Some.key)) c.find_cached.result refl c.if-not-self.false c.find_cached.ensures.found c.find_cached.ensures.none)
+    rw (← c.self.view_is, c.in-Some.is) (joinable_is v.present (group_at ts c.self.inside.number) (record c.args.request.now { cache = Some (c.in-Some.context, c.in-Some.key) }) c.find_cached.result refl c.if-not-self.false c.find_cached.ensures.found c.find_cached.ensures.none)
 
 pub returns-in-None : goal.returns-in-None
 returns-in-None c =
     let v : View = view_in c.args.tickets.now (group_view c.self.inside) in
-    rw (← c.self.view_is, c.in-None.is) (nameless_is v.present)
+    rw (← c.self.view_is, c.in-None.is) (nameless_is v.present c.args.request.now.command)

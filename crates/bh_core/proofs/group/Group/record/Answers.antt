@@ -14,7 +14,7 @@ returns-clause-counted c =
     let k = c.args.kind in
     let h = c.self.inside.history in
     let n = c.record.new.self in
-    let w = window_of c.self.inside.props in
+    let w = window_of c.self.inside.props.command in
     let recorded : counted_at w n.latest n.table n.health ≡ counted (with_event k v) =
     (λ i. counted_at w (c.record.ensures i).latest (c.record.ensures i).table (c.record.ensures i).health)
     ∙ (λ i. counted_at w h.latest (later_table (c.self.invariant.window i) h.latest h.table h.latest (k ∷ [])) (later_table (c.self.invariant.window i) h.latest h.health h.latest (filter is_of_health (k ∷ [])))) in

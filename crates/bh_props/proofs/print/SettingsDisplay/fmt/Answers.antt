@@ -15,5 +15,5 @@ loop-name-preserved g c =
       done ++ e ∷ [],
       whole ∙ ap (λ t. done ++ t) iter ∙ sym (append_assoc done (e ∷ []) c.next.new.self),
       λ plain. has_written_of_eq _ _ _ _ _ (flat_map_more (group_lines c.args.self.now.audit_steps) [] done e)
-          (has_written_append _ _ _ _ _ _ (written plain) (rw c.as_str.ensures at w (written plain).plain (search rules))),
+          (has_written_append _ _ _ _ _ _ (written plain) (rw c.as_str.ensures.text at w (written plain).plain (search rules))),
     )

@@ -1,7 +1,7 @@
 use Rattle.std.proofs.Common.{inl, inr, refl}
 use Rattle.bh_base.specs.declared.reply.Reply.{Reply}
 use Rattle.bh_base.specs.declared.reply.Reply.TheVariants as reply
-use Rattle.bh_workers.proofs.Calling.{call_is, finds_full, runs, waits}
+use Rattle.bh_workers.proofs.Calling.{call_is, finds_full, finds_missing, runs, waits}
 use Rattle.bh_workers.proofs.environment.Environment.call.Goals as goal
 
 pub returns-in-Queued-clause-call : goal.returns-in-Queued-clause-call
@@ -32,3 +32,8 @@ pub returns-in-GroupFull-clause-call : goal.returns-in-GroupFull-clause-call
 returns-in-GroupFull-clause-call g c =
     finds_full g.D.Dependency.ends g.D.Dependency.fallback_ends g.C.Clock.moments c.args.self.now.shared.now.audited c.args.pass.now c.make_step-reply.new.pass c.args.request
     (rw c.in-GroupFull.is at c.make_step-reply.ensures.adds)
+
+pub returns-in-NoCommand-clause-call : goal.returns-in-NoCommand-clause-call
+returns-in-NoCommand-clause-call g c =
+    finds_missing g.D.Dependency.ends g.D.Dependency.fallback_ends g.C.Clock.moments c.args.self.now.shared.now.audited c.args.pass.now c.make_step-reply.new.pass c.args.request
+    (rw c.in-NoCommand.is at c.make_step-reply.ensures.adds) (c.make_step-reply.ensures.missing c.in-NoCommand.is)

@@ -1,5 +1,5 @@
-use Rattle.bulkhead.proofs.SettingsFile.{settings-no_text, settings-text}
-use Rattle.bulkhead.proofs.settings_file.settings_in.Goals as goal
+use Rattle.bh_props.proofs.SettingsFile.{settings-no_text, settings-text}
+use Rattle.bh_props.proofs.settings_file.settings_in.Goals as goal
 
 pub returns-in_default-clause-refused : goal.returns-in_default-clause-refused
 returns-in_default-clause-refused c = λ _. settings-no_text _ c.in_default.ensures.cases.0

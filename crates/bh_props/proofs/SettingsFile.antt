@@ -4,7 +4,7 @@ use Rattle.std.proofs.lemmas.Str.{is_utf8-from_IsUtf8, IsUtf8-from_is_utf8}
 use Rattle.std.specs.Str.{is_utf8}
 use Rattle.bh_props.specs.Settings.{settings_of}
 use Rattle.bh_props.specs.declared.error.SettingsError.TheVariants.{Syntax}
-use Rattle.bulkhead.specs.SettingsFile.{settings_in}
+use Rattle.bh_props.specs.SettingsFile.{settings_in}
 
 -- bytes that are not UTF-8 are refused
 pub settings-no_text : (bytes : List ℕ) → ¬ (IsUtf8 bytes) → settings_in bytes ≡ Err Syntax

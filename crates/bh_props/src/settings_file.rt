@@ -2,9 +2,11 @@
 
 ghost use Rattle.std.specs.Prelude.{◌≡◌, ◌≢◌, Err, IfErr, IfOk, Ok};
 ghost use Rattle.bh_props.specs.Shown.{settings_view};
-ghost use Rattle.bulkhead.specs.SettingsFile.{settings_in};
+ghost use Rattle.bh_props.specs.SettingsFile.{settings_in};
 
-use bh_props::{Settings, SettingsError};
+use crate::error::SettingsError;
+use crate::reading::read;
+use crate::settings::Settings;
 use std::alloc::Global;
 use std::str;
 
@@ -17,5 +19,5 @@ pub fn settings_in(alloc: Global, bytes: &[u8]) -> Result<Settings, SettingsErro
     let Ok(text) = str::from_utf8(bytes) else {
         return Err(SettingsError::Syntax);
     };
-    bh_props::read(alloc, text)
+    read(alloc, text)
 }
