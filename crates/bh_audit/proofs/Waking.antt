@@ -22,7 +22,7 @@ use Rattle.bh_base.specs.Commands.{is_known, props_of}
 use Rattle.bh_base.specs.Machine.{Present, Outcome, admitted, cached_as, circuit_asked, circuit_of, circuit_said, with_circuit, collected, collected_in, fallback_done, fallback_done_in, free_count, in_fallback_count, is_admitted, outcome, placed, rejected, run_ended, started, submitted}
 use Rattle.bh_base.specs.Order.{Rise}
 use Rattle.bh_base.specs.Runs.{View, begun, is_worn}
-use Rattle.bh_base.specs.Seen.{view_after, view_outcome, view_recorded, view_reply, view_rolling}
+use Rattle.bh_base.specs.Seen.{past_view_of, past_view_rolling, view_after, view_outcome, view_recorded, view_reply}
 use Rattle.bh_base.specs.Tickets.{changed_first, in_state, is_busy_at, is_cached_in, is_held_at, is_in_fallback_at, is_kept, is_queued, is_running, is_unanswered}
 use Rattle.bh_core.specs.Looks.{is_assigned, is_pending, is_worn_out}
 use Rattle.bh_core.proofs.Looks.{collect_seen, unheld_not_pending}
@@ -110,7 +110,7 @@ fallback_keeps : (found : Option Ticket) (s : ℕ) (e : FallbackEnd) (g : Presen
 fallback_keeps None s e g serial differs h = h
 fallback_keeps (Some t) s e g serial differs h = at t.state
   where
-    at : (state : TicketState) → pend serial (fallback_done_in state s e g).present.tickets ≡ true
+    at : (state : TicketState) → pend serial (fallback_done_in state t.command s e g).present.tickets ≡ true
     at (ticket.InFallback c) = pend_other s serial (is_in_fallback_at s) _ differs (λ t is. left_of _ _ is) (λ u. refl) g.tickets h
     at (ticket.Answered a) = h
     at (ticket.NeedsFallback c) = h
@@ -251,8 +251,8 @@ pend_closed context serial (t ∷ ts) =
 
 -- the cases of all operations
 
-outcome_keeps : (o : Op) (rolling : Rolling) (g : Present) (serial next : ℕ) → frees_caller (frees_by o) serial ≡ false → Rise 1 g.tickets next → pend serial g.tickets ≡ true → pend serial (outcome o rolling g).present.tickets ≡ true
-outcome_keeps (op.Submit request) rolling g serial next other rise h = submitted_keeps (cached_as request.command request.cache g) request rolling g serial next rise h
+outcome_keeps : (o : Op) (rolling : ℕ → Rolling) (g : Present) (serial next : ℕ) → frees_caller (frees_by o) serial ≡ false → Rise 1 g.tickets next → pend serial g.tickets ≡ true → pend serial (outcome o rolling g).present.tickets ≡ true
+outcome_keeps (op.Submit request) rolling g serial next other rise h = submitted_keeps (cached_as request.command request.cache g) request (rolling request.command) g serial next rise h
 outcome_keeps op.Start rolling g serial next other rise h = pend_started _ g serial h
 outcome_keeps (op.Finish s body) rolling g serial next other rise h = run_keeps _ _ _ _ _ g serial other h
 outcome_keeps (op.Fail s true) rolling g serial next other rise h = run_keeps _ _ _ _ _ g serial other h
@@ -297,7 +297,7 @@ still_waits v o now serial next m m' fresh' other rise h = by (is_worn v.present
     after true fresh =
         let there : (if is_worn v.present then v else view_recorded v (view_outcome v o now)).present.tickets ≡ filter is_kept (view_outcome v o now).present.tickets = ap (λ b. (if b then v else view_recorded v (view_outcome v o now)).present.tickets) fresh in
         let waits : pend serial v.present.tickets ≡ true = pend_seen v serial m fresh ∙ h in
-        ap (pend serial) there ∙ pend_released serial _ ∙ outcome_keeps o (view_rolling v (begun now v.present).latest) (begun now v.present) serial next other rise waits
+        ap (pend serial) there ∙ pend_released serial _ ∙ outcome_keeps o (λ command. past_view_rolling v.present.latest (past_view_of command v) (begun now v.present).latest) (begun now v.present) serial next other rise waits
 
     by : (b : Bool) → is_worn v.present ≡ b → is_pending (view_reply (view_after v o now) (op.Collect serial) m') ≡ true
     by true worn =

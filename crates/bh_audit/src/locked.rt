@@ -344,14 +344,16 @@ pub(crate) fn workers_in<const A: u32, R: Wait>(
     lock.lock(rt).workers(group)
 }
 
-/// How many workers a group of these properties wants.
+/// How many workers a group of these properties wants: none where callers run the requests of each command.
 fn workers_of(props: &GroupProps) -> u64
     ensures { result ≡ workers_of props.now }
 {
-    match props.command.strategy {
-        Strategy::Thread => props.core,
-        Strategy::Semaphore => 0,
+    for command in &props.commands {
+        if command.strategy == Strategy::Thread {
+            return props.core;
+        }
     }
+    0
 }
 
 /// Sets the mark of a refusal. `NoCommand` has none.

@@ -273,8 +273,8 @@ impl Shared {
         self.waiting.len() as u64
     }
 
-    /// How many workers the group wants: as many as its pool has where its command runs in that pool, else 0; 0 where
-    /// it is not registered.
+    /// How many workers the group wants: as many as its pool has where a command of the group runs in that pool, else
+    /// 0; 0 where it is not registered.
     pub fn workers<R: Wait>(&self, rt: &R, group: GroupId) -> u64 {
         match &self.lock {
             Lock::Audited(lock) => workers_in(rt, lock, group),

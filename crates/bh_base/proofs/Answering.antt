@@ -72,7 +72,7 @@ fallback_answers : (t : Option Ticket) (serial : ℕ) (e : FallbackEnd) (g : Pre
 fallback_answers None serial e g = refl
 fallback_answers (Some t) serial e g = at t.state
   where
-    at : (s : TicketState) → answers_fallback_done (fallback_done_in s serial e g).reply ≡ true
+    at : (s : TicketState) → answers_fallback_done (fallback_done_in s t.command serial e g).reply ≡ true
     at (ticket.InFallback c) = refl
     at (ticket.Answered a) = refl
     at (ticket.NeedsFallback c) = refl
@@ -84,8 +84,8 @@ started_answers None g = refl
 started_answers (Some t) g = refl
 
 -- the machine's reply is one of the operation's own
-pub outcome_answers : (o : Op) (rolling : Rolling) (g : Present) → is_answer_to o (outcome o rolling g).reply ≡ true
-outcome_answers (op.Submit request) rolling g = submitted_answers (cached_as request.command request.cache g) request rolling g
+pub outcome_answers : (o : Op) (rolling : ℕ → Rolling) (g : Present) → is_answer_to o (outcome o rolling g).reply ≡ true
+outcome_answers (op.Submit request) rolling g = submitted_answers (cached_as request.command request.cache g) request (rolling request.command) g
 outcome_answers op.Start rolling g = started_answers _ g
 outcome_answers (op.Finish serial body) rolling g = ended_answers _ serial _ _ _ g
 outcome_answers (op.Fail serial true) rolling g = ended_answers _ serial _ _ _ g

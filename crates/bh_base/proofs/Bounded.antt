@@ -110,7 +110,7 @@ fallback_held : (t : Option Ticket) (n : ℕ) (e : FallbackEnd) (g : Present) (m
 fallback_held None n e g most held = same_held g most held
 fallback_held (Some t) n e g most held = at t.state
   where
-    at : (s : TicketState) → Held (most + 1) (fallback_done_in s n e g).present
+    at : (s : TicketState) → Held (most + 1) (fallback_done_in s t.command n e g).present
     at (ticket.InFallback c) = held_changed _ _ (λ u. omega arith) most g.tickets held
     at (ticket.Answered a) = same_held g most held
     at (ticket.NeedsFallback c) = same_held g most held
@@ -122,8 +122,8 @@ same_if true f t e = e
 same_if false f t e = refl
 
 -- a step adds at most one holder to a ticket
-pub outcome_held : (o : Op) (rolling : Rolling) (g : Present) (most : ℕ) → Held most g → Held (most + 1) (outcome o rolling g).present
-outcome_held (op.Submit request) rolling g most held = submitted_held (cached_as request.command request.cache g) request rolling g most held
+pub outcome_held : (o : Op) (rolling : ℕ → Rolling) (g : Present) (most : ℕ) → Held most g → Held (most + 1) (outcome o rolling g).present
+outcome_held (op.Submit request) rolling g most held = submitted_held (cached_as request.command request.cache g) request (rolling request.command) g most held
 outcome_held op.Start rolling g most held = started_held _ g most held
 outcome_held (op.Finish serial body) rolling g most held = run_held _ _ _ _ _ g most held
 outcome_held (op.Fail serial true) rolling g most held = run_held _ _ _ _ _ g most held

@@ -1,6 +1,6 @@
 -- A step records at most two events, or a timeout for each of the tickets.
 use Rattle.std.proofs.Common.{ℕ, ◌+◌, ◌≤◌, Bool, true, false, not, cond, List, [], ◌∷◌, filter, length, Option, Some, None, arith}
-use Rattle.std.proofs.lemmas.List.{length-replicate}
+use Rattle.std.proofs.lemmas.List.{length-map}
 use Rattle.std.specs.Prelude.{◌==◌, nat_le, if◌then◌else◌}
 use Rattle.bh_base.specs.declared.circuit.Admit.{Admit}
 use Rattle.bh_base.specs.declared.circuit.Admit.TheVariants as admit
@@ -21,7 +21,7 @@ use Rattle.bh_base.specs.declared.ticket.TicketState.TheVariants as ticket
 use Rattle.bh_base.specs.Circuit.{Asked, asked}
 use Rattle.bh_base.specs.Tickets.{is_running}
 use Rattle.bh_base.specs.Commands.{props_of}
-use Rattle.bh_base.specs.Machine.{circuit_of, with_circuit, Present, Outcome, outcome, placed, admitted, rejected, is_admitted, circuit_said, submitted, started, run_ended, collected, collected_in, fallback_done, fallback_done_in, fallback_events, cached_as, free_count, in_fallback_count, is_due}
+use Rattle.bh_base.specs.Machine.{circuit_of, with_circuit, Present, Outcome, outcome, placed, admitted, rejected, is_admitted, circuit_said, submitted, started, run_ended, collected, collected_in, CommandEvent, fallback_done, fallback_done_in, fallback_events, cached_as, free_count, in_fallback_count, is_due}
 
 -- the events of an outcome are so few
 abbrev IsFew : ℕ → Outcome → Type 0
@@ -92,21 +92,21 @@ fallback_few : (t : Option Ticket) (n : ℕ) (e : FallbackEnd) (g : Present) (mo
 fallback_few None n e g most = omega arith
 fallback_few (Some t) n e g most = at t.state
   where
-    at : (s : TicketState) → IsFew most (fallback_done_in s n e g)
-    at (ticket.InFallback c) = omega (arith, end_few e)
+    at : (s : TicketState) → IsFew most (fallback_done_in s t.command n e g)
+    at (ticket.InFallback c) = omega (arith, end_few e, length-map {B = CommandEvent} (fallback_events e) (λ k. record { command = t.command; kind = k }))
     at (ticket.Answered a) = omega arith
     at (ticket.NeedsFallback c) = omega arith
     at ticket.Queued = omega arith
     at ticket.Running = omega arith
 
 -- an operation records at most two events beside a timeout for each ticket
-pub outcome_few : (o : Op) (rolling : Rolling) (g : Present) → IsFew (length g.tickets) (outcome o rolling g)
-outcome_few (op.Submit request) rolling g = submitted_few (cached_as request.command request.cache g) request rolling g _
+pub outcome_few : (o : Op) (rolling : ℕ → Rolling) (g : Present) → IsFew (length g.tickets) (outcome o rolling g)
+outcome_few (op.Submit request) rolling g = submitted_few (cached_as request.command request.cache g) request (rolling request.command) g _
 outcome_few op.Start rolling g = started_few _ g _
 outcome_few (op.Finish serial body) rolling g = run_few _ _ _ _ _ g _
 outcome_few (op.Fail serial true) rolling g = run_few _ _ _ _ _ g _
 outcome_few (op.Fail serial false) rolling g = run_few _ _ _ _ _ g _
-outcome_few op.Expire rolling g = omega (arith, filter_few (is_due g) g.tickets, length-replicate (length (filter (is_due g) g.tickets)) kind.Timeout)
+outcome_few op.Expire rolling g = omega (arith, filter_few (is_due g) g.tickets, length-map {B = CommandEvent} (filter (is_due g) g.tickets) (λ t. record { command = t.command; kind = kind.Timeout }))
 outcome_few (op.Collect serial) rolling g = collected_few _ _ g _
 outcome_few (op.FallbackDone serial e) rolling g = fallback_few _ _ e g _
 outcome_few (op.Close context) rolling g = omega arith

@@ -17,7 +17,7 @@ use Rattle.bh_base.specs.declared.step.Request.{Request}
 use Rattle.bh_base.specs.declared.ticket.Ticket.{Ticket}
 use Rattle.bh_base.specs.declared.ticket.TicketState.{TicketState}
 use Rattle.bh_base.specs.declared.ticket.TicketState.TheVariants as ticket
-use Rattle.bh_base.specs.declared.props.GroupProps.{GroupProps}
+use Rattle.bh_base.specs.Props.{GroupProps}
 use Rattle.bh_base.specs.Commands.{props_of, command_count, is_known}
 use Rattle.bh_base.specs.Circuit.{Asked, asked}
 use Rattle.bh_base.specs.Tickets.{changed_first, is_kept, is_running, is_cached_in, in_state}
@@ -112,7 +112,7 @@ fallback_known : (t : Option Ticket) (n : ℕ) (e : FallbackEnd) (g : Present) �
 fallback_known None n e g known = known
 fallback_known (Some t) n e g known = at t.state
   where
-    at : (s : TicketState) → Known g (fallback_done_in s n e g).present
+    at : (s : TicketState) → Known g (fallback_done_in s t.command n e g).present
     at (ticket.InFallback c) = known_changed _ _ (λ u. refl) g.props g.tickets known
     at (ticket.Answered a) = known
     at (ticket.NeedsFallback c) = known
@@ -124,9 +124,9 @@ same_if true f t e = e
 same_if false f t e = refl
 
 -- an operation that names no command that the group lacks makes no ticket of such a command
-pub outcome_known : (o : Op) (rolling : Rolling) (g : Present) → is_known o g.props ≡ true → Known g g → Known g (outcome o rolling g).present
+pub outcome_known : (o : Op) (rolling : ℕ → Rolling) (g : Present) → is_known o g.props ≡ true → Known g g → Known g (outcome o rolling g).present
 outcome_known (op.Submit request) rolling g of known =
-    submitted_known (cached_as request.command request.cache g) request rolling g (grind (arith, nat_tests)) known
+    submitted_known (cached_as request.command request.cache g) request (rolling request.command) g (grind (arith, nat_tests)) known
 outcome_known op.Start rolling g of known = started_known _ g known
 outcome_known (op.Finish serial body) rolling g of known = run_known _ _ _ _ _ g known
 outcome_known (op.Fail serial true) rolling g of known = run_known _ _ _ _ _ g known

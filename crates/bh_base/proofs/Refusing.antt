@@ -1,5 +1,5 @@
 -- What a refusal leaves.
-use Rattle.std.proofs.Common.{◌≡◌, ℕ, Bool, true, false, List, [], ◌∷◌, filter, cond, Option, Some, None, refl, sym, ap, ◌∙◌, append-nil}
+use Rattle.std.proofs.Common.{◌≡◌, ℕ, ◌+◌, Bool, true, false, List, [], ◌∷◌, filter, cond, Option, Some, None, refl, sym, ap, ◌∙◌, append-nil}
 use Rattle.std.specs.Prelude.{◌==◌, if◌then◌else◌}
 use Rattle.bh_base.specs.declared.circuit.Admit.{Admit}
 use Rattle.bh_base.specs.declared.circuit.Admit.TheVariants as admit
@@ -14,10 +14,11 @@ use Rattle.bh_base.specs.declared.step.Request.{Request}
 use Rattle.bh_base.specs.declared.ticket.Ticket.{Ticket}
 use Rattle.bh_base.specs.Circuit.{Asked, asked}
 use Rattle.bh_base.specs.Tickets.{is_kept}
-use Rattle.bh_base.specs.Commands.{props_of, is_known}
+use Rattle.bh_base.specs.Commands.{props_of, each_from, is_known}
+use Rattle.bh_base.specs.History.{Past}
 use Rattle.bh_base.specs.Machine.{circuit_of, with_circuit, Present, Outcome, admitted, answers, cached_as, circuit_asked, circuit_said, free_count, is_admitted, outcome, rejected, submitted}
 use Rattle.bh_base.specs.Replies.{is_answer_to}
-use Rattle.bh_base.specs.Runs.{State, View, begun, is_worn, left_by, moved_on, outcome_in, step, stepped}
+use Rattle.bh_base.specs.Runs.{State, View, begun, is_worn, left_by, moved_on, outcome_in, past_with, step, stepped}
 use Rattle.bh_base.specs.Seen.{view_after, view_outcome, view_recorded, view_reply}
 use Rattle.bh_base.proofs.Answering.{outcome_answers}
 
@@ -55,7 +56,7 @@ not_missing (op.FallbackDone serial e) = refl
 not_missing (op.Close context) = refl
 not_missing (op.Read command) = refl
 
-differ : (o : Op) (rolling : Rolling) (g : Present) (r : Reply) → is_answer_to o r ≡ false → (outcome o rolling g).reply ≡ r → ⊥
+differ : (o : Op) (rolling : ℕ → Rolling) (g : Present) (r : Reply) → is_answer_to o r ≡ false → (outcome o rolling g).reply ≡ r → ⊥
 differ o rolling g r never is =
     let ever : is_answer_to o r ≡ true = ap (is_answer_to o) (sym is) ∙ outcome_answers o rolling g in
     let both : true ≡ false = sym ever ∙ never in
@@ -135,8 +136,8 @@ full_submit None request rolling g is = at (free_count g == 0) is
         absurd cc
 
 -- GroupFull comes with nothing done
-full_outcome : (o : Op) (rolling : Rolling) (g : Present) → (outcome o rolling g).reply ≡ reply.GroupFull → outcome o rolling g ≡ answers reply.GroupFull [] g
-full_outcome (op.Submit request) rolling g is = full_submit (cached_as request.command request.cache g) request rolling g is
+full_outcome : (o : Op) (rolling : ℕ → Rolling) (g : Present) → (outcome o rolling g).reply ≡ reply.GroupFull → outcome o rolling g ≡ answers reply.GroupFull [] g
+full_outcome (op.Submit request) rolling g is = full_submit (cached_as request.command request.cache g) request (rolling request.command) g is
 full_outcome op.Start rolling g is = absurd (differ op.Start rolling g reply.GroupFull refl is)
 full_outcome (op.Finish serial body) rolling g is = absurd (differ (op.Finish serial body) rolling g reply.GroupFull refl is)
 full_outcome (op.Fail serial bad) rolling g is = absurd (differ (op.Fail serial bad) rolling g reply.GroupFull refl is)
@@ -145,6 +146,11 @@ full_outcome (op.Collect serial) rolling g is = absurd (differ (op.Collect seria
 full_outcome (op.FallbackDone serial e) rolling g is = absurd (differ (op.FallbackDone serial e) rolling g reply.GroupFull refl is)
 full_outcome (op.Close context) rolling g is = absurd (differ (op.Close context) rolling g reply.GroupFull refl is)
 full_outcome (op.Read command) rolling g is = absurd (differ (op.Read command) rolling g reply.GroupFull refl is)
+
+-- pasts without a new event
+pasts_same : (moment from : ℕ) (ps : List Past) → each_from from (λ command p. past_with moment [] false p) ps ≡ ps
+pasts_same moment from [] = refl
+pasts_same moment from (p ∷ ps) = λ i. record { window = p.window; history = append-nil p.history i; health_from = p.health_from } ∷ pasts_same moment (from + 1) ps i
 
 -- after GroupFull only the step number and the latest moment have changed, where every ticket is needed
 pub full_leaves : (s : State) (o : Op) (now : ℕ) → filter is_kept s.present.tickets ≡ s.present.tickets → (step s o now).reply ≡ reply.GroupFull → (step s o now).state ≡ moved_on s now
@@ -155,7 +161,7 @@ full_leaves s o now kept = at (is_known o s.present.props) (is_worn s.present)
     at true true is = absurd cc
     at true false is =
         ap (left_by s) (full_outcome o _ (begun now s.present) is)
-        ∙ (λ i. record { present = record (begun now s.present) { tickets = kept i }; history = append-nil s.history i; health_from = s.health_from })
+        ∙ (λ i. record { present = record (begun now s.present) { tickets = kept i }; pasts = pasts_same (begun now s.present).latest 0 s.pasts i })
 
 -- tickets that were kept are kept again
 pub filter-twice : (p : Ticket → Bool) (ts : List Ticket) → filter p (filter p ts) ≡ filter p ts

@@ -16,7 +16,6 @@ use Rattle.bh_base.specs.declared.circuit.End.{End}
 use Rattle.bh_base.specs.declared.event.EventKind.{EventKind}
 use Rattle.bh_base.specs.declared.step.FallbackEnd.{FallbackEnd}
 use Rattle.bh_base.specs.declared.event.Rolling.{Rolling}
-use Rattle.bh_base.specs.History.{window_of, rolling}
 use Rattle.bh_base.specs.Circuit.{Asked, asked}
 use Rattle.bh_base.specs.Tickets.{changed_first, is_running, is_kept, is_cached_in, in_state}
 use Rattle.bh_base.specs.Commands.{props_of, is_known}
@@ -112,15 +111,15 @@ fallback_rise : (t : Option Ticket) (n : ℕ) (e : FallbackEnd) (g : Present) �
 fallback_rise None n e g rise = rise
 fallback_rise (Some t) n e g rise = at t.state
   where
-    at : (s : TicketState) → Rises (fallback_done_in s n e g).present
+    at : (s : TicketState) → Rises (fallback_done_in s t.command n e g).present
     at (ticket.InFallback c) = rise_changed _ _ (λ u. refl) 1 g.serial g.tickets rise
     at (ticket.Answered a) = rise
     at (ticket.NeedsFallback c) = rise
     at ticket.Queued = rise
     at ticket.Running = rise
 
-outcome_rise : (o : Op) (rolling : Rolling) (g : Present) → Rises g → Rises (outcome o rolling g).present
-outcome_rise (op.Submit request) rolling g rise = submitted_rise (cached_as request.command request.cache g) request rolling g rise
+outcome_rise : (o : Op) (rolling : ℕ → Rolling) (g : Present) → Rises g → Rises (outcome o rolling g).present
+outcome_rise (op.Submit request) rolling g rise = submitted_rise (cached_as request.command request.cache g) request (rolling request.command) g rise
 outcome_rise op.Start rolling g rise = started_rise _ g rise
 outcome_rise (op.Finish serial body) rolling g rise = run_rise _ _ _ _ _ g rise
 outcome_rise (op.Fail serial true) rolling g rise = run_rise _ _ _ _ _ g rise
@@ -141,5 +140,4 @@ serials_rise = record {
     at : (s : State) (o : Op) (now : ℕ) (known worn : Bool) → IsRising s → IsRising (stepped known worn s (outcome_in s o now)).state
     at s o now false worn rise = rise
     at s o now true true rise = rise
-    at s o now true false rise =
-        rise_filtered is_kept 1 _ _ (outcome_rise o (rolling (window_of s.present.props.command) s.history s.health_from (begun now s.present).latest) (begun now s.present) rise)
+    at s o now true false rise = rise_filtered is_kept 1 _ _ (outcome_rise o _ (begun now s.present) rise)

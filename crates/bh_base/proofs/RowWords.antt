@@ -2,7 +2,7 @@
 use Rattle.std.proofs.Common.{◌≡◌, ℕ, Bool, true, false, List, [], ◌∷◌, map, filter, Option, Some, None}
 use Rattle.std.specs.Prelude.{◌==◌}
 use Rattle.bh_base.specs.declared.props.CommandProps.{CommandProps}
-use Rattle.bh_base.specs.declared.props.GroupProps.{GroupProps}
+use Rattle.bh_base.specs.Props.{GroupProps}
 use Rattle.bh_base.specs.declared.props.Strategy.{Strategy}
 use Rattle.bh_base.specs.declared.props.Strategy.TheVariants as strategy
 use Rattle.bh_base.specs.declared.step.Step.{Step}
@@ -22,7 +22,7 @@ use Rattle.bh_base.specs.declared.reply.FallbackFault.{FallbackFault}
 use Rattle.bh_base.specs.declared.reply.FallbackFault.TheVariants as fault
 use Rattle.bh_base.specs.Runs.{opened, replies, own}
 
--- the settings of a group and of its command
+-- the settings of a group and of its own command
 pub record Settings : Type 0 where
   pub slots : ℕ
   pub strategy : Strategy
@@ -66,14 +66,14 @@ command_props x = record {
   cache_on = x.cache_on;
 }
 
--- the properties of the group
-abbrev pub group_props : Settings → GroupProps
-group_props x = record {
+-- the properties of the group, which has so many commands beside its own
+abbrev pub group_props : Settings → List CommandProps → GroupProps
+group_props x further = record {
   slots = x.slots;
-  command = command_props x;
   core = x.core;
   max_queue = x.max_queue;
   queue_threshold = x.queue_threshold;
+  commands = command_props x ∷ further;
 }
 
 -- the built-in settings
@@ -115,9 +115,13 @@ abbrev pub ◌⇒◌ : Step → Reply → Line
 does ⇒ says = record { step = does; reply = says }
 
 -- the machine, newly opened, answers the group's own steps as the lines say
+abbrev pub IsAnsweredBy : GroupProps → ℕ → ℕ → List Line → Type 0
+IsAnsweredBy props limit group lines =
+    replies (opened props limit) (own group (map (λ line. line.step) lines)) ≡ map (λ line. line.reply) (filter (λ line. line.step.group.0 == group) lines)
+
+-- the same of a group with its own command alone
 abbrev pub IsAnswered : Settings → ℕ → ℕ → List Line → Type 0
-IsAnswered settings limit group lines =
-    replies (opened (group_props settings) limit) (own group (map (λ line. line.step) lines)) ≡ map (λ line. line.reply) (filter (λ line. line.step.group.0 == group) lines)
+IsAnswered settings limit group lines = IsAnsweredBy (group_props settings []) limit group lines
 
 -- the operation in the group at the moment
 abbrev pub step_in : ℕ → ℕ → Op → Step
@@ -231,8 +235,12 @@ joined ticket = reply.Joined ticket
 abbrev pub group_full : Reply
 group_full = reply.GroupFull
 
+-- a ticket of the command is a worker's
+abbrev pub assigned_of : ℕ → ℕ → List ℕ → Reply
+assigned_of command ticket arg = reply.Assigned ticket command arg
+
 abbrev pub assigned : ℕ → List ℕ → Reply
-assigned ticket arg = reply.Assigned ticket 0 arg
+assigned ticket arg = assigned_of 0 ticket arg
 
 abbrev pub idle : Reply
 idle = reply.Idle
@@ -330,6 +338,9 @@ r = 114 ∷ []
 
 abbrev pub s : List ℕ
 s = 115 ∷ []
+
+abbrev pub t : List ℕ
+t = 116 ∷ []
 
 abbrev pub u : List ℕ
 u = 117 ∷ []

@@ -1,8 +1,9 @@
 -- The view of a state says each reply, and the view after it.
-use Rattle.std.proofs.Common.{◌≡◌, ℕ, ◌≤◌, Bool, true, false, cond, max, List, [], ◌∷◌, ◌++◌, filter, drop, length, refl, ◌∙◌, sym, ap, arith, length-append}
+use Rattle.std.proofs.Common.{◌≡◌, ℕ, ◌+◌, ◌≤◌, Bool, true, false, cond, max, List, [], ◌∷◌, ◌++◌, map, get_or, filter, drop, length, refl, ◌∙◌, sym, ap, arith, length-append, zero, suc}
 use Rattle.std.specs.Prelude.{if◌then◌else◌}
 use Rattle.std.specs.List.{AllByRecursion}
-use Rattle.std.proofs.lemmas.List.{drop-append-le, drop_all}
+use Rattle.std.proofs.Math.ListN.{get_or-map}
+use Rattle.std.proofs.lemmas.List.{drop-append-le, drop_all, length-map}
 use Rattle.std.proofs.lemmas.List.Elements.{All-drop, All-from_recursion, recursion_from_All, filter-append}
 use Rattle.bh_base.specs.declared.event.EventKind.{EventKind}
 use Rattle.bh_base.specs.declared.event.EventKind.TheVariants as kind
@@ -10,12 +11,14 @@ use Rattle.bh_base.specs.declared.event.Event.{Event}
 use Rattle.bh_base.specs.declared.step.Op.{Op}
 use Rattle.bh_base.specs.declared.reply.Reply.TheVariants as reply
 use Rattle.bh_base.specs.declared.event.Window.{Window}
-use Rattle.bh_base.specs.History.{window_of, rolling, rolling_by, health_by, table, health_events, is_of_health}
-use Rattle.bh_base.specs.Commands.{is_known}
+use Rattle.bh_base.specs.declared.props.CommandProps.{CommandProps}
+use Rattle.bh_base.specs.Commands.{each_from, is_known}
+use Rattle.bh_base.specs.Circuit.{new_circuit}
+use Rattle.bh_base.specs.History.{window_of, rolling_by, health_by, table, health_events, is_of_health, Past, new_past, no_past, past_rolling, past_view}
 use Rattle.bh_base.specs.Machine.{Outcome, outcome}
-use Rattle.bh_base.specs.Runs.{State, IsSound, StaysSound, view, step, stepped, left_by, outcome_in, events_at, begun, released, is_worn}
+use Rattle.bh_base.specs.Runs.{State, IsPastSound, IsSound, StaysSound, view, step, stepped, left_by, outcome_in, past_of, past_after, kinds_of, is_closed, events_at, begun, released, is_worn}
 use Rattle.bh_base.specs.Tables.{no_rows, later_table}
-use Rattle.bh_base.specs.Seen.{view_rolling, view_outcome, view_recorded, view_reply, view_after}
+use Rattle.bh_base.specs.Seen.{past_view_rolling, past_view_of, past_view_after, view_outcome, view_recorded, view_reply, view_after}
 use Rattle.bh_base.proofs.Windows.{count_from_table}
 use Rattle.bh_base.proofs.Tables.{cong_add, counts_by_same, table_later}
 use Rattle.bh_base.proofs.Kept.{Keeps, outcome_keeps}
@@ -56,15 +59,28 @@ past_later latest moment [] [] later past = past
 past_later latest moment [] (k ∷ kinds) later past = (omega arith, past_later latest moment [] kinds later past)
 past_later latest moment (e ∷ history) kinds later past = (omega (arith, past.0), past_later latest moment history kinds later past.1)
 
-rolling_seen : (s : State) (moment : ℕ) → IsSound s → s.present.latest ≤ moment → view_rolling (view s) moment ≡ rolling (window_of s.present.props.command) s.history s.health_from moment
-rolling_seen s moment sound later =
+no_past_sound : (moment : ℕ) → IsPastSound moment no_past
+no_past_sound moment = record { past = tt; from = omega arith }
+
+-- each past of a sound list is sound, and so is the one that stands for a past that it lacks
+sound_at : (moment : ℕ) (ps : List Past) (command : ℕ) → AllByRecursion (IsPastSound moment) ps → IsPastSound moment (get_or ps command no_past)
+sound_at moment [] command all = no_past_sound moment
+sound_at moment (p ∷ ps) zero all = all.0
+sound_at moment (p ∷ ps) (suc command) all = sound_at moment ps command all.1
+
+past_rolling_seen : (p : Past) (latest moment : ℕ) → IsPastSound latest p → latest ≤ moment → past_view_rolling latest (past_view latest p) moment ≡ past_rolling p moment
+past_rolling_seen p latest moment sound later =
     rolling_by_same _ _ _ _
-    (λ k. count_from_table (window_of s.present.props.command) s.history s.present.latest moment k sound.past later)
-    (λ k. count_from_table (window_of s.present.props.command) (health_events s.health_from s.history) s.present.latest moment k (past_health _ _ _ sound.past) later)
+    (λ k. count_from_table p.window p.history latest moment k sound.past later)
+    (λ k. count_from_table p.window (health_events p.health_from p.history) latest moment k (past_health _ _ _ sound.past) later)
+
+rolling_seen : (s : State) (moment command : ℕ) → IsSound s → s.present.latest ≤ moment → past_view_rolling s.present.latest (past_view_of command (view s)) moment ≡ past_rolling (past_of command s) moment
+rolling_seen s moment command sound later =
+    ap (λ p. past_view_rolling s.present.latest p moment) (get_or-map (past_view s.present.latest) s.pasts command no_past)
+    ∙ past_rolling_seen (past_of command s) s.present.latest moment (sound_at s.present.latest s.pasts command sound.pasts) later
 
 outcome_seen : (s : State) (o : Op) (now : ℕ) → IsSound s → view_outcome (view s) o now ≡ outcome_in s o now
-outcome_seen s o now sound =
-    ap (λ t. outcome o t (begun now s.present)) (rolling_seen s (max s.present.latest now) sound (omega arith))
+outcome_seen s o now sound = λ i. outcome o (λ command. rolling_seen s (max s.present.latest now) command sound (omega arith) i) (begun now s.present)
 
 filter_events : (moment : ℕ) (kinds : List EventKind) → filter (λ e. is_of_health e.kind) (events_at moment kinds) ≡ events_at moment (filter is_of_health kinds)
 filter_events moment [] = refl
@@ -92,53 +108,80 @@ health_at false props history from latest moment kinds past inside later =
     ap (λ es. table props es moment) (health_later from moment history kinds inside)
     ∙ table_later props (health_events from history) latest moment (filter is_of_health kinds) (past_health _ _ _ past) later
 
-recorded_seen : (s : State) (out : Outcome) → IsSound s → out.present.props ≡ s.present.props → s.present.latest ≤ out.present.latest → view (left_by s out) ≡ view_recorded (view s) out
-recorded_seen s out sound kept later = λ i. record {
+past_seen : (out : Outcome) (command latest : ℕ) (p : Past) → IsPastSound latest p → latest ≤ out.present.latest → past_view out.present.latest (past_after out command p) ≡ past_view_after latest out command (past_view latest p)
+past_seen out command latest p sound later = λ i. record {
+  window = p.window;
+  table = table_later p.window p.history latest out.present.latest (kinds_of command out.events) sound.past later i;
+  health = health_at (is_closed out.closed command) p.window p.history p.health_from latest out.present.latest (kinds_of command out.events) sound.past sound.from later i;
+}
+
+pasts_seen : (out : Outcome) (from latest : ℕ) (ps : List Past) → AllByRecursion (IsPastSound latest) ps → latest ≤ out.present.latest → map (past_view out.present.latest) (each_from from (past_after out) ps) ≡ each_from from (past_view_after latest out) (map (past_view latest) ps)
+pasts_seen out from latest [] sound later = refl
+pasts_seen out from latest (p ∷ ps) sound later = λ i. past_seen out from latest p sound.0 later i ∷ pasts_seen out (from + 1) latest ps sound.1 later i
+
+recorded_seen : (s : State) (out : Outcome) → IsSound s → s.present.latest ≤ out.present.latest → view (left_by s out) ≡ view_recorded (view s) out
+recorded_seen s out sound later = λ i. record {
   present = released out.present;
-  table = (ap (λ p. table (window_of p.command) (s.history ++ events_at out.present.latest out.events) out.present.latest) kept
-      ∙ table_later (window_of s.present.props.command) s.history s.present.latest out.present.latest out.events sound.past later) i;
-  health = (ap (λ p. table (window_of p.command) (health_events (if out.closed then length (s.history ++ events_at out.present.latest out.events) else s.health_from) (s.history ++ events_at out.present.latest out.events)) out.present.latest) kept
-      ∙ health_at out.closed (window_of s.present.props.command) s.history s.health_from s.present.latest out.present.latest out.events sound.past sound.from later) i;
+  pasts = pasts_seen out 0 s.present.latest s.pasts sound.pasts later i;
 }
 
 -- the reply of a step is the one that the view of the state says
 pub reply_seen : (s : State) (o : Op) (now : ℕ) → IsSound s → (step s o now).reply ≡ view_reply (view s) o now
-reply_seen s o now sound = at (is_known o s.present.props) (is_worn s.present) (outcome_seen s o now sound)
+reply_seen s o now sound = at (is_known o s.present.props) (is_worn s.present)
   where
-    at : (known worn : Bool) → view_outcome (view s) o now ≡ outcome_in s o now → (stepped known worn s (outcome_in s o now)).reply ≡ (if known then (if worn then reply.Worn else (view_outcome (view s) o now).reply) else reply.NoCommand)
-    at false worn e = refl
-    at true true e = refl
-    at true false e = ap (λ (x : Outcome). x.reply) (sym e)
+    at : (known worn : Bool) → (stepped known worn s (outcome_in s o now)).reply ≡ (if known then (if worn then reply.Worn else (view_outcome (view s) o now).reply) else reply.NoCommand)
+    at false worn = refl
+    at true true = refl
+    at true false = ap (λ (x : Outcome). x.reply) (sym (outcome_seen s o now sound))
+
+-- what an operation keeps of a group whose step has begun
+kept_in : (s : State) (o : Op) (now : ℕ) → Keeps (begun now s.present) (outcome_in s o now).present
+kept_in s o now = outcome_keeps o _ (begun now s.present)
 
 -- the view after a step is the one that the view before it says
 pub after_seen : (s : State) (o : Op) (now : ℕ) → IsSound s → view (step s o now).state ≡ view_after (view s) o now
 after_seen s o now sound = at (is_known o s.present.props) (is_worn s.present)
   where
     keeps : Keeps (begun now s.present) (outcome_in s o now).present
-    keeps = outcome_keeps o _ (begun now s.present)
+    keeps = kept_in s o now
 
     at : (known worn : Bool) → view (stepped known worn s (outcome_in s o now)).state ≡ (if known then (if worn then view s else view_recorded (view s) (view_outcome (view s) o now)) else view s)
     at false worn = refl
     at true true = refl
-    at true false = recorded_seen s (outcome_in s o now) sound keeps.props (omega (arith, keeps.latest)) ∙ ap (view_recorded (view s)) (sym (outcome_seen s o now sound))
+    at true false = recorded_seen s (outcome_in s o now) sound (omega (arith, keeps.latest)) ∙ ap (view_recorded (view s)) (sym (outcome_seen s o now sound))
+
+from_inside : (closed : Bool) (from n : ℕ) → from ≤ n → (if closed then n else from) ≤ n
+from_inside true from n h = omega arith
+from_inside false from n h = h
+
+past_sound : (out : Outcome) (command latest : ℕ) (p : Past) → IsPastSound latest p → latest ≤ out.present.latest → IsPastSound out.present.latest (past_after out command p)
+past_sound out command latest p sound later = record {
+  past = past_later latest out.present.latest p.history (kinds_of command out.events) later sound.past;
+  from = from_inside (is_closed out.closed command) p.health_from (length (p.history ++ events_at out.present.latest (kinds_of command out.events))) (omega (arith, sound.from, length-append p.history (events_at out.present.latest (kinds_of command out.events))));
+}
+
+pasts_sound : (out : Outcome) (from latest : ℕ) (ps : List Past) → AllByRecursion (IsPastSound latest) ps → latest ≤ out.present.latest → AllByRecursion (IsPastSound out.present.latest) (each_from from (past_after out) ps)
+pasts_sound out from latest [] sound later = tt
+pasts_sound out from latest (p ∷ ps) sound later = (past_sound out from latest p sound.0 later, pasts_sound out (from + 1) latest ps sound.1 later)
+
+same_windows : (out : Outcome) (from : ℕ) (ps : List Past) → map (λ p. p.window) (each_from from (past_after out) ps) ≡ map (λ p. p.window) ps
+same_windows out from [] = refl
+same_windows out from (p ∷ ps) = ap (λ ws. p.window ∷ ws) (same_windows out (from + 1) ps)
 
 -- a step keeps a state sound
 pub step_sound : (s : State) (o : Op) (now : ℕ) → IsSound s → IsSound (step s o now).state
 step_sound s o now sound = at (is_known o s.present.props) (is_worn s.present)
   where
     keeps : Keeps (begun now s.present) (outcome_in s o now).present
-    keeps = outcome_keeps o _ (begun now s.present)
-
-    from_inside : (closed : Bool) (n : ℕ) → s.health_from ≤ n → (if closed then n else s.health_from) ≤ n
-    from_inside true n h = omega arith
-    from_inside false n h = h
+    keeps = kept_in s o now
 
     at : (known worn : Bool) → IsSound (stepped known worn s (outcome_in s o now)).state
     at false worn = sound
     at true true = sound
     at true false = record {
-      past = past_later s.present.latest (outcome_in s o now).present.latest s.history (outcome_in s o now).events (omega (arith, keeps.latest)) sound.past;
-      from = from_inside (outcome_in s o now).closed (length (s.history ++ events_at (outcome_in s o now).present.latest (outcome_in s o now).events)) (omega (arith, sound.from, length-append s.history (events_at (outcome_in s o now).present.latest (outcome_in s o now).events)));
+      windows = same_windows (outcome_in s o now) 0 s.pasts ∙ sound.windows ∙ ap (λ props. map window_of props.commands) (sym keeps.props);
+      circuits = keeps.circuits ∙ sound.circuits ∙ ap (λ props. length props.commands) (sym keeps.props);
+      pasts = pasts_sound (outcome_in s o now) 0 s.present.latest s.pasts sound.pasts (omega (arith, keeps.latest));
     }
 
 -- two states with equal views give equal replies to every step, and equal views after it
@@ -153,16 +196,28 @@ pub step_props : (s : State) (o : Op) (now : ℕ) → (step s o now).state.prese
 step_props s o now = at (is_known o s.present.props) (is_worn s.present)
   where
     keeps : Keeps (begun now s.present) (outcome_in s o now).present
-    keeps = outcome_keeps o _ (begun now s.present)
+    keeps = kept_in s o now
 
     at : (known worn : Bool) → (stepped known worn s (outcome_in s o now)).state.present.props ≡ s.present.props
     at false worn = refl
     at true true = refl
     at true false = keeps.props
 
+opened_windows : (commands : List CommandProps) → map (λ p. p.window) (map new_past commands) ≡ map window_of commands
+opened_windows [] = refl
+opened_windows (c ∷ commands) = ap (λ ws. window_of c ∷ ws) (opened_windows commands)
+
+opened_pasts : (commands : List CommandProps) → AllByRecursion (IsPastSound 0) (map new_past commands)
+opened_pasts [] = tt
+opened_pasts (c ∷ commands) = (record { past = tt; from = omega arith }, opened_pasts commands)
+
 -- a new group's state is sound, and each step keeps it so
 pub stays_sound : StaysSound
 stays_sound = record {
-  opened = λ props limit. record { past = tt; from = omega arith };
+  opened = λ props limit. record {
+    windows = opened_windows props.commands;
+    circuits = length-map props.commands (λ c. new_circuit);
+    pasts = opened_pasts props.commands;
+  };
   stepped = step_sound;
 }

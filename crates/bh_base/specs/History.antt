@@ -1,5 +1,5 @@
 -- What a history of events says at a moment.
-use Rattle.std.specs.Prelude.{ℕ, ◌+◌, ◌*◌, ◌/◌, Bool, true, false, ◌&&◌, ◌==◌, nat_lt, nat_le, List, map, filter, count_by, drop, if◌then◌else◌}
+use Rattle.std.specs.Prelude.{ℕ, ◌+◌, ◌*◌, ◌/◌, Bool, true, false, ◌&&◌, ◌==◌, nat_lt, nat_le, List, [], map, filter, count_by, drop, if◌then◌else◌}
 use Rattle.std.specs.List.{range_with_len}
 use Rattle.bh_base.specs.declared.event.EventKind.{EventKind}
 use Rattle.bh_base.specs.declared.event.EventKind.TheVariants as kind
@@ -123,3 +123,35 @@ rolling_by all of_health = record { counts = counts_by all; health = health_by o
 abbrev pub rolling : Window → List Event → ℕ → ℕ → Rolling
 rolling w history health_from moment =
     rolling_by (count w history moment) (count w (health_events health_from history) moment)
+
+-- the past of a command: its window, all its events, and the place in them where the events of health begin
+pub record Past : Type 0 where
+  pub window : Window
+  pub history : List Event
+  pub health_from : ℕ
+
+-- of a command in a new group
+abbrev pub new_past : CommandProps → Past
+new_past props = record { window = window_of props; history = []; health_from = 0 }
+
+-- what stands for the past of a command that the group lacks
+abbrev pub no_past : Past
+no_past = record { window = record { buckets = 0; width = 0 }; history = []; health_from = 0 }
+
+-- what a step reads of a command's past at the moment
+abbrev pub past_rolling : Past → ℕ → Rolling
+past_rolling p moment = rolling p.window p.history p.health_from moment
+
+-- what can be seen of a past: its events are counted by buckets, all of them and those of health
+pub record PastView : Type 0 where
+  pub window : Window
+  pub table : List Counts
+  pub health : List Counts
+
+-- at the moment
+abbrev pub past_view : ℕ → Past → PastView
+past_view moment p = record {
+  window = p.window;
+  table = table p.window p.history moment;
+  health = table p.window (health_events p.health_from p.history) moment;
+}

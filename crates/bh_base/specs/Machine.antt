@@ -1,6 +1,6 @@
 -- One group alone: what each step answers, and what it leaves.
-use Rattle.std.specs.Prelude.{ℕ, ◌+◌, ◌-◌, Bool, true, false, ◌&&◌, ◌||◌, not, ◌==◌, nat_lt, nat_le, min, List, [], ◌∷◌, ◌++◌, map, filter, find, count_by, length, replicate, Option, Some, None, is_some, if◌then◌else◌}
-use Rattle.bh_base.specs.declared.props.GroupProps.{GroupProps}
+use Rattle.std.specs.Prelude.{ℕ, ◌+◌, ◌-◌, Bool, true, false, ◌&&◌, ◌||◌, not, ◌==◌, nat_lt, nat_le, min, List, [], ◌∷◌, ◌++◌, map, filter, find, count_by, length, set, slice_index_or, Option, Some, None, is_some, if◌then◌else◌}
+use Rattle.bh_base.specs.Props.{GroupProps}
 use Rattle.bh_base.specs.declared.props.Strategy.{Strategy}
 use Rattle.bh_base.specs.declared.props.Strategy.TheVariants as strategy
 use Rattle.bh_base.specs.declared.ticket.Ticket.{Ticket}
@@ -28,10 +28,10 @@ use Rattle.bh_base.specs.declared.event.EventKind.TheVariants as kind
 use Rattle.bh_base.specs.declared.event.Rolling.{Rolling}
 use Rattle.bh_base.specs.Commands.{props_of}
 use Rattle.bh_base.specs.History.{percent}
-use Rattle.bh_base.specs.Circuit.{Circuit, Asked, asked, ended, closes, is_test}
+use Rattle.bh_base.specs.Circuit.{Circuit, new_circuit, Asked, asked, ended, closes, is_test}
 use Rattle.bh_base.specs.Tickets.{is_of, is_queued, is_running, is_in_fallback, is_busy_at, is_held_at, is_in_fallback_at, is_cached_as, is_cached_in, changed_first, in_state}
 
--- all that a group has beside its history
+-- all that a group has beside the past of its commands
 pub record Present : Type 0 where
   pub props : GroupProps
   pub limit : ℕ
@@ -41,18 +41,32 @@ pub record Present : Type 0 where
   pub serial : ℕ
   -- by rising serial
   pub tickets : List Ticket
-  pub circuit : Circuit
+  -- of each command
+  pub circuits : List Circuit
 
--- what a step does: its reply, what it leaves, the kinds of its events, and whether the circuit closed
+-- an event of a step: the command that it is of, and its kind
+pub record CommandEvent : Type 0 where
+  pub command : ℕ
+  pub kind : EventKind
+
+-- what a step does: its reply, what it leaves, its events, and the command whose circuit closed, if one did
 pub record Outcome : Type 0 where
   pub reply : Reply
   pub present : Present
-  pub events : List EventKind
-  pub closed : Bool
+  pub events : List CommandEvent
+  pub closed : Option ℕ
 
--- the outcome of a case that does not close the circuit
-abbrev pub answers : Reply → List EventKind → Present → Outcome
-answers r events g = record { reply = r; present = g; events = events; closed = false }
+-- the outcome of a case that closes no circuit
+abbrev pub answers : Reply → List CommandEvent → Present → Outcome
+answers r events g = record { reply = r; present = g; events = events; closed = None }
+
+-- events of the kinds, all of one command
+abbrev pub events_of : ℕ → List EventKind → List CommandEvent
+events_of command kinds = map (λ k. record { command = command; kind = k }) kinds
+
+-- the circuit breaker of the command
+abbrev pub circuit_of : ℕ → Present → Circuit
+circuit_of command g = slice_index_or g.circuits command new_circuit
 
 -- how many permits or workers the command's runs have, also those that timed out and have not ended yet
 abbrev pub busy_count : ℕ → Present → ℕ
@@ -91,13 +105,9 @@ free_count g = g.props.slots - length g.tickets
 abbrev pub changed : (Ticket → Bool) → (Ticket → Ticket) → Present → Present
 changed p f g = record g { tickets = changed_first p f g.tickets }
 
--- the circuit breaker of the command
-abbrev pub circuit_of : ℕ → Present → Circuit
-circuit_of command g = g.circuit
-
 -- the group with another circuit breaker of the command
 abbrev pub with_circuit : ℕ → Circuit → Present → Present
-with_circuit command c g = record g { circuit = c }
+with_circuit command c g = record g { circuits = set g.circuits command c }
 
 -- the group after the command's circuit breaker was told, at the step's moment, how its ticket of the serial ended
 abbrev pub ended_in : Present → ℕ → ℕ → End → Present
@@ -152,7 +162,7 @@ with_ticket request state busy test g = record g {
 -- a request that may not run still gets a ticket, which needs a fallback; an event tells of the refusal
 abbrev pub due_fallback : Cause → EventKind → Request → Bool → Present → Outcome
 due_fallback cause event request test g =
-    answers (reply.FallbackDue g.serial cause) (event ∷ []) (with_ticket request (ticket.NeedsFallback cause) false test g)
+    answers (reply.FallbackDue g.serial cause) (events_of request.command (event ∷ [])) (with_ticket request (ticket.NeedsFallback cause) false test g)
 
 -- a test that is rejected has failed
 abbrev pub rejected : Strategy → Request → Bool → Present → Outcome
@@ -185,7 +195,8 @@ circuit_asked a request g = circuit_said a.says request (with_circuit request.co
 -- a submit may join a cached ticket without asking for a slot or the circuit breaker; else it asks for both
 abbrev pub submitted : Option Ticket → Request → Rolling → Present → Outcome
 submitted (Some t) request rolling g =
-    answers (reply.Joined t.serial) (kind.ResponseFromCache ∷ []) (changed (is_joined_by request.command request.cache) (λ u. record u { holders = u.holders + 1 }) g)
+    answers (reply.Joined t.serial) (events_of request.command (kind.ResponseFromCache ∷ []))
+    (changed (is_joined_by request.command request.cache) (λ u. record u { holders = u.holders + 1 }) g)
 submitted None request rolling g =
     if free_count g == 0
     then answers reply.GroupFull [] g
@@ -209,8 +220,8 @@ run_ended (Some t) serial state e event g =
     then record {
       reply = reply.Done;
       present = ended_in (changed (is_busy_at serial) (λ t. record t { state = state; busy = false }) g) t.command serial e;
-      events = event ∷ [];
-      closed = closes serial e (circuit_of t.command g).state;
+      events = events_of t.command (event ∷ []);
+      closed = (if closes serial e (circuit_of t.command g).state then Some t.command else None);
     }
     else answers reply.Late [] (changed (is_busy_at serial) (λ t. record t { busy = false }) g)
 
@@ -222,16 +233,17 @@ is_due g t =
     let props = props_of t.command g.props in
     props.timeout_on && (is_queued t || is_running t) && nat_le props.timeout_ms (g.latest - t.submitted)
 
--- the circuit after tickets timed out: where the test call is among them, it is told of an error
-abbrev pub test_timed_out : Option Ticket → Present → Circuit
-test_timed_out None g = g.circuit
-test_timed_out (Some t) g = ended t.serial end.Error g.latest g.circuit
+-- a circuit breaker after tickets timed out: where its test call is among them, it is told of an error
+abbrev pub test_timed_out : Option Ticket → ℕ → Circuit → Circuit
+test_timed_out None now c = c
+test_timed_out (Some t) now c = ended t.serial end.Error now c
 
--- the due tickets time out and need a fallback; a running one keeps its worker or permit until its run ends
+-- the due tickets time out and need a fallback; a running one keeps its worker or permit until its run ends. Serials are
+-- the group's, so a test call's serial tells which command's it is
 abbrev pub expired : List Ticket → Present → Outcome
-expired due g = answers (reply.Expired (length due)) (replicate (length due) kind.Timeout) (record g {
+expired due g = answers (reply.Expired (length due)) (map (λ t. record { command = t.command; kind = kind.Timeout }) due) (record g {
   tickets = map (λ t. if is_due g t then in_state (ticket.NeedsFallback cause.Timeout) t else t) g.tickets;
-  circuit = test_timed_out (find (λ t. is_test t.serial g.circuit.state) due) g;
+  circuits = map (λ c. test_timed_out (find (λ t. is_test t.serial c.state) due) g.latest c) g.circuits;
 })
 
 -- Collect
@@ -241,7 +253,7 @@ abbrev pub released_by_one : Ticket → Ticket
 released_by_one t = record t { holders = t.holders - 1 }
 
 -- the fallback may not run: the ticket is answered, and this holder has collected
-abbrev pub without_fallback : ℕ → Cause → FallbackFault → List EventKind → Present → Outcome
+abbrev pub without_fallback : ℕ → Cause → FallbackFault → List CommandEvent → Present → Outcome
 without_fallback serial cause fault events g =
     let a : Answer = answer.Error cause fault in
     answers (reply.Answered a) events (changed (is_held_at serial) (λ t. released_by_one (in_state (ticket.Answered a) t)) g)
@@ -251,8 +263,8 @@ without_fallback serial cause fault events g =
 abbrev pub collected_in : TicketState → ℕ → ℕ → Present → Outcome
 collected_in (ticket.Answered a) command serial g = answers (reply.Answered a) [] (changed (is_held_at serial) released_by_one g)
 collected_in (ticket.NeedsFallback cause) command serial g =
-    if not (props_of command g.props).fallback_on then without_fallback serial cause fault.Disabled (kind.ExceptionThrown ∷ []) g else
-    if nat_le (props_of command g.props).fallback_permits (in_fallback_count command g) then without_fallback serial cause fault.Rejected (kind.FallbackRejection ∷ kind.ExceptionThrown ∷ []) g else
+    if not (props_of command g.props).fallback_on then without_fallback serial cause fault.Disabled (events_of command (kind.ExceptionThrown ∷ [])) g else
+    if nat_le (props_of command g.props).fallback_permits (in_fallback_count command g) then without_fallback serial cause fault.Rejected (events_of command (kind.FallbackRejection ∷ kind.ExceptionThrown ∷ [])) g else
     answers (reply.RunFallback cause) [] (changed (is_held_at serial) (in_state (ticket.InFallback cause)) g)
 collected_in _ command serial g = answers reply.Pending [] g
 
@@ -276,15 +288,15 @@ fallback_events fallback.Failure = kind.FallbackFailure ∷ kind.ExceptionThrown
 fallback_events fallback.Missing = kind.FallbackMissing ∷ kind.ExceptionThrown ∷ []
 
 -- the end of a fallback that is under way gives the ticket its answer, the same for each holder
-abbrev pub fallback_done_in : TicketState → ℕ → FallbackEnd → Present → Outcome
-fallback_done_in (ticket.InFallback cause) serial e g =
-    answers reply.Done (fallback_events e) (changed (is_in_fallback_at serial) (in_state (ticket.Answered (fallback_answer e cause))) g)
-fallback_done_in _ serial e g = answers reply.NotInFallback [] g
+abbrev pub fallback_done_in : TicketState → ℕ → ℕ → FallbackEnd → Present → Outcome
+fallback_done_in (ticket.InFallback cause) command serial e g =
+    answers reply.Done (events_of command (fallback_events e)) (changed (is_in_fallback_at serial) (in_state (ticket.Answered (fallback_answer e cause))) g)
+fallback_done_in _ command serial e g = answers reply.NotInFallback [] g
 
 -- a fallback's end counts for the ticket of the serial whose fallback is under way, if there is one
 abbrev pub fallback_done : Option Ticket → ℕ → FallbackEnd → Present → Outcome
 fallback_done None serial e g = answers reply.NotInFallback [] g
-fallback_done (Some t) serial e g = fallback_done_in t.state serial e g
+fallback_done (Some t) serial e g = fallback_done_in t.state t.command serial e g
 
 -- Close
 
@@ -296,7 +308,8 @@ context_closed context g = answers (reply.Closed (count_by (is_cached_in context
 
 -- Read
 
--- the metrics of a command, and the free slots of its group; health is that of the step's moment, not that of the circuit breaker's snapshot
+-- the metrics of a command, and the free slots of its group; health is that of the step's moment, not that of the
+-- circuit breaker's snapshot
 abbrev pub metrics : ℕ → Rolling → Present → Reply
 metrics command rolling g = reply.Metrics (record {
   circuit = (circuit_of command g).state;
@@ -311,9 +324,10 @@ metrics command rolling g = reply.Metrics (record {
 
 -- the case of each op; the latest moment is the step's
 
--- what an operation does in a group whose step has begun, given the rolling counts and health
-abbrev pub outcome : Op → Rolling → Present → Outcome
-outcome (op.Submit request) rolling g = submitted (cached_as request.command request.cache g) request rolling g
+-- what an operation does in a group whose step has begun, given the rolling counts and health of each command
+abbrev pub outcome : Op → (ℕ → Rolling) → Present → Outcome
+outcome (op.Submit request) rolling g =
+    submitted (cached_as request.command request.cache g) request (rolling request.command) g
 outcome op.Start rolling g = started (if nat_lt (pool_busy_count g) g.props.core then find is_queued g.tickets else None) g
 outcome (op.Finish serial body) rolling g =
     run_ended (find (is_busy_at serial) g.tickets) serial (ticket.Answered (answer.Value body)) end.Success kind.Success g
@@ -325,4 +339,4 @@ outcome op.Expire rolling g = expired (filter (is_due g) g.tickets) g
 outcome (op.Collect serial) rolling g = collected (find (is_held_at serial) g.tickets) serial g
 outcome (op.FallbackDone serial e) rolling g = fallback_done (find (is_in_fallback_at serial) g.tickets) serial e g
 outcome (op.Close context) rolling g = context_closed context g
-outcome (op.Read command) rolling g = answers (metrics command rolling g) [] g
+outcome (op.Read command) rolling g = answers (metrics command (rolling command) g) [] g

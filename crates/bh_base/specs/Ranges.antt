@@ -1,8 +1,9 @@
--- The ranges of the properties of a group and of its command.
-use Rattle.std.specs.Prelude.{◌≡◌, ℕ, ◌*◌, ◌/◌, ◌<◌, ◌≤◌, ◌^◌, Option, Some, None}
+-- The ranges of the properties of a group and of its commands.
+use Rattle.std.specs.Prelude.{◌≡◌, ℕ, ◌*◌, ◌/◌, ◌<◌, ◌≤◌, ◌^◌, length, Option, Some, None}
+use Rattle.std.specs.List.{AllByRecursion}
 use Rattle.std.specs.Coded.{×_prop, Unit-prop, le_prop}
 use Rattle.bh_base.specs.declared.props.CommandProps.{CommandProps}
-use Rattle.bh_base.specs.declared.props.GroupProps.{GroupProps}
+use Rattle.bh_base.specs.Props.{GroupProps}
 
 -- no queue, or one of 1 to 4,294,967,295
 abbrev pub IsQueueLength : Option ℕ → Type 0
@@ -29,7 +30,7 @@ pub record IsCommandInRange (props : CommandProps) : Type 0 where
   pub whole_buckets : props.buckets * (props.window_ms / props.buckets) ≡ props.window_ms
   pub health : props.health_ms < 2 ^ 32
 
--- each number of the group and of its command is in its range
+-- the group has 1 to 16 commands, and each number of the group and of its commands is in its range
 pub record IsInRange (props : GroupProps) : Type 0 where
   pub some_slots : 1 ≤ props.slots
   pub few_slots : props.slots ≤ 4096
@@ -37,4 +38,6 @@ pub record IsInRange (props : GroupProps) : Type 0 where
   pub small_core : props.core ≤ 64
   pub queue : IsQueueLength props.max_queue
   pub queue_threshold : props.queue_threshold < 2 ^ 32
-  pub command : IsCommandInRange props.command
+  pub some_commands : 1 ≤ length props.commands
+  pub few_commands : length props.commands ≤ 16
+  pub commands : AllByRecursion IsCommandInRange props.commands

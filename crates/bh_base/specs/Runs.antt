@@ -1,39 +1,42 @@
 -- Whole runs of one group's machine, and what can be seen of its state.
-use Rattle.std.specs.Prelude.{◌≡◌, ℕ, ◌+◌, ◌≤◌, ◌==◌, Bool, true, false, max, List, [], ◌∷◌, ◌++◌, map, filter, length, if◌then◌else◌}
+use Rattle.std.specs.Prelude.{◌≡◌, ℕ, ◌+◌, ◌≤◌, ◌==◌, Bool, true, false, max, List, [], ◌∷◌, ◌++◌, map, filter, length, slice_index_or, Option, Some, None, if◌then◌else◌}
 use Rattle.std.specs.List.{AllByRecursion}
-use Rattle.bh_base.specs.declared.props.GroupProps.{GroupProps}
+use Rattle.bh_base.specs.Props.{GroupProps}
 use Rattle.bh_base.specs.declared.step.Op.{Op}
 use Rattle.bh_base.specs.declared.step.Step.{Step}
 use Rattle.bh_base.specs.declared.reply.Reply.{Reply}
 use Rattle.bh_base.specs.declared.reply.Reply.TheVariants as reply
 use Rattle.bh_base.specs.declared.event.Event.{Event}
 use Rattle.bh_base.specs.declared.event.EventKind.{EventKind}
-use Rattle.bh_base.specs.declared.event.Counts.{Counts}
-use Rattle.bh_base.specs.History.{window_of, rolling, table, health_events}
+use Rattle.bh_base.specs.Commands.{each_command, is_known}
+use Rattle.bh_base.specs.History.{window_of, Past, new_past, no_past, past_rolling, PastView, past_view}
 use Rattle.bh_base.specs.Circuit.{new_circuit}
 use Rattle.bh_base.specs.Tickets.{is_kept}
-use Rattle.bh_base.specs.Commands.{is_known}
-use Rattle.bh_base.specs.Machine.{Present, Outcome, outcome}
+use Rattle.bh_base.specs.Machine.{Present, CommandEvent, Outcome, outcome}
 
--- a group: what it has now, and the list of all its events
+-- a group: what it has now, and the past of each of its commands
 pub record State : Type 0 where
   pub present : Present
-  pub history : List Event
-  -- the place in the history where the events of health begin
-  pub health_from : ℕ
+  pub pasts : List Past
 
 -- a new group
 abbrev pub opened : GroupProps → ℕ → State
 opened props limit = record {
-  present = record { props = props; limit = limit; steps = 0; latest = 0; serial = 1; tickets = []; circuit = new_circuit };
-  history = [];
-  health_from = 0;
+  present = record { props = props; limit = limit; steps = 0; latest = 0; serial = 1; tickets = []; circuits = map (λ c. new_circuit) props.commands };
+  pasts = map new_past props.commands;
 }
 
--- what every state of a run has: no event later than the latest moment, and health begins within the history
+-- no event is later than the moment, and health begins within the history
+pub record IsPastSound (moment : ℕ) (p : Past) : Type 0 where
+  pub past : AllByRecursion (λ event. event.moment ≤ moment) p.history
+  pub from : p.health_from ≤ length p.history
+
+-- what every state of a run has: each command has a past, in the window of its properties, and a circuit breaker; no
+-- event is later than the latest moment, and health begins within the history
 pub record IsSound (s : State) : Type 0 where
-  pub past : AllByRecursion (λ event. event.moment ≤ s.present.latest) s.history
-  pub from : s.health_from ≤ length s.history
+  pub windows : map (λ p. p.window) s.pasts ≡ map window_of s.present.props.commands
+  pub circuits : length s.present.circuits ≡ length s.present.props.commands
+  pub pasts : AllByRecursion (IsPastSound s.present.latest) s.pasts
 
 -- the step's number and moment
 abbrev pub begun : ℕ → Present → Present
@@ -47,21 +50,42 @@ released g = record g { tickets = filter is_kept g.tickets }
 abbrev pub events_at : ℕ → List EventKind → List Event
 events_at moment kinds = map (λ k. record { moment = moment; kind = k }) kinds
 
+-- the past of the command
+abbrev pub past_of : ℕ → State → Past
+past_of command s = slice_index_or s.pasts command no_past
+
 -- what the op does in a group that looks so at the step's moment
 abbrev pub outcome_in : State → Op → ℕ → Outcome
 outcome_in s op now =
     let g = begun now s.present in
-    outcome op (rolling (window_of g.props.command) s.history s.health_from g.latest) g
+    outcome op (λ command. past_rolling (past_of command s) g.latest) g
 
--- the state after a step, with its events; where the circuit closed, health looks at no event up to then
-abbrev pub left_by : State → Outcome → State
-left_by s out =
-    let history = s.history ++ events_at out.present.latest out.events in
+-- the kinds of the command's events
+abbrev pub kinds_of : ℕ → List CommandEvent → List EventKind
+kinds_of command events = map (λ e. e.kind) (filter (λ e. e.command == command) events)
+
+-- whether it is the command's circuit that closed
+abbrev pub is_closed : Option ℕ → ℕ → Bool
+is_closed None command = false
+is_closed (Some closed) command = closed == command
+
+-- a command's past with events of the kinds; where its circuit closed, health looks at no event up to then
+abbrev pub past_with : ℕ → List EventKind → Bool → Past → Past
+past_with moment kinds closed p =
+    let history = p.history ++ events_at moment kinds in
     record {
-      present = released out.present;
+      window = p.window;
       history = history;
-      health_from = (if out.closed then length history else s.health_from);
+      health_from = (if closed then length history else p.health_from);
     }
+
+-- the past of the command with its events of a step
+abbrev pub past_after : Outcome → ℕ → Past → Past
+past_after out command p = past_with out.present.latest (kinds_of command out.events) (is_closed out.closed command) p
+
+-- the state after a step, with its events
+abbrev pub left_by : State → Outcome → State
+left_by s out = record { present = released out.present; pasts = each_command (past_after out) s.pasts }
 
 -- what a step gives: the reply, and the group after it
 pub record Stepped : Type 0 where
@@ -83,19 +107,14 @@ is_worn g = g.steps == g.limit
 abbrev pub step : State → Op → ℕ → Stepped
 step s op now = stepped (is_known op s.present.props) (is_worn s.present) s (outcome_in s op now)
 
--- what can be seen of a state: its events are counted by buckets
+-- what can be seen of a state: the events of each command are counted by buckets
 pub record View : Type 0 where
   pub present : Present
-  pub table : List Counts
-  pub health : List Counts
+  pub pasts : List PastView
 
--- all that replies can depend on: what is present, and the window's counts, of all events and of health's
+-- all that replies can depend on: what is present, and the counts of each command's window
 abbrev pub view : State → View
-view s = record {
-  present = s.present;
-  table = table (window_of s.present.props.command) s.history s.present.latest;
-  health = table (window_of s.present.props.command) (health_events s.health_from s.history) s.present.latest;
-}
+view s = record { present = s.present; pasts = map (past_view s.present.latest) s.pasts }
 
 -- whole runs
 

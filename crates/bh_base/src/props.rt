@@ -1,4 +1,10 @@
-//! The properties of a group and of its command (Hystrix wiki, "Configuration").
+//! The properties of a group and of its commands (Hystrix wiki, "Configuration").
+
+ghost use Rattle.std.specs.Prelude.{◌≡◌, ◌<◌, IfOk};
+ghost use Rattle.bh_base.specs.Commands.{command_count, props_of};
+
+use std::alloc::AllocError;
+use std::marker::Model;
 
 /// Who runs the dependency (`execution.isolation.strategy`).
 #[derive(Clone, Copy, Debug, PartialEq, Eq)]
@@ -46,18 +52,43 @@ pub struct CommandProps {
     pub cache_on: bool,
 }
 
-/// The properties of a group: its slots and its thread pool, and those of its command. The range of a number without one
-/// of its own is 0 to 4,294,967,295.
-#[derive(Clone, Copy, Debug, PartialEq, Eq)]
+/// The properties of a group: its slots and its thread pool, which its commands share, and those of each command. The
+/// range of a number without one of its own is 0 to 4,294,967,295.
+#[derive(Clone, Debug, Drop)]
 pub struct GroupProps {
     /// Tickets at a time, 1 to 4,096 (this service's own).
     pub slots: u64,
-    /// Those of the group's own command.
-    pub command: CommandProps,
     /// `coreSize`: workers, 1 to 64.
     pub core: u64,
     /// `maxQueueSize`: above 0, or None, which stands for -1, no queue.
     pub max_queue: Option<u64>,
     /// `queueSizeRejectionThreshold`: as many may wait, if the queue is longer.
     pub queue_threshold: u64,
+    /// 1 to 16 commands by their numbers; number 0 is the group's own.
+    pub commands: Vec<CommandProps>,
+}
+
+impl Model for GroupProps {
+    ghost use Rattle.bh_base.specs.Props.{GroupProps as GroupPropsValue};
+
+    ghost Value = { GroupPropsValue };
+
+    ghost view = { λ p. record { slots = p.slots; core = p.core; max_queue = p.max_queue; queue_threshold = p.queue_threshold; commands = p.commands.items } };
+}
+
+impl GroupProps {
+    /// The properties of the command of the number.
+    pub fn command(&self, number: u8) -> &CommandProps
+        requires { number < command_count self.now }
+        ensures { result.now ≡ props_of number self.now }
+    {
+        &self.commands[number as usize]
+    }
+
+    /// Equal properties, where there is memory for them.
+    pub fn copied(&self) -> Result<Self, AllocError>
+        ensures { IfOk result (λ made. made ≡ self.now) }
+    {
+        self.clone()
+    }
 }

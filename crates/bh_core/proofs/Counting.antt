@@ -1,19 +1,23 @@
 -- How the number of counted events changes in a step.
-use Rattle.std.proofs.Common.{◌≡◌, ℕ, ◌+◌, ◌*◌, ◌<◌, ◌≤◌, Bool, true, false, List, [], ◌∷◌, length, filter, refl, ap, arith}
-use Rattle.std.specs.Prelude.{count_by, if◌then◌else◌}
+use Rattle.std.proofs.Common.{◌≡◌, ℕ, ◌+◌, ◌*◌, ◌<◌, ◌≤◌, false, List, [], ◌∷◌, length, get_or, set, filter, Option, Some, None, zero, suc, refl, sym, subst, ap, arith}
+use Rattle.std.specs.List.{AllByRecursion}
+use Rattle.std.proofs.lemmas.List.Sums.{sum_by-cons}
+use Rattle.std.specs.Prelude.{count_by}
 use Rattle.bh_base.specs.declared.event.Counts.{Counts}
 use Rattle.bh_base.specs.declared.event.EventKind.{EventKind}
 use Rattle.bh_base.specs.declared.event.EventKind.TheVariants as kind
 use Rattle.bh_base.specs.declared.event.Window.{Window}
-use Rattle.bh_base.specs.History.{counts_by, is_kind, is_of_health, window_of, table}
+use Rattle.bh_base.specs.History.{PastView, counts_by, is_kind, is_of_health}
 use Rattle.bh_base.specs.Tables.{no_rows, sum_in, later_table}
-use Rattle.bh_base.specs.Machine.{Present, Outcome}
+use Rattle.bh_base.specs.Commands.{each_from}
+use Rattle.bh_base.specs.Machine.{CommandEvent, Outcome}
 use Rattle.bh_base.specs.Runs.{View}
+use Rattle.bh_base.specs.Seen.{no_past_view, past_view_with}
 use Rattle.bh_base.proofs.Kept.{Keeps}
 use Rattle.bh_base.proofs.LaterTables.{sum_in-later, sum_in-le}
 use Rattle.bh_base.proofs.Windows.{count_from_table}
-use Rattle.bh_core.specs.Counted.{counted, counted_at, counted_in, total}
-use Rattle.bh_core.specs.Stepping.{Begins, done, with_event, with_events}
+use Rattle.bh_core.specs.Counted.{counted, counted_in, counted_past, counted_pasts, total}
+use Rattle.bh_core.specs.Stepping.{Begins, done, health_restarted, pasts_begun, pasts_with_event, pasts_with_events, with_closed}
 
 total-sum : (f g h : EventKind → ℕ) → ((k : EventKind) → f k ≡ g k + h k) → total (counts_by f) ≡ total (counts_by g) + total (counts_by h)
 total-sum f g h e =
@@ -81,72 +85,109 @@ counted_in-moved : (w : Window) (latest moment : ℕ) (rows : List Counts) → 0
 counted_in-moved w latest moment rows some =
     omega (arith, counted_in-later w latest moment rows [] some, total-le _ _ (λ k. sum_in-le w latest moment rows k))
 
--- the number is what the two tables have
-pub counted-at : (w : Window) (moment : ℕ) (table health : List Counts) → counted_at w moment table health ≡ counted_in w moment table + counted_in w moment health
-unfolding counted_at
-counted-at w moment table health = refl
+-- the two sums that a command's count is made of
+pub counted-past : (moment : ℕ) (p : PastView) → counted_past moment p ≡ counted_in p.window moment p.table + counted_in p.window moment p.health
+unfolding counted_past
+counted-past moment p = refl
 
--- one more event is counted at most twice
-pub counted-event : (k : EventKind) (v : View) → 0 < v.present.props.command.buckets → counted (with_event k v) ≤ counted v + 2
-counted-event k v some =
-    let w : Window = window_of v.present.props.command in
-    let m = v.present.latest in
+-- a past that is moved on counts no more
+past-moved : (latest moment : ℕ) (p : PastView) → 0 < p.window.buckets → counted_past moment (past_view_with latest moment [] false p) ≤ counted_past latest p
+past-moved latest moment p some =
     omega (
       arith,
-      counted-at w m v.table v.health,
-      counted-at w m (with_event k v).table (with_event k v).health,
-      counted_in-later w m m v.table (k ∷ []) some,
-      counted_in-later w m m v.health (filter is_of_health (k ∷ [])) some,
+      counted-past moment (past_view_with latest moment [] false p),
+      counted-past latest p,
+      counted_in-moved p.window latest moment p.table some,
+      counted_in-moved p.window latest moment p.health some,
+    )
+
+-- one more event is counted at most twice
+past-event : (moment : ℕ) (k : EventKind) (p : PastView) → 0 < p.window.buckets → counted_past moment (past_view_with moment moment (k ∷ []) false p) ≤ counted_past moment p + 2
+past-event moment k p some =
+    omega (
+      arith,
+      counted-past moment (past_view_with moment moment (k ∷ []) false p),
+      counted-past moment p,
+      counted_in-later p.window moment moment p.table (k ∷ []) some,
+      counted_in-later p.window moment moment p.health (filter is_of_health (k ∷ [])) some,
       one-each k,
       health-each k,
     )
-
-counted-events : (kinds : List EventKind) (v : View) → 0 < v.present.props.command.buckets → counted (with_events kinds v) ≤ counted v + 2 * length kinds
-counted-events [] v some = omega arith
-counted-events (k ∷ kinds) v some = omega (arith, counted-event k v some, counted-events kinds (with_event k v) some)
 
 -- a table without events has none
 none-counted : (w : Window) (moment : ℕ) → counted_in w moment (no_rows w) ≡ 0
 none-counted w moment = ap total (λ i. counts_by (λ k. count_from_table w [] moment moment k tt (omega arith) i))
 
--- events change nothing that is present
-present-events : (kinds : List EventKind) (v : View) → (with_events kinds v).present ≡ v.present
-present-events [] v = refl
-present-events (k ∷ kinds) v = present-events kinds (with_event k v)
+-- a past whose health starts anew counts no more
+past-restarted : (moment : ℕ) (p : PastView) → counted_past moment (health_restarted p) ≤ counted_past moment p
+past-restarted moment p = omega (arith, counted-past moment (health_restarted p), counted-past moment p, none-counted p.window moment)
+
+-- a new past counts none
+pub past-none : (w : Window) → counted_past 0 (record { window = w; table = no_rows w; health = no_rows w }) ≡ 0
+past-none w = omega (arith, counted-past 0 (record { window = w; table = no_rows w; health = no_rows w }), none-counted w 0)
+
+-- each window has buckets
+abbrev pub HaveBuckets : List PastView → Type 0
+HaveBuckets ps = AllByRecursion (λ (p : PastView). 0 < p.window.buckets) ps
+
+-- one item of a list is replaced by one that counts at most so many more
+set-counted : (moment more : ℕ) (change : PastView → PastView) (ps : List PastView) (i : ℕ) → ((p : PastView) → 0 < p.window.buckets → counted_past moment (change p) ≤ counted_past moment p + more) → HaveBuckets ps
+    → counted_pasts moment (set ps i (change (get_or ps i no_past_view))) ≤ counted_pasts moment ps + more
+set-counted moment more change [] i grows some = omega arith
+set-counted moment more change (p ∷ ps) zero grows some =
+    omega (arith, grows p some.0, sum_by-cons (counted_past moment) p ps, sum_by-cons (counted_past moment) (change p) ps)
+set-counted moment more change (p ∷ ps) (suc i) grows some =
+    omega (arith, set-counted moment more change ps i grows some.1, sum_by-cons (counted_past moment) p ps, sum_by-cons (counted_past moment) p (set ps i (change (get_or ps i no_past_view))))
+
+-- a change that leaves the window
+set-buckets : (change : PastView → PastView) (ps : List PastView) (i : ℕ) → ((p : PastView) → (change p).window ≡ p.window) → HaveBuckets ps → HaveBuckets (set ps i (change (get_or ps i no_past_view)))
+set-buckets change [] i same some = tt
+set-buckets change (p ∷ ps) zero same some = (omega (arith, some.0, ap (λ (w : Window). w.buckets) (same p)), some.1)
+set-buckets change (p ∷ ps) (suc i) same some = (some.0, set-buckets change ps i same some.1)
+
+-- one more event is counted at most twice among all
+pub counted-event : (moment : ℕ) (e : CommandEvent) (ps : List PastView) → HaveBuckets ps → counted_pasts moment (pasts_with_event moment e ps) ≤ counted_pasts moment ps + 2
+counted-event moment e ps some = set-counted moment 2 (past_view_with moment moment (e.kind ∷ []) false) ps e.command (λ p buckets. past-event moment e.kind p buckets) some
+
+event-buckets : (moment : ℕ) (e : CommandEvent) (ps : List PastView) → HaveBuckets ps → HaveBuckets (pasts_with_event moment e ps)
+event-buckets moment e ps some = set-buckets (past_view_with moment moment (e.kind ∷ []) false) ps e.command (λ p. refl) some
+
+counted-events : (moment : ℕ) (es : List CommandEvent) (ps : List PastView) → HaveBuckets ps → counted_pasts moment (pasts_with_events moment es ps) ≤ counted_pasts moment ps + 2 * length es
+counted-events moment [] ps some = omega arith
+counted-events moment (e ∷ es) ps some = omega (arith, counted-event moment e ps some, counted-events moment es (pasts_with_event moment e ps) (event-buckets moment e ps some))
+
+events-buckets : (moment : ℕ) (es : List CommandEvent) (ps : List PastView) → HaveBuckets ps → HaveBuckets (pasts_with_events moment es ps)
+events-buckets moment [] ps some = some
+events-buckets moment (e ∷ es) ps some = events-buckets moment es (pasts_with_event moment e ps) (event-buckets moment e ps some)
+
+closed-counted : (moment : ℕ) (closed : Option ℕ) (ps : List PastView) → HaveBuckets ps → counted_pasts moment (with_closed closed ps) ≤ counted_pasts moment ps
+closed-counted moment None ps some = omega arith
+closed-counted moment (Some command) ps some = omega (arith, set-counted moment 0 health_restarted ps command (λ p buckets. omega (arith, past-restarted moment p)) some)
 
 -- the end of an operation counts no more than its events twice
-pub counted-done : (v : View) (out : Outcome) → 0 < v.present.props.command.buckets → Keeps v.present out.present → counted (done v out) ≤ counted v + 2 * length out.events
+pub counted-done : (v : View) (out : Outcome) → HaveBuckets v.pasts → Keeps v.present out.present → counted (done v out) ≤ counted v + 2 * length out.events
 counted-done v out some keeps =
-    let w : Window = window_of v.present.props.command in
     let m = v.present.latest in
-    let e : View = with_events out.events v in
-    let at_end : counted (done v out) ≡ counted_at w m (done v out).table (done v out).health = λ i. counted_at (window_of (keeps.props i).command) (keeps.latest i) (done v out).table (done v out).health in
-    let at_events : counted e ≡ counted_at w m e.table e.health = λ i. counted_at (window_of (present-events out.events v i).props.command) (present-events out.events v i).latest e.table e.health in
-    omega (arith, at_end, at_events, counted-events out.events v some, left out.closed w m e)
-  where
-    left : (closed : Bool) (w : Window) (m : ℕ) (e : View) → counted_at w m e.table (if closed then no_rows w else e.health) ≤ counted_at w m e.table e.health
-    left true w m e = omega (arith, counted-at w m e.table (no_rows w), counted-at w m e.table e.health, none-counted w m)
-    left false w m e = omega arith
+    let at_end : counted (done v out) ≡ counted_pasts m (done v out).pasts = ap (λ n. counted_pasts n (done v out).pasts) keeps.latest in
+    omega (arith, at_end, counted-events m out.events v.pasts some, closed-counted m out.closed (pasts_with_events m out.events v.pasts) (events-buckets m out.events v.pasts some))
 
--- tables that are moved on count no more
-pub counted-moved : (w : Window) (latest moment : ℕ) (table health : List Counts) → 0 < w.buckets → counted_at w moment (later_table w latest table moment []) (later_table w latest health moment []) ≤ counted_at w latest table health
-counted-moved w latest moment table health some =
-    omega (
-      arith,
-      counted-at w moment (later_table w latest table moment []) (later_table w latest health moment []),
-      counted-at w latest table health,
-      counted_in-moved w latest moment table some,
-      counted_in-moved w latest moment health some,
-    )
+-- pasts that are moved on count no more
+pub pasts-moved : (latest moment from : ℕ) (ps : List PastView) → HaveBuckets ps → counted_pasts moment (each_from from (λ command p. past_view_with latest moment [] false p) ps) ≤ counted_pasts latest ps
+pasts-moved latest moment from [] some = omega arith
+pasts-moved latest moment from (p ∷ ps) some =
+    let rest : List PastView = each_from (from + 1) (λ command q. past_view_with latest moment [] false q) ps in
+    omega (arith, past-moved latest moment p some.0, pasts-moved latest moment (from + 1) ps some.1, sum_by-cons (counted_past latest) p ps, sum_by-cons (counted_past moment) (past_view_with latest moment [] false p) rest)
+
+moved-buckets : (latest moment from : ℕ) (ps : List PastView) → HaveBuckets ps → HaveBuckets (each_from from (λ command p. past_view_with latest moment [] false p) ps)
+moved-buckets latest moment from [] some = tt
+moved-buckets latest moment from (p ∷ ps) some = (some.0, moved-buckets latest moment (from + 1) ps some.1)
 
 -- so the begin of a step counts no more
-pub counted-begun : (old : View) (now : ℕ) (new : View) → 0 < old.present.props.command.buckets → Begins old now new → counted new ≤ counted old
+pub counted-begun : (old : View) (now : ℕ) (new : View) → HaveBuckets old.pasts → Begins old now new → counted new ≤ counted old
 counted-begun old now new some begins =
-    let window : window_of new.present.props.command ≡ window_of old.present.props.command = ap (λ (g : Present). window_of g.props.command) begins.present in
-    let same : counted new ≡ counted_at (window_of old.present.props.command) new.present.latest (later_table (window_of old.present.props.command) old.present.latest old.table new.present.latest []) (later_table (window_of old.present.props.command) old.present.latest old.health new.present.latest []) =
-    λ i. counted_at (window i) new.present.latest (begins.table i) (begins.health i) in
-    omega (arith, same, counted-moved (window_of old.present.props.command) old.present.latest new.present.latest old.table old.health some)
+    let same : counted new ≡ counted_pasts new.present.latest (pasts_begun old.present.latest new.present.latest old.pasts) = ap (counted_pasts new.present.latest) begins.pasts in
+    omega (arith, same, pasts-moved old.present.latest new.present.latest 0 old.pasts some)
 
--- a new group counts none
-pub counted-opened : (w : Window) → counted_at w 0 (no_rows w) (no_rows w) ≡ 0
-counted-opened w = omega (arith, counted-at w 0 (no_rows w) (no_rows w), none-counted w 0)
+-- and leaves each window
+pub begun-buckets : (old : View) (now : ℕ) (new : View) → HaveBuckets old.pasts → Begins old now new → HaveBuckets new.pasts
+begun-buckets old now new some begins = subst HaveBuckets (sym begins.pasts) (moved-buckets old.present.latest new.present.latest 0 old.pasts some)

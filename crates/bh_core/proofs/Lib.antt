@@ -1,7 +1,9 @@
 pub mod Counting
 pub mod Histories
+pub mod Commands
 pub mod Ops
 pub mod Pool
+pub mod Below
 pub mod Timeouts
 pub mod Joining
 pub mod Stepping

@@ -1,6 +1,6 @@
 -- What a step would be answered, by what the code looks at.
 use Rattle.std.proofs.Common.{◌≡◌, ℕ, ◌<◌, Bool, true, false, not, cond, List, [], ◌∷◌, filter, length, Some, None, refl, ◌∙◌, sym, ap, arith}
-use Rattle.std.specs.Prelude.{◌||◌, find, max, nat_lt, nat_le, if◌then◌else◌}
+use Rattle.std.specs.Prelude.{◌||◌, find, nat_lt, nat_le, if◌then◌else◌}
 use Rattle.std.specs.List.{list_any}
 use Rattle.std.proofs.lemmas.Bool.Decides.{nat_tests}
 use Rattle.bh_base.specs.declared.reply.Reply.{Reply}
@@ -10,16 +10,13 @@ use Rattle.bh_base.specs.declared.step.Op.TheVariants as op
 use Rattle.bh_base.specs.declared.ticket.Ticket.{Ticket}
 use Rattle.bh_base.specs.declared.ticket.TicketState.{TicketState}
 use Rattle.bh_base.specs.declared.ticket.TicketState.TheVariants as ticket
-use Rattle.bh_base.specs.Commands.{is_known}
+use Rattle.bh_base.specs.Commands.{props_of, is_known}
 use Rattle.bh_base.specs.Machine.{Present, Outcome, pool_busy_count, collected, collected_in, in_fallback_count, is_due, started}
 use Rattle.bh_base.specs.Replies.{is_answer_to}
 use Rattle.bh_base.specs.Runs.{View, begun, is_worn}
 use Rattle.bh_base.specs.Seen.{view_outcome, view_reply}
 use Rattle.bh_base.proofs.Answering.{outcome_answers}
 use Rattle.bh_base.specs.Tickets.{in_state, is_held_at, is_queued, is_unanswered}
-use Rattle.bh_tickets.specs.Changes.{is_due_by}
-use Rattle.bh_core.specs.Stepping.{due_rule_of}
-use Rattle.bh_tickets.specs.declared.states.DueRule.{DueRule}
 use Rattle.bh_core.specs.Looks.{expires_some, is_assigned, is_pending, is_worn_out}
 
 -- what is told of the reply of a group that has the command and is not worn
@@ -104,7 +101,7 @@ collected_with t serial g = at t.state
     at ticket.Running = refl
     at (ticket.InFallback cause) = refl
     at (ticket.Answered answer) = refl
-    at (ticket.NeedsFallback cause) = sym (not_pending (not g.props.command.fallback_on) _ _ refl (not_pending (nat_le g.props.command.fallback_permits (in_fallback_count t.command g)) _ _ refl refl))
+    at (ticket.NeedsFallback cause) = sym (not_pending (not (props_of t.command g.props).fallback_on) _ _ refl (not_pending (nat_le (props_of t.command g.props).fallback_permits (in_fallback_count t.command g)) _ _ refl refl))
 
 -- a serial that nobody holds is not Pending
 pub unheld_not_pending : (v : View) (serial now : ℕ) → is_worn v.present ≡ false → find (is_held_at serial) v.present.tickets ≡ None → false ≡ is_pending (view_reply v (op.Collect serial) now)
@@ -127,10 +124,6 @@ any_filtered p (t ∷ ts) = at (p t) (any_filtered p ts)
     at true h = grind (arith, nat_tests)
     at false h = h
 
--- the rule by which tickets are due in a step at the moment
-abbrev pub due_rule_then : View → ℕ → DueRule
-due_rule_then v now = record (due_rule_of v.present) { moment = max v.present.latest now }
-
 -- tickets time out where one is due at the step's moment
-pub expire_seen : (v : View) (now : ℕ) → is_worn v.present ≡ false → list_any (is_due_by (due_rule_then v now)) v.present.tickets ≡ expires_some (view_reply v op.Expire now)
+pub expire_seen : (v : View) (now : ℕ) → is_worn v.present ≡ false → list_any (is_due (begun now v.present)) v.present.tickets ≡ expires_some (view_reply v op.Expire now)
 expire_seen v now fresh = any_filtered (is_due (begun now v.present)) v.present.tickets ∙ sym (reply_fresh expires_some v op.Expire now refl fresh)

@@ -5,7 +5,7 @@ use Rattle.std.proofs.lemmas.List.{length-set}
 use Rattle.bh_base.specs.declared.reply.Reply.{Reply}
 use Rattle.bh_base.specs.declared.reply.Reply.TheVariants.{GroupFull, NoGroup}
 use Rattle.bh_base.specs.declared.step.Step.{Step}
-use Rattle.bh_base.specs.Commands.{is_known}
+use Rattle.bh_base.specs.Commands.{command_count, is_known}
 use Rattle.bh_base.specs.Replies.{can_reply}
 use Rattle.bh_base.specs.Runs.{State, View, IsSound, step, view}
 use Rattle.bh_base.specs.Seen.{view_after, view_reply}
@@ -34,6 +34,7 @@ step_unknown groups x past = record {
   unknown_same = λ none. refl;
   missing = λ v shown lacks. absurd (past_last groups.views x.group.0 v past shown);
   has_command = λ v shown told. absurd (past_last groups.views x.group.0 v past shown);
+  own_command = λ v shown. absurd (past_last groups.views x.group.0 v past shown);
   worn = λ worn. refl;
   no_group = λ none. refl;
   no_command = λ missing. refl;
@@ -54,6 +55,7 @@ step_known limit ds d e x r inside is steady said did = record {
   unknown_same = λ none. absurd (known ds x.group.0 d inside is none);
   missing = λ v shown lacks. said ∙ unknown_missing d x.op x.now (ap (λ (u : View). is_known x.op u.present.props) (one_view _ _ _ (view_at ds x.group.0 d inside is) shown) ∙ lacks);
   has_command = λ v shown told. ap (λ (u : View). is_known x.op u.present.props) (sym (one_view _ _ _ (view_at ds x.group.0 d inside is) shown)) ∙ missing_unknown d x.op x.now (sym said ∙ told);
+  own_command = λ v shown. subst (λ (u : View). 0 < command_count u.present.props) (one_view _ _ _ (view_at ds x.group.0 d inside is) shown) steady.own;
   worn = λ worn. ap (limited limit) (worn_leaves ds x.group.0 d e x.op x.now r inside is said did worn);
   no_command = λ missing. ap (limited limit) (missing_leaves ds x.group.0 d e x.op x.now r inside is said did missing);
   no_group = λ none. absurd (not_unknown d x.op x.now r said none);

@@ -4,7 +4,7 @@ use Rattle.std.specs.Prelude.{◌&&◌, ◌==◌, nat_lt, slice_get, find}
 use Rattle.std.proofs.lemmas.Bool.Decides.{nat_tests}
 use Rattle.bh_base.specs.declared.ticket.Ticket.{Ticket}
 use Rattle.std.specs.List.{AllByRecursion}
-use Rattle.bh_base.specs.declared.props.GroupProps.{GroupProps}
+use Rattle.bh_base.specs.Props.{GroupProps}
 use Rattle.bh_base.specs.Bounds.{HeldBy}
 use Rattle.bh_base.specs.Commands.{command_count}
 use Rattle.bh_base.specs.Order.{AreKnown}
@@ -103,6 +103,15 @@ leaves_twice ts us vs g h k l m = record {
   count = m.count ∙ l.count;
   room = ap (λ n. (group_at vs n).room) (sym l.number) ∙ m.room ∙ ap (λ n. (group_at us n).room) l.number ∙ l.room;
   serial = λ few. subst (λ n. (group_at vs n).next ≤ k.steps + 1) l.number (m.serial (subst (λ n. (group_at us n).next ≤ h.steps + 1) (sym l.number) (l.serial few)));
+}
+
+-- the group has its tickets still, where there are as many as before
+pub has_left : (ts us : TicketsView) (g h : GroupView) → Leaves ts g us h → length (group_at us h.number).items ≡ length (group_at ts g.number).items → HasTickets ts g → HasTickets us h
+has_left ts us g h left many has = record {
+  there = omega (arith, left.number, left.count, has.there);
+  room = ap (λ n. (group_at us n).room) left.number ∙ left.room ∙ has.room ∙ ap (λ (p : GroupProps). p.slots) (sym left.props);
+  few = omega (arith, many, has.few, ap (λ (p : GroupProps). p.slots) left.props);
+  serial = subst (λ n. (group_at us n).next ≤ h.steps + 1) (sym left.number) (left.serial has.serial);
 }
 
 -- one ticket of the group was changed, and nothing else of it

@@ -3,8 +3,8 @@ use Rattle.std.proofs.Common.{◌≡◌, ℕ, ◌+◌, ◌<◌, true, false, Lis
 use Rattle.std.proofs.lemmas.List.{map-append}
 use Rattle.std.specs.Prelude.{nat_le, slice_get}
 use Rattle.std.proofs.lemmas.Bool.Decides.{nat_tests}
-use Rattle.bh_base.specs.declared.props.GroupProps.{GroupProps}
-use Rattle.bh_base.specs.History.{window_of}
+use Rattle.bh_base.specs.Props.{GroupProps}
+use Rattle.bh_base.specs.Commands.{command_count}
 use Rattle.bh_base.specs.Bounds.{HeldBy}
 use Rattle.bh_base.specs.Order.{AreKnown}
 use Rattle.bh_base.specs.Runs.{opened, view}
@@ -14,7 +14,7 @@ use Rattle.bh_core.specs.CoreView.{slots_in}
 use Rattle.bh_core.specs.Stepping.{IsSteady}
 use Rattle.bh_core.specs.Whole.{AreGroups, views_in}
 use Rattle.bh_core.proofs.AllGroups.{map_alike, slots_alike}
-use Rattle.bh_core.proofs.Counting.{counted-opened}
+use Rattle.bh_core.proofs.Commands.{new_circuits, new_counted, new_pasts}
 use Rattle.bh_core.proofs.Own.{group_read, tickets_same, view_same}
 use Rattle.bh_tickets.specs.TicketsView.{GroupTickets, TicketsView, group_at, no_tickets_in, slots_of}
 
@@ -56,7 +56,7 @@ beyond ts gs slots b all asked is =
 abbrev pub with_group : TicketsView → ℕ → TicketsView
 with_group ts slots = record ts { groups = ts.groups ++ no_tickets_in slots ∷ [] }
 
-module _ (ts : TicketsView) (gs : List GroupView) (props : GroupProps) (limit : ℕ) (all : AreGroups ts gs) where
+module _ (ts : TicketsView) (gs : List GroupView) (props : GroupProps) (limit : ℕ) (all : AreGroups ts gs) (some : 0 < command_count props) where
   abbrev pub us : TicketsView
   us = with_group ts props.slots
 
@@ -76,7 +76,10 @@ module _ (ts : TicketsView) (gs : List GroupView) (props : GroupProps) (limit : 
 
   -- it shows a new group's view
   view_new : view_in us g ≡ view (opened props limit)
-  view_new = λ i. record (view (opened props limit)) { present = record (opened props limit).present { serial = (own i).next; tickets = (own i).items } }
+  view_new = λ i. record {
+    present = record (opened props limit).present { serial = (own i).next; tickets = (own i).items; circuits = new_circuits props.commands i };
+    pasts = new_pasts props.commands i;
+  }
 
   has : HasTickets us g
   has = record {
@@ -91,7 +94,8 @@ module _ (ts : TicketsView) (gs : List GroupView) (props : GroupProps) (limit : 
     held = subst (λ (x : GroupTickets). HeldBy 0 x.items) (sym own) tt;
     kept = subst (λ (x : GroupTickets). filter is_kept x.items ≡ x.items) (sym own) refl;
     known = subst (λ (x : GroupTickets). AreKnown props x.items) (sym own) tt;
-    events = omega (arith, counted-opened (window_of props.command));
+    own = some;
+    events = omega (arith, new_counted props.commands);
   }
 
   -- with the new group behind the others, each group has the tickets of its number

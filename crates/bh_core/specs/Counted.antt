@@ -1,8 +1,8 @@
 -- How many events the tables of a group have: the number by which it is shown that no count wraps.
-use Rattle.std.specs.Prelude.{ℕ, ◌+◌, List}
+use Rattle.std.specs.Prelude.{ℕ, ◌+◌, List, sum_by}
 use Rattle.bh_base.specs.declared.event.Counts.{Counts}
 use Rattle.bh_base.specs.declared.event.Window.{Window}
-use Rattle.bh_base.specs.History.{counts_by, window_of}
+use Rattle.bh_base.specs.History.{PastView, counts_by}
 use Rattle.bh_base.specs.Tables.{sum_in}
 use Rattle.bh_base.specs.Runs.{View}
 
@@ -14,9 +14,13 @@ total c = c.bad_request + c.exception_thrown + c.failure + c.fallback_failure + 
 abbrev pub counted_in : Window → ℕ → List Counts → ℕ
 counted_in w moment table = total (counts_by (sum_in w moment table moment))
 
--- those that both tables of a group have together
-unfoldable pub counted_at : Window → ℕ → List Counts → List Counts → ℕ
-counted_at w moment table health = counted_in w moment table + counted_in w moment health
+-- those that both tables of a command have together
+unfoldable pub counted_past : ℕ → PastView → ℕ
+counted_past moment p = counted_in p.window moment p.table + counted_in p.window moment p.health
+
+-- and those of all commands
+abbrev pub counted_pasts : ℕ → List PastView → ℕ
+counted_pasts moment ps = sum_by (counted_past moment) ps
 
 abbrev pub counted : View → ℕ
-counted v = counted_at (window_of v.present.props.command) v.present.latest v.table v.health
+counted v = counted_pasts v.present.latest v.pasts

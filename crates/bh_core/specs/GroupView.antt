@@ -1,12 +1,13 @@
 -- What the fields of a group show, alone and together with its tickets.
-use Rattle.std.specs.Prelude.{◌≡◌, ◌≢◌, ◌+◌, ◌<◌, ◌≤◌, ◌^◌, ℕ, length, slice_get}
-use Rattle.bh_base.specs.declared.props.GroupProps.{GroupProps}
-use Rattle.bh_base.specs.Circuit.{AreBefore, Circuit, new_circuit}
+use Rattle.std.specs.Prelude.{◌≡◌, ◌≢◌, ◌+◌, ◌<◌, ◌≤◌, ◌^◌, ℕ, List, length, map, slice_get}
+use Rattle.std.specs.List.{AllByRecursion}
+use Rattle.bh_base.specs.Props.{GroupProps}
 use Rattle.bh_base.specs.History.{window_of}
 use Rattle.bh_base.specs.Runs.{View}
+use Rattle.bh_core.specs.declared.command.Command.{Command}
 use Rattle.bh_core.specs.declared.group.Group.TheInside.{Inside}
-use Rattle.bh_core.specs.Counted.{counted_at}
-use Rattle.bh_core.specs.HistoryView.{HistoryView, history_opened}
+use Rattle.bh_core.specs.Command.{IsCommandUpTo, circuit_in, new_command, past_in, window_in}
+use Rattle.bh_core.specs.Counted.{counted_pasts}
 use Rattle.bh_core.specs.Stepping.{IsServed}
 use Rattle.bh_tickets.specs.TicketsView.{TicketsView, group_at}
 
@@ -17,34 +18,35 @@ pub record GroupView : Type 0 where
   pub props : GroupProps
   pub limit : ℕ
   pub steps : ℕ
-  pub circuit : Circuit
-  pub history : HistoryView
+  pub latest : ℕ
+  -- by their numbers
+  pub commands : List Command
 
 -- a new group
 abbrev pub new_group : ℕ → GroupProps → ℕ → GroupView
-new_group number props limit = record { number = number; props = props; limit = limit; steps = 0; circuit = new_circuit; history = history_opened (window_of props.command) }
+new_group number props limit = record { number = number; props = props; limit = limit; steps = 0; latest = 0; commands = map new_command props.commands }
 
 -- what a group's fields show
 abbrev pub group_view : Inside → GroupView
-group_view g = record { number = g.number; props = g.props; limit = g.limit; steps = g.steps; circuit = g.circuit; history = g.history }
+group_view g = record { number = g.number; props = g.props; limit = g.limit; steps = g.steps; latest = g.latest; commands = g.commands.items }
 
 -- what a group shows together with its tickets
 abbrev pub view_in : TicketsView → GroupView → View
 view_in ts g = record {
-  present = record { props = g.props; limit = g.limit; steps = g.steps; latest = g.history.latest; serial = (group_at ts g.number).next; tickets = (group_at ts g.number).items; circuit = g.circuit };
-  table = g.history.table;
-  health = g.history.health;
+  present = record { props = g.props; limit = g.limit; steps = g.steps; latest = g.latest; serial = (group_at ts g.number).next; tickets = (group_at ts g.number).items; circuits = map circuit_in g.commands };
+  pasts = map (past_in g.latest) g.commands;
 }
 
 -- the events that its tables have
 abbrev pub counted_of : GroupView → ℕ
-counted_of g = counted_at (window_of g.props.command) g.history.latest g.history.table g.history.health
+counted_of g = counted_pasts g.latest (map (past_in g.latest) g.commands)
 
--- what holds of the fields between calls: the properties are in range, and no step is done beyond the limit
+-- what holds of the fields between calls: the properties are in range, each command has a window as its properties say,
+-- nothing that is kept is later than the latest moment, and no step is done beyond the limit
 pub record IsReady (g : Inside) : Type 0 where
   pub served : IsServed g.props
-  pub circuit : AreBefore g.history.latest g.circuit
-  pub window : g.history.window ≡ window_of g.props.command
+  pub windows : map window_in g.commands.items ≡ map window_of g.props.commands
+  pub commands : AllByRecursion (IsCommandUpTo g.latest) g.commands.items
   pub limit : g.limit ≤ 2 ^ 40
   pub steps : g.steps ≤ g.limit
 

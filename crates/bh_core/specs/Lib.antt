@@ -1,8 +1,8 @@
 pub mod CoreView
 pub mod Step
 pub mod Looks
-pub mod HistoryView
 pub mod History
+pub mod Command
 pub mod Counted
 pub mod Stepping
 pub mod GroupView

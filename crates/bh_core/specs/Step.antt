@@ -1,9 +1,9 @@
 -- What one step does to all groups: it is made in its own group, and leaves the others as they were.
-use Rattle.std.specs.Prelude.{◌≡◌, ◌≢◌, ℕ, None, Some, length, slice_get, false, true}
+use Rattle.std.specs.Prelude.{◌≡◌, ◌≢◌, ◌<◌, ℕ, None, Some, length, slice_get, false, true}
 use Rattle.bh_base.specs.declared.reply.Reply.{Reply}
 use Rattle.bh_base.specs.declared.reply.Reply.TheVariants.{GroupFull, NoCommand, NoGroup, Worn}
 use Rattle.bh_base.specs.declared.step.Step.{Step}
-use Rattle.bh_base.specs.Commands.{is_known}
+use Rattle.bh_base.specs.Commands.{command_count, is_known}
 use Rattle.bh_base.specs.Replies.{can_reply}
 use Rattle.bh_base.specs.Runs.{State, View, moved_on}
 use Rattle.bh_base.specs.Runs.{step as machine_step}
@@ -25,6 +25,8 @@ pub record IsStep (old : CoreView) (step : Step) (told : Reply) (new : CoreView)
   -- so is a step of a registered group that lacks the command which the step names, whether the group is worn or not
   pub missing : (v : View) → slice_get old.views step.group.0 ≡ Some v → is_known step.op v.present.props ≡ false → told ≡ NoCommand
   pub has_command : (v : View) → slice_get old.views step.group.0 ≡ Some v → told ≡ NoCommand → is_known step.op v.present.props ≡ false
+  -- a registered group has its own command, so a step that names that one, or none, is never told so
+  pub own_command : (v : View) → slice_get old.views step.group.0 ≡ Some v → 0 < command_count v.present.props
   -- what a refusal leaves: all as it was, or of a full group the step's number and moment alone
   pub worn : told ≡ Worn → new ≡ old
   pub no_group : told ≡ NoGroup → new ≡ old

@@ -14,9 +14,9 @@ mod looks;
 mod runs;
 mod submit;
 
-use crate::history::History;
+use crate::command::Command;
 use bh_base::{End, EventKind, GroupProps, Metrics, Moment, Op, Reply, Serial};
-use bh_circuit::{Circuit, percent};
+use bh_circuit::percent;
 use bh_tickets::Tickets;
 use std::alloc::{AllocError, Global};
 use std::marker::Model;
@@ -29,8 +29,9 @@ pub struct Group {
     props: GroupProps,
     limit: u64,
     steps: u64,
-    circuit: Circuit,
-    history: History,
+    latest: Moment,
+    /// By their numbers.
+    commands: Vec<Command>,
 }
 
 impl Model for Group {
@@ -48,21 +49,24 @@ impl Group {
     pub fn new(
         alloc: Global,
         number: usize,
-        props: GroupProps,
+        props: &GroupProps,
         limit: u64,
     ) -> Result<Self, AllocError>
-        requires props { IsServed props }
+        requires props { IsServed props.now }
         requires limit { limit ≤ 2 ^ 40 }
-        ensures { IfOk result (λ group. group ≡ new_group number props limit) }
+        ensures { IfOk result (λ group. group ≡ new_group number props.now limit) }
     {
-        let history = History::new(alloc, &props.command)?;
+        let mut commands = Vec::with_capacity(alloc, props.commands.len())?;
+        for own in &props.commands {
+            commands.push_reserved(Command::new(alloc, own)?);
+        }
         Ok(Group {
             number,
-            props,
+            props: props.copied()?,
             limit,
             steps: 0,
-            circuit: Circuit::new(),
-            history,
+            latest: 0,
+            commands,
         })
     }
 
@@ -88,13 +92,35 @@ impl Group {
         reply
     }
 
+    /// How many commands the group has.
+    fn command_count(&self) -> u8
+        ensures number { result ≡ command_count self.now.props }
+        ensures each { length self.now.commands ≡ command_count self.now.props }
+    {
+        self.commands.len() as u8
+    }
+
+    /// How many tickets the group may have at a time.
+    fn slots(&self) -> u64
+        ensures { result ≡ self.now.props.slots }
+    {
+        self.props.slots
+    }
+
+    /// How many workers the group's thread pool has.
+    fn workers(&self) -> u64
+        ensures { result ≡ self.now.props.core }
+    {
+        self.props.core
+    }
+
     /// Whether the group has the command that the operation names, if it names one.
     fn is_known(&self, op: &Op) -> bool
         ensures { result ≡ is_known op.now self.now.props }
     {
         match op {
-            Op::Submit(request) => request.command == 0,
-            Op::Read { command } => *command == 0,
+            Op::Submit(request) => request.command < self.command_count(),
+            Op::Read { command } => *command < self.command_count(),
             _ => true,
         }
     }
@@ -107,7 +133,7 @@ impl Group {
         ensures left { (ts : TicketsView) → Leaves ts self.old ts self.new }
     {
         self.steps += 1;
-        self.history.advance(now);
+        self.latest = self.latest.max(now);
     }
 
     /// The case of the operation, in a step that has begun.
@@ -146,36 +172,43 @@ impl Group {
         requires known { command < command_count self.now.props }
         ensures { IsDone (view_in tickets.now self.now) (op.Read command) result (view_in tickets.now self.now) }
     {
-        let rolling = self.history.rolling();
+        let own = &self.commands[command as usize];
+        let rolling = own.history.rolling(self.latest);
         Reply::Metrics(Metrics {
-            circuit: self.circuit.state(),
+            circuit: own.circuit.state(),
             counts: rolling.counts,
             errors: rolling.health.errors,
             total: rolling.health.total,
             percent: percent(rolling.health),
             busy: tickets.busy_count(self.number, command),
             queued: tickets.queued_count(self.number, command),
-            free: self.props.slots - tickets.len(self.number),
+            free: self.slots() - tickets.len(self.number),
         })
     }
 
-    /// Adds an event at the step's moment.
-    fn record(&mut self, kind: EventKind)
-        requires { counted_of self.old < 2 ^ 60 }
-        ensures view { (ts : TicketsView) → view_in ts self.new ≡ with_event kind (view_in ts self.old) }
+    /// Adds an event of the command at the step's moment.
+    fn record(&mut self, command: u8, kind: EventKind)
+        requires known { command < command_count self.old.props }
+        requires few { counted_of self.old < 2 ^ 60 }
+        ensures view { (ts : TicketsView) → view_in ts self.new ≡ with_event command kind (view_in ts self.old) }
         ensures counted { counted_of self.new ≤ counted_of self.old + 2 }
         ensures left { (ts : TicketsView) → Leaves ts self.old ts self.new }
     {
-        self.history.record(kind);
+        self.commands[command as usize]
+            .history
+            .record(self.latest, kind);
     }
 
-    /// Tells the circuit breaker how the ticket ended; where that closes it, health starts anew.
-    fn tell_circuit(&mut self, serial: Serial, end: End)
-        ensures view { (ts : TicketsView) → view_in ts self.new ≡ view_ended serial end (view_in ts self.old) }
+    /// Tells the command's circuit breaker how its ticket ended; where that closes it, the command's health starts anew.
+    fn tell_circuit(&mut self, command: u8, serial: Serial, end: End)
+        requires { command < command_count self.old.props }
+        ensures view { (ts : TicketsView) → view_in ts self.new ≡ view_ended command serial end (view_in ts self.old) }
         ensures left { (ts : TicketsView) → Leaves ts self.old ts self.new }
     {
-        if self.circuit.ended(serial, end, self.history.latest()) {
-            self.history.restart_health();
+        let now = self.latest;
+        let own = &mut self.commands[command as usize];
+        if own.circuit.ended(serial, end, now) {
+            own.history.restart_health();
             return;
         }
     }

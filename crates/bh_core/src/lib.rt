@@ -1,6 +1,7 @@
 //! All groups of the service: each step changes its own group alone.
 #![tactic(auto)]
 
+mod command;
 mod group;
 mod history;
 pub mod laws;

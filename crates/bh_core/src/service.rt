@@ -62,13 +62,17 @@ impl Core {
     ///
     /// It is refused with `TooManySlots` where the slots of all groups would be more than the core may have, and
     /// else with `Memory` where a growth was refused; nothing has changed then.
-    pub fn register(&mut self, props: GroupProps, step_limit: u64) -> Result<GroupId, RegisterError>
-        requires props { IsInRange props }
+    pub fn register(
+        &mut self,
+        props: &GroupProps,
+        step_limit: u64,
+    ) -> Result<GroupId, RegisterError>
+        requires props { IsInRange props.now }
         requires some_steps { 1 ≤ step_limit }
         requires few_steps { step_limit ≤ 2 ^ 40 }
         ensures number { IfOk result (λ id. id.0 ≡ length self.old.views) }
-        ensures added { OnOk result (self.new ≡ record self.old { views = self.old.views ++ view (opened props step_limit) ∷ [] }) }
-        ensures room { (result ≡ Err RegisterError.TooManySlots) ↔ (self.old.slot_limit < slots_in self.old.views + props.slots) }
+        ensures added { OnOk result (self.new ≡ record self.old { views = self.old.views ++ view (opened props.now step_limit) ∷ [] }) }
+        ensures room { (result ≡ Err RegisterError.TooManySlots) ↔ (self.old.slot_limit < slots_in self.old.views + props.now.slots) }
         ensures err { OnErr result (self.new ≡ self.old) }
     {
         if !self.tickets.has_slots_for(props.slots) {
@@ -82,11 +86,11 @@ impl Core {
     }
 
     /// A group more, where its slots are within the limit. Its slots come last, when nothing more can be refused.
-    fn add_group(&mut self, props: GroupProps, step_limit: u64) -> Result<(), AllocError>
-        requires props { IsInRange props }
+    fn add_group(&mut self, props: &GroupProps, step_limit: u64) -> Result<(), AllocError>
+        requires props { IsInRange props.now }
         requires few_steps { step_limit ≤ 2 ^ 40 }
-        requires within { slots_in self.old.views + props.slots ≤ self.old.slot_limit }
-        ensures added { OnOk result (self.new ≡ record self.old { views = self.old.views ++ view (opened props step_limit) ∷ [] }) }
+        requires within { slots_in self.old.views + props.now.slots ≤ self.old.slot_limit }
+        ensures added { OnOk result (self.new ≡ record self.old { views = self.old.views ++ view (opened props.now step_limit) ∷ [] }) }
         ensures err { OnErr result (self.new ≡ self.old) }
     {
         let group = Group::new(self.alloc, self.groups.len(), props, step_limit)?;

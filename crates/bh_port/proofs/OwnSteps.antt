@@ -2,10 +2,11 @@
 use Rattle.std.proofs.Common.{◌≡◌, ◌≢◌, ℕ, ◌<◌, Bool, true, false, List, [], ◌∷◌, ◌++◌, length, Some, refl, sym, ◌∙◌, ap, subst, arith, rules, zero, suc}
 use Rattle.std.specs.Prelude.{◌==◌, slice_get, map}
 use Rattle.std.proofs.lemmas.Bool.Decides.{nat_tests}
-use Rattle.bh_base.specs.declared.props.GroupProps.{GroupProps}
+use Rattle.bh_base.specs.Props.{GroupProps}
 use Rattle.bh_base.specs.declared.step.Step.{Step}
 use Rattle.bh_base.specs.declared.reply.Reply.{Reply}
-use Rattle.bh_base.specs.Runs.{State, View, IsSound, view, opened, step, state_after, own}
+use Rattle.bh_base.specs.Runs.{State, View, view, opened, step, state_after, own}
+use Rattle.bh_base.proofs.Views.{stays_sound}
 use Rattle.bh_base.proofs.OneMore.{state_after-push, own-push_same, own-push_other}
 use Rattle.bh_core.specs.CoreView.{CoreView, Shows}
 use Rattle.bh_core.specs.Step.{IsStep}
@@ -93,10 +94,7 @@ pub agrees-opened : (service : SettingsView) (core : CoreView) → core.views �
 agrees-opened service core is = record {
   shows = λ group g there.
       subst (Shows core group) (sym (group_after-none service g.1 group)) (record {
-        sound = opened-sound service g.1;
+        sound = stays_sound.opened g.1 (step_limit service.audit_steps);
         view_is = ap (λ vs. slice_get vs group) is ∙ slice_get-map (opened_view service) service.groups group g there;
       });
 }
-  where
-    opened-sound : (s : SettingsView) (props : GroupProps) → IsSound (opened_group s props)
-    opened-sound s props = search rules

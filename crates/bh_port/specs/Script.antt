@@ -1,7 +1,7 @@
 -- What the parts of a script do to the bytes that have come, to the groups, and to what is written.
 use Rattle.std.specs.Prelude.{◌≡◌, ℕ, true, false, List, [], ◌++◌, slice_get, Option, Some, None, Result, Ok, Err}
 use Rattle.std.specs.Io.KnownBytes.{Appends}
-use Rattle.bh_base.specs.declared.props.GroupProps.{GroupProps}
+use Rattle.bh_base.specs.Props.{GroupProps}
 use Rattle.bh_base.specs.declared.step.Step.{Step}
 use Rattle.bh_core.specs.CoreView.{CoreView, Shows}
 use Rattle.bh_props.specs.SettingsView.{SettingsView}

@@ -87,7 +87,7 @@ pub fn open(alloc: Global, settings: &Settings) -> Result<Core, PortError>
     let mut core = Core::new(alloc, u32::MAX);
     for (_name, props) in settings.groups.iter() {
         // So few groups have far fewer slots than may be, so this can only be want of memory.
-        let Ok(_group) = core.register(*props, limit) else {
+        let Ok(_group) = core.register(props, limit) else {
             return Err(PortError::Memory);
         };
     }

@@ -156,7 +156,9 @@ group-in_range name d h =
       small_core = core.1;
       queue = accepted-at 19 name d h (lit< tt) tt;
       queue_threshold = below _ queue_threshold.1;
-      command = command-in_range name d h;
+      some_commands = lit≤ tt;
+      few_commands = lit≤ tt;
+      commands = (command-in_range name d h, tt);
     }
 
 values-passed : (fault : Fault) (d : Data) (names : List (List ℕ)) (i : ℕ) (e : List ℕ) → checked_values fault d names ≡ Ok tt → i < length names → find (is_at_fault fault (get_or names i e) d) all ≡ None

@@ -1,12 +1,12 @@
 -- The settings of a text: what each group's properties are, or the first refusal.
-use Rattle.std.specs.Prelude.{ℕ, ◌≤◌, List, [], map, Bool, false, Option, Some, None, Result, Ok, Err}
+use Rattle.std.specs.Prelude.{ℕ, ◌≤◌, List, [], ◌∷◌, map, Bool, false, Option, Some, None, Result, Ok, Err}
 use Rattle.std.specs.Result.{result_and}
 use Rattle.toml.specs.Data.{Data, table, Members}
 use Rattle.toml.specs.Parse.{parse_document}
 use Rattle.bh_base.specs.declared.props.Strategy.{Strategy}
 use Rattle.bh_base.specs.declared.props.Strategy.TheVariants as strategies
 use Rattle.bh_base.specs.declared.props.CommandProps.{CommandProps}
-use Rattle.bh_base.specs.declared.props.GroupProps.{GroupProps}
+use Rattle.bh_base.specs.Props.{GroupProps}
 use Rattle.bh_props.specs.declared.property.Property.{Property}
 use Rattle.bh_props.specs.declared.property.Property.TheVariants as properties
 use Rattle.bh_props.specs.declared.value.PropertyValue.{PropertyValue}
@@ -64,10 +64,10 @@ command_of value = record {
 abbrev pub props_of : (Property → Result PropertyValue Fault) → GroupProps
 props_of value = record {
   slots = number (value properties.Slots);
-  command = command_of value;
   core = number (value properties.CoreSize);
   max_queue = optional_number (value properties.MaxQueue);
   queue_threshold = number (value properties.QueueThreshold);
+  commands = command_of value ∷ [];
 }
 
 -- a group and its properties in force

@@ -42,7 +42,7 @@ pub(crate) fn groups_in_force(
 {
     let mut groups = IndexMap::new(alloc);
     for name in names {
-        groups.insert(*name, props_in_force(root, name.as_str()))?;
+        groups.insert(*name, props_in_force(alloc, root, name.as_str())?)?;
     }
     Ok(groups)
 }
@@ -55,19 +55,20 @@ pub(crate) fn audit_steps_in_force(root: &Value) -> Option<u64>
 }
 
 /// The properties of a group, each by the value in force.
-fn props_in_force(root: &Value, group: &str) -> GroupProps
-    ensures { result ≡ props_of (λ p. in_force p group.now (view root.now)) }
+fn props_in_force(alloc: Global, root: &Value, group: &str) -> Result<GroupProps, AllocError>
+    ensures { IfOk result (λ props. props ≡ props_of (λ p. in_force p group.now (view root.now))) }
 {
-    GroupProps {
+    let own = command_in_force(root, group);
+    Ok(GroupProps {
         slots: number_in_force(root, Property::Slots, group),
-        command: command_in_force(root, group),
         core: number_in_force(root, Property::CoreSize, group),
         max_queue: optional_number_in_force(root, Property::MaxQueue, group),
         queue_threshold: number_in_force(root, Property::QueueThreshold, group),
-    }
+        commands: vec![in alloc; own]?,
+    })
 }
 
-/// The properties of the group's command, each by the value in force.
+/// The properties of a command, each by the value in force.
 fn command_in_force(root: &Value, group: &str) -> CommandProps
     ensures { result ≡ command_of (λ p. in_force p group.now (view root.now)) }
 {

@@ -1,10 +1,11 @@
 //! Settings, and the groups of a core.
 
 use crate::refusing::{MANY, assert_told, give_up, refuse};
-use crate::worked::{assert_new, props, replies, steps, two_groups};
-use bh_base::GroupId;
-use bh_core::RegisterError;
+use crate::worked::{assert_new, props_of_two, replies, steps, two_groups};
+use bh_base::{CommandProps, GroupId};
+use bh_core::{Core, RegisterError};
 use bh_props::{SettingsError, read};
+use std::process::Abort;
 
 /// Each section and each kind of value comes in it.
 const EXAMPLE: &str = "service.groups = [\"orders\", \"mail\"]
@@ -34,21 +35,34 @@ fn settings_are_read_or_not(rt: HostRuntime) {
     give_up(&rt);
 }
 
+/// Asserts that the third group was registered, and has the commands.
+fn assert_third<R: Abort>(
+    rt: &R,
+    core: &Core,
+    told: Result<GroupId, RegisterError>,
+    commands: &[CommandProps],
+) {
+    assert_eq!(rt; told, Ok(GroupId(2)));
+    let (shown, _) = core.props(GroupId(2)).expect(rt, "a third group");
+    assert!(rt; shown.commands.as_slice() == commands);
+}
+
 /// The core has room for just the slots of three groups, so that slots counted for a refused one would be missed.
 #[test]
-fn a_group_is_registered_or_not(rt: HostRuntime) {
+fn a_group_of_two_commands_is_registered_or_not(rt: HostRuntime) {
+    let third = props_of_two(&rt);
     for nth in 1..MANY {
         let mut core = two_groups(&rt, 100);
         refuse(rt.alloc(), nth);
-        let told = core.register(props(), 100);
+        let told = core.register(&third, 100);
         assert_told(&rt, nth, told.is_ok());
         if told.is_ok() {
-            assert_eq!(rt; told, Ok(GroupId(2)));
-            return;
+            return assert_third(&rt, &core, told, third.commands.as_slice());
         }
         assert_eq!(rt; told, Err(RegisterError::Memory));
         assert_new(&rt, &mut core);
-        assert_eq!(rt; core.register(props(), 100), Ok(GroupId(2)));
+        let again = core.register(&third, 100);
+        assert_third(&rt, &core, again, third.commands.as_slice());
     }
     give_up(&rt);
 }

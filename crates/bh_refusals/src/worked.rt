@@ -1,6 +1,7 @@
 //! A worked run of two groups with a ticket each, which shows that groups are as they are to be.
 
 ghost use Rattle.std.specs.Prelude.{◌≡◌, ◌≤◌, ◌^◌, IfOk, OnOk, length};
+ghost use Rattle.std.specs.List.{AllByRecursion};
 ghost use Rattle.bh_base.specs.Ranges.{IsCommandInRange, IsInRange};
 ghost use Rattle.bh_audit.specs.Books.{AreNew};
 
@@ -39,27 +40,52 @@ fn command() -> CommandProps
     }
 }
 
-/// The settings that are built in, with a pool of one worker and four slots.
-pub(crate) fn props() -> GroupProps
+/// The settings of a group that are built in, with a pool of one worker and four slots, and those of its commands.
+fn props_of(commands: Vec<CommandProps>) -> GroupProps
+    requires some { 1 ≤ length commands.items }
+    requires few { length commands.items ≤ 16 }
+    requires commands { AllByRecursion IsCommandInRange commands.items }
     ensures { IsInRange result }
 {
     GroupProps {
         slots: 4,
-        command: command(),
         core: 1,
         max_queue: None,
         queue_threshold: 5,
+        commands,
     }
 }
 
+/// A group with its own command alone.
+fn props<R: Abort + AllocGlobal>(rt: &R) -> GroupProps
+    ensures { IsInRange result }
+{
+    props_of(vec![in rt.alloc(); command()].expect(rt, "memory"))
+}
+
+/// A group with a further command, which its callers run themselves.
+pub(crate) fn props_of_two<R: Abort + AllocGlobal>(rt: &R) -> GroupProps
+    ensures { IsInRange result }
+{
+    let by_callers = CommandProps {
+        strategy: Strategy::Semaphore,
+        ..command()
+    };
+    props_of(vec![in rt.alloc(); command(), by_callers].expect(rt, "memory"))
+}
+
 /// Adds a group that did no step.
-fn add(core: &mut Core, steps: u64) -> Result<GroupId, RegisterError>
+fn add<R: Abort + AllocGlobal>(
+    rt: &R,
+    core: &mut Core,
+    steps: u64,
+) -> Result<GroupId, RegisterError>
     requires some { 1 ≤ steps }
     requires few { steps ≤ 2 ^ 40 }
     requires new { AreNew steps core.old.views }
     ensures { OnOk result (AreNew steps core.new.views) }
 {
-    core.register(props(), steps)
+    core.register(&props(rt), steps)
 }
 
 /// A core of the two groups, each of which may do so many steps, with slots for a third.
@@ -69,8 +95,8 @@ pub(crate) fn two_groups<R: Abort + AllocGlobal>(rt: &R, steps: u64) -> Core
     ensures { AreNew steps result.views }
 {
     let mut core = Core::new(rt.alloc(), 12);
-    add(&mut core, steps).expect(rt, "memory");
-    add(&mut core, steps).expect(rt, "memory");
+    add(rt, &mut core, steps).expect(rt, "memory");
+    add(rt, &mut core, steps).expect(rt, "memory");
     core
 }
 

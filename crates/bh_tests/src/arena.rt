@@ -56,6 +56,18 @@ fn slots_move_to_the_ends_of_lists(rt: HostRuntime) {
 }
 
 #[test]
+fn a_list_goes_to_the_end_of_another(rt: HostRuntime) {
+    let mut arena = Arena::<u8, 1>::new(rt.alloc(), 4);
+    arena.add_lists(0, 2).expect(&rt, "memory");
+    arena.add_slots(3, [0], 9).expect(&rt, "memory");
+    arena.move_to_back(0, 1, 1);
+    arena.move_to_back(0, 0, 1);
+    arena.append(0, 1, 0);
+    assert_numbers(&rt, &slots_on(&rt, &arena, 0, 0, 3), &[2, 1, 0]);
+    assert_numbers(&rt, &slots_on(&rt, &arena, 0, 1, 3), &[]);
+}
+
+#[test]
 fn each_slot_has_its_own_payload(rt: HostRuntime) {
     let mut arena = Arena::<u8, 1>::new(rt.alloc(), 4);
     arena.add_lists(0, 1).expect(&rt, "memory");

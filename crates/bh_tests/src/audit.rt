@@ -4,7 +4,9 @@
 ghost use Rattle.std.specs.Prelude.{◌≤◌, ◌^◌};
 
 use crate::samples::{by_callers, own_request, props, step, text};
-use crate::script::{assert_text, number, reply_text, split_line, split_word, step_of};
+use crate::script::{
+    assert_text, assigned_text, number, reply_text, split_line, split_word, step_of,
+};
 use crate::services::{A, B, assert_end, service, share, three_groups, two_groups};
 use bh_audit::{Book, Clock, Next, Pass, PassError, Shared, StepError};
 use bh_base::{GroupId, Op, Reply, Text};
@@ -34,10 +36,13 @@ fn told_text(alloc: Global, told: &Result<Reply, StepError>) -> Result<String, A
 
 fn next_text(alloc: Global, told: &Result<Next, StepError>) -> Result<String, AllocError> {
     match told {
-        Ok(Next::Assigned { serial, arg, .. }) => format!(in alloc;
-            "Assigned({serial} {})",
-            arg.as_str()
-        ),
+        Ok(
+            Next::Assigned {
+                serial,
+                command,
+                arg,
+            },
+        ) => assigned_text(alloc, *serial, *command, arg),
         Ok(other) => format!(in alloc; "{other:?}"),
         Err(error) => format!(in alloc; "{error:?}"),
     }
@@ -164,7 +169,7 @@ fn audited<R: Abort + AllocGlobal>(rt: &R, steps: u64) -> Shared
     requires some { 1 ≤ steps }
     requires few { steps ≤ 2 ^ 40 }
 {
-    service(rt, props(), props(), steps)
+    service(rt, props(rt), props(rt), steps)
 }
 
 /// A service of two groups without an audit.
@@ -172,15 +177,15 @@ fn unaudited<R: Abort + AllocGlobal>(rt: &R, steps: u64) -> Shared
     requires some { 1 ≤ steps }
     requires few { steps ≤ 2 ^ 40 }
 {
-    let core = two_groups(rt.alloc(), props(), props(), steps).expect(rt, "memory");
+    let core = two_groups(rt.alloc(), props(rt), props(rt), steps).expect(rt, "memory");
     share(rt, core, None)
 }
 
 /// A book of two groups that may do two steps each.
-fn book(alloc: Global, audited: bool) -> Option<Book> {
-    let core = two_groups(alloc, props(), props(), 2).ok()?;
+fn book<R: Abort + AllocGlobal>(rt: &R, audited: bool) -> Book {
+    let core = two_groups(rt.alloc(), props(rt), props(rt), 2).expect(rt, "memory");
     let audit = if audited { Some(2) } else { None };
-    Book::new(alloc, core, audit).ok()
+    Book::new(rt.alloc(), core, audit).ok().expect(rt, "memory")
 }
 
 /// Starts in the group, and tells the place of the step and the reply.
@@ -215,7 +220,7 @@ fn first_length(book: Book) -> Option<u64> {
 }
 
 fn assert_book<R: Abort + AllocGlobal>(rt: &R, audited: bool, journal: Option<u64>) {
-    let mut book = book(rt.alloc(), audited).expect(rt, "memory");
+    let mut book = book(rt, audited);
     assert_places(rt, &mut book, PLACES);
     assert!(rt; first_length(book) == journal);
 }
@@ -296,7 +301,7 @@ fn workers_text<R: Wait>(rt: &R, alloc: Global, shared: &Shared) -> Result<Strin
 
 #[test]
 fn groups_and_their_workers(rt: HostRuntime) {
-    let shared = service(&rt, props(), by_callers(), 10);
+    let shared = service(&rt, props(&rt), by_callers(&rt), 10);
     assert!(rt; shared.audited());
     let text = workers_text(&rt, rt.alloc(), &shared);
     assert_text(&rt, text, "2 groups: 10 0 0", "the workers");

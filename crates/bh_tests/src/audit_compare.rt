@@ -1,6 +1,6 @@
 //! Passes that agree with a report, and the first difference of those that do not.
 
-use crate::samples;
+use crate::samples::{props, step};
 use crate::script::{assert_number, assert_text, number, split_line, split_word};
 use bh_base::{GroupId, Op, Reply, Step};
 use bh_journal::{AuditReport, Difference, Journal, Marks, PassRead, Receipt, first_difference};
@@ -33,18 +33,20 @@ impl PassRead for Written {
 
 /// A step of the group and its reply.
 fn entry(group: u64, now: u64) -> (Step, Reply) {
-    (samples::step(group, now, &Op::Start), Reply::Idle)
+    (step(group, now, &Op::Start), Reply::Idle)
 }
 
 /// Two groups that may do 2 and 3 steps, and did 2 each.
-fn report(alloc: Global, stopped: bool) -> Result<AuditReport, AllocError> {
-    let a = vec![in alloc; entry(0, 10), entry(0, 20)]?;
-    let b = vec![in alloc; entry(1, 30), entry(1, 40)]?;
-    Ok(AuditReport {
-        groups: vec![in alloc; (samples::props(), 2), (samples::props(), 3)]?,
-        journals: vec![in alloc; a, b]?,
+fn report<R: Abort + AllocGlobal>(rt: &R, stopped: bool) -> AuditReport {
+    let alloc = rt.alloc();
+    let a = vec![in alloc; entry(0, 10), entry(0, 20)].expect(rt, "memory");
+    let b = vec![in alloc; entry(1, 30), entry(1, 40)].expect(rt, "memory");
+    let groups = vec![in alloc; (props(rt), 2), (props(rt), 3)];
+    AuditReport {
+        groups: groups.expect(rt, "memory"),
+        journals: vec![in alloc; a, b].expect(rt, "memory"),
         stopped,
-    })
+    }
 }
 
 fn receipt(group: u64, word: &str) -> Receipt {
@@ -88,10 +90,14 @@ fn found_text(alloc: Global, found: &Option<Difference>) -> Result<String, Alloc
 }
 
 /// Says how the passes differ from the report.
-fn difference(alloc: Global, passes: &[Written], stopped: bool) -> Result<String, AllocError> {
-    let report = report(alloc, stopped)?;
-    let found = first_difference(alloc, &report, passes)?;
-    found_text(alloc, &found)
+fn difference<R: Abort + AllocGlobal>(
+    rt: &R,
+    passes: &[Written],
+    stopped: bool,
+) -> Result<String, AllocError> {
+    let report = report(rt, stopped);
+    let found = first_difference(rt.alloc(), &report, passes)?;
+    found_text(rt.alloc(), &found)
 }
 
 /// Passes of these groups and receipts, one for each text between commas.
@@ -109,7 +115,7 @@ fn assert_differences(rt: &(impl Abort + AllocGlobal), script: &str) {
     for line in script.lines() {
         let (words, want) = split_line(line);
         let passes = passes(rt.alloc(), words).expect(rt, "memory");
-        let told = difference(rt.alloc(), passes.as_slice(), false);
+        let told = difference(rt, passes.as_slice(), false);
         assert_text(rt, told, want, line);
     }
 }
@@ -152,12 +158,17 @@ fn marks(name: &str) -> Marks {
 }
 
 /// Compares passes of all entries, and a pass of the group that has the mark.
-fn marked(alloc: Global, group: u64, name: &str, stopped: bool) -> Result<String, AllocError> {
-    let mut passes = passes(alloc, "0 1:10 2:20, 1 1:30 2:40")?;
-    let mut last = pass(alloc, group, "")?;
+fn marked<R: Abort + AllocGlobal>(
+    rt: &R,
+    group: u64,
+    name: &str,
+    stopped: bool,
+) -> Result<String, AllocError> {
+    let mut passes = passes(rt.alloc(), "0 1:10 2:20, 1 1:30 2:40")?;
+    let mut last = pass(rt.alloc(), group, "")?;
     last.marks = marks(name);
     passes.push(last)?;
-    difference(alloc, passes.as_slice(), stopped)
+    difference(rt, passes.as_slice(), stopped)
 }
 
 // The group of the pass that has the mark, the mark, and whether the service goes on or was stopped.
@@ -176,7 +187,7 @@ fn marks_are_held_to_the_report(rt: HostRuntime) {
         let (words, want) = split_line(line);
         let (group, rest) = split_word(words);
         let (name, end) = split_word(rest);
-        let told = marked(rt.alloc(), number(group), name, end == "stopped");
+        let told = marked(&rt, number(group), name, end == "stopped");
         assert_text(&rt, told, want, line);
     }
 }

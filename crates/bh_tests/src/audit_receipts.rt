@@ -11,7 +11,7 @@ use std::sync::Wait;
 /// An audited service of one group.
 fn one_group<R: Abort + AllocGlobal>(rt: &R) -> Shared {
     let mut core = Core::new(rt.alloc(), 100);
-    add(&mut core, props(), 10).expect(rt, "memory");
+    add(&mut core, &props(rt), 10).expect(rt, "memory");
     share(rt, core, Some(10))
 }
 

@@ -25,8 +25,8 @@ fn assert_told<R: Abort>(rt: &R, core: &mut Core, group: u64, op: &Op, want: Rep
 /// as the first ticket.
 fn two_groups<R: Abort + AllocGlobal>(rt: &R) -> Core {
     let mut core = Core::new(rt.alloc(), 128);
-    core.register(props(), 1024).expect(rt, "memory");
-    core.register(props(), 1024).expect(rt, "memory");
+    core.register(&props(rt), 1024).expect(rt, "memory");
+    core.register(&props(rt), 1024).expect(rt, "memory");
     assert_told(rt, &mut core, 0, &request(7, "k"), Reply::Queued(1));
     assert_told(rt, &mut core, 0, &request(8, "k"), Reply::Queued(2));
     assert_told(rt, &mut core, 0, &request(7, "j"), Reply::Queued(3));

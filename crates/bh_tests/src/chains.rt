@@ -20,7 +20,7 @@ struct Name {
 }
 
 /// A group whose tickets never run, and have no fallback: each collect of a ticket that is held is answered.
-fn never_running() -> GroupProps
+fn never_running<R: Abort + AllocGlobal>(rt: &R) -> GroupProps
     ensures { IsInRange result }
 {
     let command = CommandProps {
@@ -30,7 +30,7 @@ fn never_running() -> GroupProps
     };
     GroupProps {
         slots: 4096,
-        ..props_with(command)
+        ..props_with(rt, command)
     }
 }
 
@@ -125,7 +125,8 @@ fn close_all(core: &mut Core, contexts: u64) -> u64 {
 fn assert_chains<R: Abort + AllocGlobal>(rt: &R, contexts: u64, keys: u64) {
     let names = names(rt, contexts, keys);
     let mut core = Core::new(rt.alloc(), 4096);
-    core.register(never_running(), 1 << 40).expect(rt, "memory");
+    core.register(&never_running(rt), 1 << 40)
+        .expect(rt, "memory");
     assert_made(rt, &mut core, names.as_slice(), 1);
     assert_collected(rt, &mut core);
     // Nobody holds a ticket now, but each is cached.

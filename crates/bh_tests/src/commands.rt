@@ -63,7 +63,7 @@ const NO_RECEIPT: &str = "0 0 0 submit-of 1 y = NoCommand
 
 #[test]
 fn a_step_of_an_unknown_command_is_in_no_journal(rt: HostRuntime) {
-    let shared = service(&rt, props(), props(), 10);
+    let shared = service(&rt, props(&rt), props(&rt), 10);
     let mut passes = take_passes(&rt, &shared, &[(A, 5)]);
     play_shared(&rt, &shared, &mut passes, NO_RECEIPT);
     assert_end(&rt, shared, passes, "1 of 10, 0 of 10, running");
@@ -82,7 +82,7 @@ fn assert_no_command<R: Wait + Abort>(rt: &R, shared: &Shared, pass: &mut Pass) 
 
 #[test]
 fn a_call_of_an_unknown_command_is_told_so(rt: HostRuntime) {
-    let shared = service(&rt, props(), by_callers(), 10);
+    let shared = service(&rt, props(&rt), by_callers(&rt), 10);
     let mut passes = take_passes(&rt, &shared, &[(A, 5), (B, 5)]);
     for pass in passes.iter_mut() {
         assert_no_command(&rt, &shared, pass);

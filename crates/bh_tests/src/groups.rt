@@ -3,16 +3,16 @@
 ghost use Rattle.std.specs.Prelude.{◌≤◌, ◌^◌, length};
 ghost use Rattle.bh_base.specs.Ranges.{IsInRange};
 
-use crate::samples::{props, step, submit, text};
+use crate::samples::{are_built_in, command, props, step, submit, text};
 use crate::script::{assert_number, play};
-use bh_base::{GroupId, GroupProps, Op, Reply, Step};
+use bh_base::{CommandProps, GroupId, GroupProps, Op, Reply, Step};
 use bh_core::{Core, RegisterError};
 use std::process::Abort;
 
 /// Registers so many groups with the settings that are built in.
-fn register(rt: &impl Abort, core: &mut Core, count: u64) {
+fn register(rt: &(impl Abort + AllocGlobal), core: &mut Core, count: u64) {
     for _ in 0..count {
-        core.register(props(), 1024).expect(rt, "memory");
+        core.register(&props(rt), 1024).expect(rt, "memory");
     }
 }
 
@@ -76,9 +76,9 @@ fn unregistered_group_is_no_group(rt: HostRuntime) {
 #[test]
 fn second_group_has_no_slots(rt: HostRuntime) {
     let mut core = Core::new(rt.alloc(), 100);
-    let first = core.register(props(), 1024);
+    let first = core.register(&props(&rt), 1024);
     assert!(rt; first == Ok(GroupId(0)));
-    let second = core.register(props(), 1024);
+    let second = core.register(&props(&rt), 1024);
     assert!(rt; second == Err(RegisterError::TooManySlots));
     play(&rt, &mut core, "0 0 start = Idle");
 }
@@ -89,7 +89,7 @@ pub(crate) fn core_of_one(rt: &(impl Abort + AllocGlobal), steps: u64) -> Core
     requires few { steps ≤ 2 ^ 40 }
 {
     let mut core = Core::new(rt.alloc(), 64);
-    core.register(props(), steps).expect(rt, "memory");
+    core.register(&props(rt), steps).expect(rt, "memory");
     core
 }
 
@@ -121,16 +121,22 @@ pending 0 1 = 0
 worn 0 = 0
 ";
 
-/// The settings and the step limit of the first group.
-fn shown_in(core: &Core) -> Option<(GroupProps, u64)> {
-    let (shown, limit) = core.props(GroupId(0))?;
-    Some((*shown, limit))
+/// Asserts that the first group has the settings that are built in, with these commands, and the step limit.
+pub(crate) fn assert_shown<R: Abort>(
+    rt: &R,
+    core: &Core,
+    commands: &[CommandProps],
+    step_limit: u64,
+) {
+    let (shown, limit) = core.props(GroupId(0)).expect(rt, "a group");
+    assert!(rt; are_built_in(shown, commands));
+    assert_number(rt, limit, step_limit);
 }
 
 #[test]
 fn looks_say_what_a_step_is_answered(rt: HostRuntime) {
     let mut core = core_of_one(&rt, 5);
-    assert!(rt; shown_in(&core) == Some((props(), 5)));
+    assert_shown(&rt, &core, &[command()], 5);
     play(&rt, &mut core, LOOKS);
     core.apply(step(0, 1000, &Op::Read { command: 0 }));
     play(&rt, &mut core, "worn 0 = 1");
@@ -152,7 +158,7 @@ fn looks_at_an_unregistered_group(rt: HostRuntime) {
 }
 
 /// A group with as many slots as there may be, all of which may wait for the one worker.
-fn crowded() -> GroupProps
+fn crowded<R: Abort + AllocGlobal>(rt: &R) -> GroupProps
     ensures { IsInRange result }
 {
     GroupProps {
@@ -160,7 +166,7 @@ fn crowded() -> GroupProps
         core: 1,
         max_queue: Some(5000),
         queue_threshold: 5000,
-        ..props()
+        ..props(rt)
     }
 }
 
@@ -175,7 +181,7 @@ fn fill(rt: &impl Abort, core: &mut Core) {
 #[test]
 fn thousands_of_tickets_time_out_in_one_step(rt: HostRuntime) {
     let mut core = Core::new(rt.alloc(), 4096);
-    core.register(crowded(), 1 << 40).expect(&rt, "memory");
+    core.register(&crowded(&rt), 1 << 40).expect(&rt, "memory");
     fill(&rt, &mut core);
     play(
         &rt,

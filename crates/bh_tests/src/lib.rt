@@ -43,6 +43,8 @@ mod services;
 #[cfg(test)]
 mod settings;
 #[cfg(test)]
+mod several_commands;
+#[cfg(test)]
 mod threads;
 #[cfg(test)]
 mod threads_gates;

@@ -1,9 +1,10 @@
-//! Random steps of three groups: each is told what a core tells it in which it stands alone.
+//! Random steps of three groups, two of which have two commands: each is told what a core tells it in which it stands
+//! alone.
 
 ghost use Rattle.std.specs.Prelude.{◌<◌, ◌≤◌};
 ghost use Rattle.bh_base.specs.Ranges.{IsCommandInRange, IsInRange};
 
-use crate::samples::{command, own_request, props_with, step, text};
+use crate::samples::{command, props_with, props_with_two, step, text};
 use bh_base::{
     CommandProps, FallbackEnd, GroupProps, Moment, Op, Reply, Request, Serial, Strategy,
 };
@@ -30,11 +31,26 @@ fn tight() -> CommandProps
     }
 }
 
-/// A group of so many slots and the command, with limits as small.
-fn group(slots: u64, command: CommandProps) -> GroupProps
+/// A command whose callers run their requests themselves, with other limits, as small.
+fn tight_by_callers() -> CommandProps
+    ensures { IsCommandInRange result }
+{
+    CommandProps {
+        strategy: Strategy::Semaphore,
+        timeout_ms: 9,
+        fallback_permits: 2,
+        volume: 4,
+        window_ms: 30,
+        buckets: 3,
+        ..tight()
+    }
+}
+
+/// The group with so many slots, and limits as small.
+fn tightened(props: GroupProps, slots: u64) -> GroupProps
+    requires props { IsInRange props }
     requires some { 1 ≤ slots }
     requires few { slots ≤ 4096 }
-    requires command { IsCommandInRange command }
     ensures { IsInRange result }
 {
     GroupProps {
@@ -42,33 +58,29 @@ fn group(slots: u64, command: CommandProps) -> GroupProps
         core: 2,
         max_queue: Some(2),
         queue_threshold: 1,
-        ..props_with(command)
+        ..props
     }
 }
 
-/// A group of forty slots.
-fn forty_slots() -> GroupProps
+/// A group of one slot, with its own command alone.
+fn one_slot<R: Abort + AllocGlobal>(rt: &R) -> GroupProps
     ensures { IsInRange result }
 {
-    group(40, tight())
+    tightened(props_with(rt, tight()), 1)
 }
 
-/// A group of one slot.
-fn one_slot() -> GroupProps
+/// A group of three slots, whose own command is run under permits, and a further one by workers.
+fn three_slots<R: Abort + AllocGlobal>(rt: &R) -> GroupProps
     ensures { IsInRange result }
 {
-    group(1, tight())
+    tightened(props_with_two(rt, tight_by_callers(), tight()), 3)
 }
 
-/// A group of three slots, which runs its tickets under permits.
-fn three_slots() -> GroupProps
+/// A group of forty slots, whose own command is run by workers, and a further one under permits.
+fn forty_slots<R: Abort + AllocGlobal>(rt: &R) -> GroupProps
     ensures { IsInRange result }
 {
-    let command = CommandProps {
-        strategy: Strategy::Semaphore,
-        ..tight()
-    };
-    group(3, command)
+    tightened(props_with_two(rt, tight(), tight_by_callers()), 40)
 }
 
 /// A number below the limit.
@@ -87,6 +99,15 @@ fn context(rng: &mut Xoshiro256PlusPlus) -> u64 {
     }
 }
 
+/// The number of a command: often the group's own, else that of a second, now and then one that each group lacks.
+fn command_number(rng: &mut Xoshiro256PlusPlus) -> u8 {
+    match below(rng, 16) {
+        0 => 2,
+        1..=5 => 1,
+        _ => 0,
+    }
+}
+
 /// A request, cached in a context under one key or, now and then, another, or not at all.
 fn request(rng: &mut Xoshiro256PlusPlus) -> Request {
     let cache = match below(rng, 16) {
@@ -94,7 +115,11 @@ fn request(rng: &mut Xoshiro256PlusPlus) -> Request {
         1..=7 => Some((context(rng), text("key"))),
         _ => None,
     };
-    own_request(cache, text("arg"))
+    Request {
+        command: command_number(rng),
+        cache,
+        arg: text("arg"),
+    }
 }
 
 /// How a fallback ends, each way about as often.
@@ -115,10 +140,6 @@ fn held(told: &Reply) -> Option<Serial> {
         | Reply::Joined(serial) => Some(*serial),
         _ => None,
     }
-}
-
-fn is_answer(told: &Reply) -> bool {
-    matches!(told, Reply::Answered(_))
 }
 
 /// An operation, on the ticket where it is about one.
@@ -144,7 +165,9 @@ fn operation(rng: &mut Xoshiro256PlusPlus, serial: u64) -> Op {
             0 => Op::Close {
                 context: context(rng),
             },
-            _ => Op::Read { command: 0 },
+            _ => Op::Read {
+                command: command_number(rng),
+            },
         },
     }
 }
@@ -166,8 +189,8 @@ fn holder(rng: &mut Xoshiro256PlusPlus, holders: &[Serial]) -> (usize, Serial) {
     }
 }
 
-/// A random step of the group in the core of all groups, and of the same group where it stands alone. Whether it was
-/// told an answer.
+/// A random step of the group in the core of all groups, and of the same group where it stands alone. What both were
+/// told.
 fn step_both<R: Abort>(
     rt: &R,
     rng: &mut Xoshiro256PlusPlus,
@@ -175,7 +198,7 @@ fn step_both<R: Abort>(
     alone: &mut Alone,
     group: u64,
     now: u64,
-) -> bool {
+) -> Reply {
     let (place, serial) = holder(rng, &alone.holders);
     let op = operation(rng, serial);
     let told = all.apply(step(group, now, &op));
@@ -184,22 +207,23 @@ fn step_both<R: Abort>(
     if let Some(serial) = held(&told) {
         alone.holders.push(serial).expect(rt, "memory");
     }
-    if is_answer(&told) && place < alone.holders.len() {
+    if matches!(told, Reply::Answered(_)) && place < alone.holders.len() {
         alone.holders.swap_remove(place);
     }
-    is_answer(&told)
+    told
 }
 
-fn register<R: Abort>(rt: &R, core: &mut Core, props: GroupProps)
-    requires props { IsInRange props }
+fn register<R: Abort>(rt: &R, core: &mut Core, props: &GroupProps)
+    requires props { IsInRange props.now }
 {
     core.register(props, 1 << 40).expect(rt, "memory");
 }
 
-/// The group in a core of its own.
-fn stand_alone<R: Abort + AllocGlobal>(rt: &R, props: GroupProps) -> Alone
-    requires props { IsInRange props }
+/// Adds the group to the core of all groups. The same group in a core of its own.
+fn stand_alone<R: Abort + AllocGlobal>(rt: &R, all: &mut Core, props: &GroupProps) -> Alone
+    requires props { IsInRange props.now }
 {
+    register(rt, all, props);
     let mut core = Core::new(rt.alloc(), 100);
     register(rt, &mut core, props);
     Alone {
@@ -208,17 +232,12 @@ fn stand_alone<R: Abort + AllocGlobal>(rt: &R, props: GroupProps) -> Alone
     }
 }
 
-/// Each of the three groups in a core of its own.
-fn three_alone<R: Abort + AllocGlobal>(rt: &R) -> Vec<Alone> {
-    let mut three = Vec::new(rt.alloc());
-    three.push(stand_alone(rt, one_slot())).expect(rt, "memory");
-    three
-        .push(stand_alone(rt, three_slots()))
-        .expect(rt, "memory");
-    three
-        .push(stand_alone(rt, forty_slots()))
-        .expect(rt, "memory");
-    three
+/// Adds the three groups to the core. Each of them in a core of its own.
+fn three_alone<R: Abort + AllocGlobal>(rt: &R, all: &mut Core) -> Vec<Alone> {
+    let first = stand_alone(rt, all, &one_slot(rt));
+    let second = stand_alone(rt, all, &three_slots(rt));
+    let third = stand_alone(rt, all, &forty_slots(rt));
+    vec![in rt.alloc(); first, second, third].expect(rt, "memory")
 }
 
 /// The moment of a step: soon after the step before, or one of 0, far ahead and the last that there is.
@@ -233,27 +252,44 @@ fn moment(rng: &mut Xoshiro256PlusPlus, i: u64, steps: u64) -> Moment {
     }
 }
 
-/// So many random steps, and how many of them were told an answer.
-fn count_answers<R: Abort>(rt: &R, all: &mut Core, three: &mut Vec<Alone>, steps: u64) -> u64 {
+/// How many steps were told an answer, and how many that the group lacks the command.
+#[derive(Clone, Copy, Debug)]
+struct Told {
+    answers: u64,
+    unknown: u64,
+}
+
+impl Told {
+    /// One step more, which was told this.
+    fn count(&mut self, told: &Reply) {
+        match told {
+            Reply::Answered(_) => self.answers = self.answers.saturating_add(1),
+            Reply::NoCommand => self.unknown = self.unknown.saturating_add(1),
+            _ => {}
+        }
+    }
+}
+
+/// What so many random steps were told.
+fn make_steps<R: Abort>(rt: &R, all: &mut Core, three: &mut Vec<Alone>, steps: u64) -> Told {
     let mut rng = Xoshiro256PlusPlus::seed_from_u64(7);
-    let mut answers = 0_u64;
+    let mut told = Told {
+        answers: 0,
+        unknown: 0,
+    };
     for i in 0..steps {
         let group = below(&mut rng, 3);
         let now = moment(&mut rng, i, steps);
         let alone = three.get_mut(group as usize).expect(rt, "a group");
-        let is_answer = step_both(rt, &mut rng, all, alone, group, now);
-        answers = answers.saturating_add(u64::from(is_answer));
+        told.count(&step_both(rt, &mut rng, all, alone, group, now));
     }
-    answers
+    told
 }
 
 #[test]
 fn three_groups_are_told_what_each_is_told_alone(rt: HostRuntime) {
     let mut all = Core::new(rt.alloc(), 100);
-    register(&rt, &mut all, one_slot());
-    register(&rt, &mut all, three_slots());
-    register(&rt, &mut all, forty_slots());
-    let mut three = three_alone(&rt);
-    let answers = count_answers(&rt, &mut all, &mut three, 100_000);
-    assert!(rt; answers > 5000);
+    let mut three = three_alone(&rt, &mut all);
+    let told = make_steps(&rt, &mut all, &mut three, 150_000);
+    assert!(rt; told.answers > 5000 && told.unknown > 1000, "{told:?}");
 }

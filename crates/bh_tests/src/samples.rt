@@ -1,9 +1,11 @@
 //! What the tests share.
 
 ghost use Rattle.std.specs.Prelude.{◌≡◌, ◌≤◌, length};
+ghost use Rattle.std.specs.List.{AllByRecursion};
 ghost use Rattle.bh_base.specs.Ranges.{IsCommandInRange, IsInRange};
 
 use bh_base::{CommandProps, GroupId, GroupProps, Op, Request, Step, Strategy, Text};
+use std::process::Abort;
 
 /// The settings of a command that are built in.
 pub(crate) fn command() -> CommandProps
@@ -29,35 +31,76 @@ pub(crate) fn command() -> CommandProps
     }
 }
 
-/// The settings of a group that are built in, with those of its command.
-pub(crate) fn props_with(command: CommandProps) -> GroupProps
-    requires command { IsCommandInRange command }
+/// The same, save that callers run their requests themselves.
+pub(crate) fn command_by_callers() -> CommandProps
+    ensures { IsCommandInRange result }
+{
+    CommandProps {
+        strategy: Strategy::Semaphore,
+        ..command()
+    }
+}
+
+/// The settings of a group that are built in, with those of its commands.
+pub(crate) fn props_of(commands: Vec<CommandProps>) -> GroupProps
+    requires some { 1 ≤ length commands.items }
+    requires few { length commands.items ≤ 16 }
+    requires commands { AllByRecursion IsCommandInRange commands.items }
     ensures { IsInRange result }
 {
     GroupProps {
         slots: 64,
-        command,
         core: 10,
         max_queue: None,
         queue_threshold: 5,
+        commands,
     }
 }
 
-/// The settings that are built in.
-pub(crate) fn props() -> GroupProps
+/// The settings of a group that are built in, with those of its own command.
+pub(crate) fn props_with<R: Abort + AllocGlobal>(rt: &R, own: CommandProps) -> GroupProps
+    requires own { IsCommandInRange own }
     ensures { IsInRange result }
 {
-    props_with(command())
+    props_of(vec![in rt.alloc(); own].expect(rt, "memory"))
+}
+
+/// The settings of a group that are built in, with those of its own command and of a further one.
+pub(crate) fn props_with_two<R: Abort + AllocGlobal>(
+    rt: &R,
+    own: CommandProps,
+    further: CommandProps,
+) -> GroupProps
+    requires own { IsCommandInRange own }
+    requires further { IsCommandInRange further }
+    ensures { IsInRange result }
+{
+    props_of(vec![in rt.alloc(); own, further].expect(rt, "memory"))
+}
+
+/// The settings that are built in.
+pub(crate) fn props<R: Abort + AllocGlobal>(rt: &R) -> GroupProps
+    ensures { IsInRange result }
+{
+    props_with(rt, command())
 }
 
 /// The settings that are built in, save that callers run their requests themselves.
-pub(crate) fn by_callers() -> GroupProps
+pub(crate) fn by_callers<R: Abort + AllocGlobal>(rt: &R) -> GroupProps
     ensures { IsInRange result }
 {
-    props_with(CommandProps {
-        strategy: Strategy::Semaphore,
-        ..command()
-    })
+    props_with(rt, command_by_callers())
+}
+
+/// Whether the settings are those that are built in, with these commands.
+pub(crate) fn are_built_in(props: &GroupProps, commands: &[CommandProps]) -> bool {
+    let numbers = (
+        props.slots,
+        props.core,
+        props.max_queue,
+        props.queue_threshold,
+    );
+    numbers == (64, 10, None, 5) && props.commands.as_slice() == commands
 }
 
 /// A step of the group at the moment.

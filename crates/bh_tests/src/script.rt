@@ -1,7 +1,7 @@
 //! Scripts: each line asks something, and says behind ` = ` what is answered. A test of many steps is then one text and
 //! one loop.
 
-use bh_base::{Answer, GroupId, Op, Reply, Request, Step, Text};
+use bh_base::{Answer, GroupId, Op, Reply, Request, Serial, Step, Text};
 use bh_core::Core;
 use std::alloc::{AllocError, Global};
 use std::process::Abort;
@@ -36,6 +36,18 @@ fn submit(command: u8, arg: &str) -> Option<Op> {
     Some(Op::Submit(request))
 }
 
+/// Asks for a run that others may join: the context and the key, and the argument.
+fn submit_cached(command: u8, words: &str) -> Option<Op> {
+    let (name, arg) = split_word(words);
+    let (context, key) = name.split_once('/')?;
+    let request = Request {
+        command,
+        cache: Some((number(context), Text::new(key).ok()?)),
+        arg: Text::new(arg).ok()?,
+    };
+    Some(Op::Submit(request))
+}
+
 fn finish(serial: u64, body: &str) -> Option<Op> {
     let body = Text::new(body).ok()?;
     Some(Op::Finish { serial, body })
@@ -49,11 +61,22 @@ fn operation_of(name: &str, rest: &str) -> Option<Op> {
             let (of, arg) = split_word(rest);
             submit(command(of), arg)
         }
+        "cached-of" => {
+            let (of, rest) = split_word(rest);
+            submit_cached(command(of), rest)
+        }
         "read-of" => Some(Op::Read {
             command: command(rest),
         }),
         "collect" => Some(Op::Collect {
             serial: number(rest),
+        }),
+        "close" => Some(Op::Close {
+            context: number(rest),
+        }),
+        "fail" => Some(Op::Fail {
+            serial: number(rest),
+            bad: false,
         }),
         "finish" => {
             let (serial, body) = split_word(rest);
@@ -87,13 +110,28 @@ pub(crate) fn step_of(words: &str) -> Option<Step> {
     })
 }
 
+/// The ticket and its argument, and the number of its command where that is not the group's own.
+pub(crate) fn assigned_text(
+    alloc: Global,
+    serial: Serial,
+    command: u8,
+    arg: &Text<64>,
+) -> Result<String, AllocError> {
+    let arg = arg.as_str();
+    match command {
+        0 => format!(in alloc; "Assigned({serial} {arg})"),
+        _ => format!(in alloc; "Assigned({serial} {arg} @{command})"),
+    }
+}
+
 /// The reply, with its texts as texts.
 pub(crate) fn reply_text(alloc: Global, reply: &Reply) -> Result<String, AllocError> {
     match reply {
-        Reply::Assigned { serial, arg, .. } => format!(in alloc;
-            "Assigned({serial} {})",
-            arg.as_str()
-        ),
+        Reply::Assigned {
+            serial,
+            command,
+            arg,
+        } => assigned_text(alloc, *serial, *command, arg),
         Reply::Answered(Answer::Value(body)) => format!(in alloc; "Value({})", body.as_str()),
         other => format!(in alloc; "{other:?}"),
     }

@@ -4,7 +4,7 @@ ghost use Rattle.std.specs.Prelude.{◌≡◌, ◌≤◌, ◌^◌, IfOk, IfSome,
 ghost use Rattle.bh_base.specs.Ranges.{IsInRange};
 ghost use Rattle.bh_audit.specs.Books.{AreNew};
 
-use crate::samples::{own_request, props, text};
+use crate::samples::{are_built_in, command, own_request, props, text};
 use crate::script::{assert_text, number, split_word};
 use bh_audit::{AuditError, AuditReport, Book, Clock, Pass, Shared};
 use bh_base::{
@@ -24,8 +24,8 @@ pub const A: GroupId = GroupId(0);
 pub const B: GroupId = GroupId(1);
 
 /// Adds a group that did no step.
-pub(crate) fn add(core: &mut Core, props: GroupProps, steps: u64) -> Result<GroupId, RegisterError>
-    requires props { IsInRange props }
+pub(crate) fn add(core: &mut Core, props: &GroupProps, steps: u64) -> Result<GroupId, RegisterError>
+    requires props { IsInRange props.now }
     requires some { 1 ≤ steps }
     requires few { steps ≤ 2 ^ 40 }
     requires new { AreNew steps core.old.views }
@@ -48,8 +48,8 @@ pub(crate) fn two_groups(
     ensures { IfOk result (λ core. AreNew steps core.views) }
 {
     let mut core = Core::new(alloc, 1000);
-    add(&mut core, first, steps)?;
-    add(&mut core, second, steps)?;
+    add(&mut core, &first, steps)?;
+    add(&mut core, &second, steps)?;
     Ok(core)
 }
 
@@ -74,8 +74,8 @@ pub(crate) fn three_groups<R: Abort + AllocGlobal>(rt: &R, steps: u64) -> Shared
     requires some { 1 ≤ steps }
     requires few { steps ≤ 2 ^ 40 }
 {
-    let mut core = two_groups(rt.alloc(), props(), props(), steps).expect(rt, "memory");
-    add(&mut core, props(), steps).expect(rt, "memory");
+    let mut core = two_groups(rt.alloc(), props(rt), props(rt), steps).expect(rt, "memory");
+    add(&mut core, &props(rt), steps).expect(rt, "memory");
     share(rt, core, Some(steps))
 }
 
@@ -94,17 +94,29 @@ pub(crate) fn request(arg: &str) -> Request
     own_request(None, text(arg))
 }
 
+/// The argument of the word, and the number behind `@` that may name a further command.
+fn parts_of(word: &str) -> Option<(&str, u8)> {
+    let (arg, command) = word.split_once('@').unwrap_or((word, "0"));
+    Some((arg, command.parse::<u8>().ok()?))
+}
+
 /// The requests of these words to the group.
 pub(crate) fn requests(alloc: Global, words: &str) -> Option<Vec<Request>> {
     let mut requests = Vec::new(alloc);
     for word in words.split_whitespace() {
-        let arg = Text::new(word).ok()?;
-        requests.push(own_request(None, arg)).ok()?;
+        let (arg, command) = parts_of(word)?;
+        let arg = Text::new(arg).ok()?;
+        let request = Request {
+            command,
+            cache: None,
+            arg,
+        };
+        requests.push(request).ok()?;
     }
     Some(requests)
 }
 
-/// For each line a list of requests: the number of the group, and their arguments.
+/// For each line a list of requests: the number of the group, and their words.
 pub(crate) fn lists(alloc: Global, lines: &str) -> Option<Vec<RequestList>> {
     let mut lists = Vec::new(alloc);
     for line in lines.lines() {
@@ -147,7 +159,11 @@ fn group_text(
     shown: &GroupProps,
     limit: u64,
 ) -> Result<String, AllocError> {
-    let settings = if *shown == props() { "" } else { " changed" };
+    let settings = if are_built_in(shown, &[command()]) {
+        ""
+    } else {
+        " changed"
+    };
     format!(in alloc; "{} of {limit}{settings}, ", journal.len())
 }
 

@@ -49,7 +49,7 @@ impl<'a, R: rt::Clock> Dependency for HoldsFirst<'a, R> {
 
 #[test]
 fn slow_a_does_not_hold_b(rt: HostRuntime) {
-    let shared = service(&rt, props(), props(), 100);
+    let shared = service(&rt, props(&rt), props(&rt), 100);
     let held = HoldsFirst {
         begun: Gate::new(&rt, "the run of the first group"),
         answered: Gate::new(&rt, "an answer of the second group"),
@@ -90,8 +90,11 @@ impl<'a, R: rt::Clock> Dependency for Meets<'a, R> {
 
 #[test]
 fn two_workers_meet(rt: HostRuntime) {
-    let two = GroupProps { core: 2, ..props() };
-    let shared = service(&rt, two, props(), 100);
+    let two = GroupProps {
+        core: 2,
+        ..props(&rt)
+    };
+    let shared = service(&rt, two, props(&rt), 100);
     let meets = Meets {
         begun: Gate::new(&rt, "two runs of one group"),
     };
@@ -172,7 +175,7 @@ fn first_replies(alloc: Global, report: &AuditReport) -> Result<String, AllocErr
 
 #[test]
 fn timer_frees_caller(rt: HostRuntime) {
-    let shared = service(&rt, props(), props(), 100);
+    let shared = service(&rt, props(&rt), props(&rt), 100);
     let begun = Gate::new(&rt, "the run");
     let held = HoldsRuns {
         begun: &begun,

@@ -3,7 +3,7 @@
 
 ghost use Rattle.bh_base.specs.Ranges.{IsCommandInRange, IsInRange};
 
-use crate::samples::{command, own_request, props_with, text};
+use crate::samples::{command, props_with_two, text};
 use crate::script::assert_number;
 use crate::services::{A, B, drive_lists, report_of, service, success};
 use bh_audit::Clock;
@@ -107,9 +107,25 @@ fn tight() -> CommandProps
     }
 }
 
-/// A group of the command, with limits as small.
-fn small_with(command: CommandProps) -> GroupProps
-    requires command { IsCommandInRange command }
+/// The same, whose callers run their requests themselves.
+fn tight_by_callers() -> CommandProps
+    ensures { IsCommandInRange result }
+{
+    CommandProps {
+        strategy: Strategy::Semaphore,
+        semaphore: 2,
+        ..tight()
+    }
+}
+
+/// A group of the two commands, with limits as small.
+fn small_with<R: Abort + AllocGlobal>(
+    rt: &R,
+    own: CommandProps,
+    further: CommandProps,
+) -> GroupProps
+    requires own { IsCommandInRange own }
+    requires further { IsCommandInRange further }
     ensures { IsInRange result }
 {
     GroupProps {
@@ -117,28 +133,25 @@ fn small_with(command: CommandProps) -> GroupProps
         core: 2,
         max_queue: Some(1),
         queue_threshold: 1,
-        ..props_with(command)
+        ..props_with_two(rt, own, further)
     }
 }
 
-fn small() -> GroupProps
+/// A group whose workers run its own command.
+fn small<R: Abort + AllocGlobal>(rt: &R) -> GroupProps
     ensures { IsInRange result }
 {
-    small_with(tight())
+    small_with(rt, tight(), tight_by_callers())
 }
 
-/// The same, whose callers run their requests themselves.
-fn by_callers() -> GroupProps
+/// A group whose callers run its own command.
+fn small_by_callers<R: Abort + AllocGlobal>(rt: &R) -> GroupProps
     ensures { IsInRange result }
 {
-    small_with(CommandProps {
-        strategy: Strategy::Semaphore,
-        semaphore: 2,
-        ..tight()
-    })
+    small_with(rt, tight_by_callers(), tight())
 }
 
-/// Requests of which every third may join another.
+/// Requests of both commands by turns, of which every third may join another.
 fn requests_of(alloc: Global, number: u64) -> Option<Vec<Request>> {
     let mut requests = Vec::new(alloc);
     for place in 0..number {
@@ -147,8 +160,12 @@ fn requests_of(alloc: Global, number: u64) -> Option<Vec<Request>> {
         } else {
             None
         };
-        let arg = text("x");
-        requests.push(own_request(cache, arg)).ok()?;
+        let request = Request {
+            command: u8::from(place % 2 == 1),
+            cache,
+            arg: text("x"),
+        };
+        requests.push(request).ok()?;
     }
     Some(requests)
 }
@@ -178,11 +195,11 @@ fn assert_answers<R: Abort>(rt: &R, driven: &Driven, seed: u64) {
 /// Asserts that a core that has the group alone tells the same.
 fn assert_replays<R: Abort + AllocGlobal>(
     rt: &R,
-    group: GroupProps,
+    group: &GroupProps,
     journal: &[(Step, Reply)],
     seed: u64,
 )
-    requires { IsInRange group }
+    requires { IsInRange group.now }
 {
     let mut alone = Core::new(rt.alloc(), 100);
     alone.register(group, 10_000).expect(rt, "memory");
@@ -197,7 +214,7 @@ fn assert_replays<R: Abort + AllocGlobal>(
 
 /// One run by the seed.
 fn assert_run<R: Threads + Wait + Sync + Abort + AllocGlobal>(rt: &R, seed: u64) {
-    let shared = service(rt, small(), by_callers(), 10_000);
+    let shared = service(rt, small(rt), small_by_callers(rt), 10_000);
     let chance = Chance {
         next: AtomicU64::new(seed.saturating_mul(1 << 32)),
     };
@@ -208,8 +225,8 @@ fn assert_run<R: Threads + Wait + Sync + Abort + AllocGlobal>(rt: &R, seed: u64)
     let driven = drive_lists(rt, &shared, &chance, &rises, lists.as_slice(), 1000);
     assert_answers(rt, &driven, seed);
     let report = report_of(rt, shared, driven.passes);
-    assert_replays(rt, small(), report.journal(A), seed);
-    assert_replays(rt, by_callers(), report.journal(B), seed);
+    assert_replays(rt, &small(rt), report.journal(A), seed);
+    assert_replays(rt, &small_by_callers(rt), report.journal(B), seed);
 }
 
 #[test]

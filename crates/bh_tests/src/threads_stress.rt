@@ -89,9 +89,9 @@ fn full_of<R: Abort>(rt: &R, driven: &Driven) -> u64 {
 fn full_group_others_run(rt: HostRuntime) {
     let one_slot = GroupProps {
         slots: 1,
-        ..props()
+        ..props(&rt)
     };
-    let shared = service(&rt, one_slot, props(), 1000);
+    let shared = service(&rt, one_slot, props(&rt), 1000);
     let full = FullGroup {
         rt: &rt,
         shared: &shared,
@@ -123,7 +123,7 @@ fn full_group_others_run(rt: HostRuntime) {
 
 #[test]
 fn worn_in_the_middle(rt: HostRuntime) {
-    let shared = service(&rt, props(), props(), 3);
+    let shared = service(&rt, props(&rt), props(&rt), 3);
     let passes = assert_drive(&rt, &shared, &Echo, &Still, "0 x", "Err(Worn)\n");
     assert_end(&rt, shared, passes, "3 of 3, 0 of 3, stopped");
 }
@@ -205,7 +205,7 @@ fn is_answered(reply: &Result<Reply, StepError>) -> bool {
 
 #[test]
 fn stopped_in_the_middle(rt: HostRuntime) {
-    let shared = service(&rt, props(), props(), 1000);
+    let shared = service(&rt, props(&rt), props(&rt), 1000);
     let held = HeldUntilTold {
         begun: Gate::new(&rt, "the run"),
         told: Gate::new(&rt, "the caller of a service that is stopped"),
@@ -233,9 +233,9 @@ fn worker_goes_on_where_its_pass_is_full(rt: HostRuntime) {
     let one_worker = GroupProps {
         core: 1,
         max_queue: Some(5),
-        ..props_with(command)
+        ..props_with(&rt, command)
     };
-    let shared = service(&rt, one_worker, props(), 100);
+    let shared = service(&rt, one_worker, props(&rt), 100);
     let lists = same_lists(rt.alloc(), &[(A, 1), (A, 1), (A, 1)]).expect(&rt, "memory");
     let driven = drive_lists(&rt, &shared, &Echo, &Still, lists.as_slice(), 5);
     assert_number(&rt, full_of(&rt, &driven), 0);
@@ -249,7 +249,7 @@ fn worker_goes_on_where_its_pass_is_full(rt: HostRuntime) {
 
 #[test]
 fn many(rt: HostRuntime) {
-    let shared = service(&rt, props(), props(), 10_000);
+    let shared = service(&rt, props(&rt), props(&rt), 10_000);
     let wanted = [
         (A, 200),
         (B, 200),

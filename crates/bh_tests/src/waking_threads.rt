@@ -84,7 +84,7 @@ fn assert_woken<R: Threads + Wait + Sync + rt::Clock + Abort + AllocGlobal>(
     requires { IsInRange group }
 {
     let limit = case.limit.clamp(1, 100);
-    let shared = service(rt, group, props(), limit);
+    let shared = service(rt, group, props(rt), limit);
     let mut own = take_passes(rt, &shared, &[(A, 20)]);
     play(rt, &shared, &mut own, case.before);
     let gone_on = Gate::new(rt, case.name);
@@ -119,7 +119,7 @@ const HOLDERS: Case = Case {
 
 #[test]
 fn end_of_a_run_wakes_three_holders(rt: HostRuntime) {
-    assert_woken(&rt, props(), &HOLDERS);
+    assert_woken(&rt, props(&rt), &HOLDERS);
 }
 
 const STOPPED: Case = Case {
@@ -135,7 +135,7 @@ const STOPPED: Case = Case {
 
 #[test]
 fn stop_wakes_a_caller(rt: HostRuntime) {
-    assert_woken(&rt, props(), &STOPPED);
+    assert_woken(&rt, props(&rt), &STOPPED);
 }
 
 const STOPPED_WORKER: Case = Case {
@@ -151,7 +151,7 @@ const STOPPED_WORKER: Case = Case {
 
 #[test]
 fn stop_wakes_a_worker(rt: HostRuntime) {
-    assert_woken(&rt, props(), &STOPPED_WORKER);
+    assert_woken(&rt, props(&rt), &STOPPED_WORKER);
 }
 
 const WORN: Case = Case {
@@ -167,7 +167,7 @@ const WORN: Case = Case {
 
 #[test]
 fn worn_group_wakes_a_caller(rt: HostRuntime) {
-    assert_woken(&rt, props(), &WORN);
+    assert_woken(&rt, props(&rt), &WORN);
 }
 
 const WORN_WORKERS: Case = Case {
@@ -183,7 +183,7 @@ const WORN_WORKERS: Case = Case {
 
 #[test]
 fn worn_group_wakes_its_workers(rt: HostRuntime) {
-    assert_woken(&rt, props(), &WORN_WORKERS);
+    assert_woken(&rt, props(&rt), &WORN_WORKERS);
 }
 
 const QUEUED: Case = Case {
@@ -199,7 +199,7 @@ const QUEUED: Case = Case {
 
 #[test]
 fn expire_wakes_the_caller_of_a_queued_ticket(rt: HostRuntime) {
-    assert_woken(&rt, props(), &QUEUED);
+    assert_woken(&rt, props(&rt), &QUEUED);
 }
 
 const RUNNING: Case = Case {
@@ -215,7 +215,7 @@ const RUNNING: Case = Case {
 
 #[test]
 fn expire_wakes_the_caller_of_a_run(rt: HostRuntime) {
-    assert_woken(&rt, props(), &RUNNING);
+    assert_woken(&rt, props(&rt), &RUNNING);
 }
 
 const SUBMITTED: Case = Case {
@@ -231,7 +231,7 @@ const SUBMITTED: Case = Case {
 
 #[test]
 fn submit_wakes_a_worker(rt: HostRuntime) {
-    assert_woken(&rt, props(), &SUBMITTED);
+    assert_woken(&rt, props(&rt), &SUBMITTED);
 }
 
 const PERMIT: Case = Case {
@@ -250,7 +250,7 @@ fn end_of_a_run_wakes_a_worker(rt: HostRuntime) {
     let one_worker = GroupProps {
         core: 1,
         max_queue: Some(5),
-        ..props()
+        ..props(&rt)
     };
     assert_woken(&rt, one_worker, &PERMIT);
 }

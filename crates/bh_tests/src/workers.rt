@@ -14,7 +14,7 @@ use std::sync::{Mutex, Wait};
 
 #[test]
 fn drive_answers_two_lists(rt: HostRuntime) {
-    let shared = service(&rt, props(), props(), 100);
+    let shared = service(&rt, props(&rt), props(&rt), 100);
     let passes = assert_drive(&rt, &shared, &Echo, &Still, "0 x\n1 y", "x\ny\n");
     // Two callers, ten workers of each group, and the timer's pass of each.
     assert_number(&rt, passes.len() as u64, 24);
@@ -23,7 +23,7 @@ fn drive_answers_two_lists(rt: HostRuntime) {
 
 #[test]
 fn drive_without_the_group_starts_no_thread(rt: HostRuntime) {
-    let shared = service(&rt, props(), props(), 10);
+    let shared = service(&rt, props(&rt), props(&rt), 10);
     let lists = lists(rt.alloc(), "0 x\n2 y").expect(&rt, "memory");
     let driven = drive(
         &rt,
@@ -51,7 +51,7 @@ fn assert_no_receipt<R: Abort>(rt: &R, pass: &Pass, room: u64) {
 
 #[test]
 fn call_needs_five_free_receipts(rt: HostRuntime) {
-    let shared = service(&rt, props(), props(), 10);
+    let shared = service(&rt, props(&rt), props(&rt), 10);
     let mut pass = pass(&rt, &shared, A, 4);
     assert_call(&rt, &shared, &mut pass, &Echo, "Err(PassFull)");
     assert_no_receipt(&rt, &pass, 4);
@@ -59,7 +59,7 @@ fn call_needs_five_free_receipts(rt: HostRuntime) {
 
 #[test]
 fn pass_of_an_unknown_group_is_no_group(rt: HostRuntime) {
-    let shared = service(&rt, props(), props(), 10);
+    let shared = service(&rt, props(&rt), props(&rt), 10);
     let larger = three_groups(&rt, 10);
     let mut pass = pass(&rt, &larger, GroupId(2), 5);
     assert_call(&rt, &shared, &mut pass, &Echo, "Err(NoGroup)");
@@ -123,7 +123,7 @@ fn robbed<R: Wait + Abort + AllocGlobal>(rt: &R, shared: &Shared) -> Vec<Pass> {
 
 #[test]
 fn ticket_that_another_pass_collected_is_taken(rt: HostRuntime) {
-    let shared = service(&rt, props(), by_callers(), 10);
+    let shared = service(&rt, props(&rt), by_callers(&rt), 10);
     let passes = robbed(&rt, &shared);
     assert_end(&rt, shared, passes, "0 of 10, 5 of 10 changed, running");
 }

@@ -6,7 +6,7 @@ use Rattle.std.proofs.lemmas.Bool.{cases_eq, eq-eqb, ne_eqb}
 use Rattle.bh_base.specs.declared.ticket.Ticket.{Ticket}
 use Rattle.bh_base.specs.declared.ticket.TicketState.{TicketState}
 use Rattle.bh_base.specs.declared.ticket.TicketState.TheVariants as ticket
-use Rattle.bh_base.specs.Tickets.{is_queued, is_running}
+use Rattle.bh_base.specs.Tickets.{is_queued, is_running, is_of}
 use Rattle.bh_slot_arena.specs.Slots.{slots_on}
 use Rattle.bh_cache.specs.Cache.{IsEarliest}
 use Rattle.bh_cache.specs.Slots.{Slots, is_on, is_live, ticket_at, tickets_of, list_for, has_serial_in, has, has_one}
@@ -174,12 +174,13 @@ module _ (a : Slots) (ss : List GroupSlots) (i : ℕ) (s : GroupSlots) (whole : 
         one_at (Some t) read e = any_in (is_due_by due) (tickets_of a s.lists) t (is_in a s whole.arena (whole.each i s is) x t (ap (λ c. if c then slice_get a.payloads x else None) (live on) ∙ read)) e
 
     open_list : (u : Ticket) → is_due_by due u ≡ true → (list_for s.lists u.state ≡ s.lists.queued) ⊎ (list_for s.lists u.state ≡ s.lists.running)
-    open_list u e = of u.state (and_second due.timeout_on (is_queued u || is_running u) (nat_le due.timeout_ms (due.moment - u.submitted)) e)
+    open_list u e = of u.state (and_third (is_of due.command u) due.timeout_on (is_queued u || is_running u) (nat_le due.timeout_ms (due.moment - u.submitted)) e)
       where
-        and_second : (b c d : Bool) → (b && c && d) ≡ true → c ≡ true
-        and_second true true d e = refl
-        and_second true false d e = absurd cc
-        and_second false c d e = absurd cc
+        and_third : (a b c d : Bool) → (a && b && c && d) ≡ true → c ≡ true
+        and_third true true true d e = refl
+        and_third true true false d e = absurd cc
+        and_third true false c d e = absurd cc
+        and_third false b c d e = absurd cc
 
         of : (r : TicketState) → (queued_in r || running_in r) ≡ true → (list_for s.lists r ≡ s.lists.queued) ⊎ (list_for s.lists r ≡ s.lists.running)
         of ticket.Queued e = inl refl

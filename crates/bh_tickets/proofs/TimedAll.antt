@@ -3,6 +3,7 @@ use Rattle.std.proofs.Common.{◌≡◌, ℕ, ◌+◌, ◌-◌, ◌≤◌, ◌�
 use Rattle.std.specs.Prelude.{◌&&◌, eqb, nat_le, slice_get, if◌then◌else◌}
 use Rattle.std.specs.Option.{option_map}
 use Rattle.std.proofs.lemmas.List.Sums.{length-filter}
+use Rattle.bh_base.specs.Tickets.{is_of}
 use Rattle.bh_base.specs.declared.ticket.Ticket.{Ticket}
 use Rattle.bh_base.specs.declared.ticket.TicketState.{TicketState}
 use Rattle.bh_base.specs.declared.ticket.TicketState.TheVariants as ticket
@@ -49,16 +50,17 @@ again due (Some t) = ap Some (timed_again due t)
 due_open : (due : DueRule) (t : Ticket) → is_due_by due t ≡ true → (t.state ≡ ticket.Queued) ⊎ (t.state ≡ ticket.Running)
 due_open due t e = by t.state e
   where
-    none : (b c : Bool) → (b && false && c) ≡ true → ⊥
-    none true c e = cc
-    none false c e = cc
+    none : (a b c : Bool) → (a && b && false && c) ≡ true → ⊥
+    none true true c e = cc
+    none true false c e = cc
+    none false b c e = cc
 
     by : (st : TicketState) → is_due_by due (record t { state = st }) ≡ true → (st ≡ ticket.Queued) ⊎ (st ≡ ticket.Running)
     by ticket.Queued e = inl refl
     by ticket.Running e = inr refl
-    by (ticket.NeedsFallback c) e = absurd (none due.timeout_on (nat_le due.timeout_ms (due.moment - t.submitted)) e)
-    by (ticket.InFallback c) e = absurd (none due.timeout_on (nat_le due.timeout_ms (due.moment - t.submitted)) e)
-    by (ticket.Answered c) e = absurd (none due.timeout_on (nat_le due.timeout_ms (due.moment - t.submitted)) e)
+    by (ticket.NeedsFallback c) e = absurd (none (is_of due.command t) due.timeout_on (nat_le due.timeout_ms (due.moment - t.submitted)) e)
+    by (ticket.InFallback c) e = absurd (none (is_of due.command t) due.timeout_on (nat_le due.timeout_ms (due.moment - t.submitted)) e)
+    by (ticket.Answered c) e = absurd (none (is_of due.command t) due.timeout_on (nat_le due.timeout_ms (due.moment - t.submitted)) e)
 
 -- one slot
 pub timed_slot : (a : Slots) (s : GroupSlots) (x : ℕ) (due : DueRule) (n : ℕ) (b : Slots) (r : GroupSlots) → IsTimed a s x due n b r → IsTimedFrom (x ∷ []) a s due n b r

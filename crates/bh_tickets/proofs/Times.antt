@@ -13,7 +13,7 @@ use Rattle.bh_tickets.specs.GroupSlots.{IsGroupSlots, CanPut, IsPut, IsTimed}
 use Rattle.bh_tickets.proofs.Releases.{change_none}
 use Rattle.bh_base.specs.declared.ticket.TicketState.TheVariants as ticket
 use Rattle.bh_base.specs.declared.reply.Cause.TheVariants as cause
-use Rattle.bh_base.specs.Tickets.{in_state}
+use Rattle.bh_base.specs.Tickets.{in_state, is_of}
 use Rattle.bh_tickets.specs.Changes.{is_due_by, timed_out_by}
 
 and_false : (b c : Bool) → (b && false && c) ≡ false
@@ -26,7 +26,11 @@ with_timeout t = in_state (ticket.NeedsFallback cause.Timeout) t
 
 -- a ticket that has timed out is due no more
 pub due_no_more : (due : DueRule) (t : Ticket) → is_due_by due (with_timeout t) ≡ false
-due_no_more due t = and_false due.timeout_on (nat_le due.timeout_ms (due.moment - t.submitted))
+due_no_more due t = at (is_of due.command t)
+  where
+    at : (own : Bool) → (own && due.timeout_on && false && nat_le due.timeout_ms (due.moment - t.submitted)) ≡ false
+    at true = and_false due.timeout_on (nat_le due.timeout_ms (due.moment - t.submitted))
+    at false = refl
 
 module _ (a : Slots) (s : GroupSlots) (x : ℕ) (t : Ticket) (due : DueRule) (arena : IsArena a 0) (group : IsGroupSlots a s) (here : ticket_at a s.lists x ≡ Some t) where
   same_or : (y : ℕ) (o : Option Ticket) → ticket_at a s.lists y ≡ o → is_due_by due t ≡ false → o ≡ option_map (λ u. if eqb y x then timed_out_by due u else u) o

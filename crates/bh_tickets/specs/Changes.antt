@@ -6,7 +6,7 @@ use Rattle.bh_base.specs.declared.ticket.TicketState.TheVariants as ticket
 use Rattle.bh_base.specs.declared.reply.Answer.{Answer}
 use Rattle.bh_base.specs.declared.reply.Cause.{Cause}
 use Rattle.bh_base.specs.declared.reply.Cause.TheVariants as cause
-use Rattle.bh_base.specs.Tickets.{in_state, is_queued, is_running}
+use Rattle.bh_base.specs.Tickets.{in_state, is_of, is_queued, is_running}
 use Rattle.bh_tickets.specs.declared.changes.TicketChange.{TicketChange}
 use Rattle.bh_tickets.specs.declared.changes.TicketChange.TheVariants as change
 use Rattle.bh_tickets.specs.declared.states.DueRule.{DueRule}
@@ -36,9 +36,9 @@ fallback_started cause t = in_state (ticket.InFallback cause) t
 abbrev pub joined : Ticket → Ticket
 joined t = record t { holders = t.holders + 1 }
 
--- the ticket has timed out by the rule: it is queued or running, and was submitted so long before the moment
+-- the ticket has timed out by the rule: it is of the command, queued or running, and was submitted so long before the moment
 abbrev pub is_due_by : DueRule → Ticket → Bool
-is_due_by due t = due.timeout_on && (is_queued t || is_running t) && nat_le due.timeout_ms (due.moment - t.submitted)
+is_due_by due t = is_of due.command t && due.timeout_on && (is_queued t || is_running t) && nat_le due.timeout_ms (due.moment - t.submitted)
 
 -- as it is once it timed out, where it has
 abbrev pub timed_out_by : DueRule → Ticket → Ticket

@@ -6,9 +6,10 @@ ghost use Rattle.bh_tickets.specs.Changes.{is_due_by};
 
 use bh_base::{Moment, Ticket, TicketState};
 
-/// Which tickets are due to time out.
+/// Which tickets of a command are due to time out.
 #[derive(Clone, Copy, Debug)]
 pub struct DueRule {
+    pub command: u8,
     pub timeout_on: bool,
     /// Milliseconds from the submit.
     pub timeout_ms: u64,
@@ -66,5 +67,8 @@ pub fn is_due(ticket: &Ticket, due: &DueRule) -> bool
 {
     let open = matches!(ticket.state, TicketState::Queued)
         || matches!(ticket.state, TicketState::Running);
-    due.timeout_on && open && due.moment.saturating_sub(ticket.submitted) >= due.timeout_ms
+    ticket.command == due.command
+        && due.timeout_on
+        && open
+        && due.moment.saturating_sub(ticket.submitted) >= due.timeout_ms
 }

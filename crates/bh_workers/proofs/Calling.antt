@@ -267,13 +267,13 @@ module _ (ends : GroupId → ℕ → List ℕ → RunEnd → Type 0) (fallback_e
 
 -- the end of a run names no command
 pub end_known : (serial : ℕ) (end : RunEnd) → CanBeMissing (end_op serial end) → ⊥
-end_known serial (run_end.Success body) h = (let both : true ≡ false = h.1 in cc)
-end_known serial run_end.Failure h = (let both : true ≡ false = h.1 in cc)
-end_known serial run_end.BadRequest h = (let both : true ≡ false = h.1 in cc)
+end_known serial (run_end.Success body) h = (let both : true ≡ false = h.2 in cc)
+end_known serial run_end.Failure h = (let both : true ≡ false = h.2 in cc)
+end_known serial run_end.BadRequest h = (let both : true ≡ false = h.2 in cc)
 
 -- nor does that of a fallback
 pub fallback_end_known : (serial : ℕ) (end : FallbackEnd) → CanBeMissing (op.FallbackDone serial end) → ⊥
-fallback_end_known serial end h = (let both : true ≡ false = h.1 in cc)
+fallback_end_known serial end h = (let both : true ≡ false = h.2 in cc)
 
 -- a reply that is no refusal was accepted
 pub accepted_reply : (r : Reply) → r ≢ reply.Worn → r ≢ reply.NoGroup → r ≢ reply.NoCommand → is_refusal r ≡ false

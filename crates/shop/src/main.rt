@@ -92,7 +92,7 @@ fn serve<R: Threads + Wait + Clock + Sync>(rt: &R, alloc: Global) -> Option<Driv
 fn core_of(alloc: Global, settings: &Settings) -> Option<Core> {
     let mut core = Core::new(alloc, MOST_SLOTS);
     for (_name, props) in settings.groups.iter() {
-        core.register(*props, MOST_STEPS).ok()?;
+        core.register(props, MOST_STEPS).ok()?;
     }
     Some(core)
 }

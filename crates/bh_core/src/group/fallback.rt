@@ -59,17 +59,18 @@ impl Group {
         ensures done { IsDoneBy (view_in tickets.old self.old) (collected_in (ticket.NeedsFallback cause) command serial (view_in tickets.old self.old).present) result (view_in tickets.new self.new) }
         ensures left { Leaves tickets.old self.old tickets.new self.new }
     {
-        if !self.props.command.fallback_on {
+        let own = self.props.command(command);
+        if !own.fallback_on {
             let answer = error(cause, FallbackFault::Disabled);
             tickets.answer_holder(self.number, slot, &answer);
-            self.record(EventKind::ExceptionThrown);
+            self.record(command, EventKind::ExceptionThrown);
             return Reply::Answered(answer);
         }
-        if tickets.in_fallback_count(self.number, command) >= self.props.command.fallback_permits {
+        if tickets.in_fallback_count(self.number, command) >= own.fallback_permits {
             let answer = error(cause, FallbackFault::Rejected);
             tickets.answer_holder(self.number, slot, &answer);
-            self.record(EventKind::FallbackRejection);
-            self.record(EventKind::ExceptionThrown);
+            self.record(command, EventKind::FallbackRejection);
+            self.record(command, EventKind::ExceptionThrown);
             return Reply::Answered(answer);
         }
         tickets.start_fallback(self.number, slot, cause);
@@ -90,45 +91,51 @@ impl Group {
     {
         match tickets.find_in_fallback(self.number, serial) {
             None => Reply::NotInFallback,
-            Some(slot) => match tickets.get(self.number, slot).state {
-                TicketState::InFallback(cause) => return self.end_fallback(
-                    tickets, serial, slot, cause, end,
-                ),
-                _ => return Reply::NotInFallback,
-            },
+            Some(slot) => {
+                let ticket = tickets.get(self.number, slot);
+                let command = ticket.command;
+                match ticket.state {
+                    TicketState::InFallback(cause) => return self.end_fallback(
+                        tickets, serial, slot, command, cause, end,
+                    ),
+                    _ => return Reply::NotInFallback,
+                }
+            }
         }
     }
 
-    /// The fallback of the ticket has ended: it is answered.
+    /// The fallback of a ticket of the command has ended: the ticket is answered.
     fn end_fallback(
         &mut self,
         tickets: &mut Tickets,
         serial: Serial,
         slot: u32,
+        command: u8,
         cause: Cause,
         end: &FallbackEnd,
     ) -> Reply
         requires has { HasTickets tickets.old self.old }
         requires bounded { IsBounded (view_in tickets.old self.old) }
+        requires known { command < command_count self.old.props }
         requires found { IsFirstAt (is_in_fallback_at serial) (group_at tickets.old self.old.number) slot }
-        ensures done { IsDoneBy (view_in tickets.old self.old) (fallback_done_in (ticket.InFallback cause) serial end.now (view_in tickets.old self.old).present) result (view_in tickets.new self.new) }
+        ensures done { IsDoneBy (view_in tickets.old self.old) (fallback_done_in (ticket.InFallback cause) command serial end.now (view_in tickets.old self.old).present) result (view_in tickets.new self.new) }
         ensures left { Leaves tickets.old self.old tickets.new self.new }
     {
         let answer = fallback_answer(end, cause);
         tickets.answer(self.number, slot, &answer);
         match end {
             FallbackEnd::Success(_) => {
-                self.record(EventKind::FallbackSuccess);
+                self.record(command, EventKind::FallbackSuccess);
                 return Reply::Done;
             }
             FallbackEnd::Failure => {
-                self.record(EventKind::FallbackFailure);
-                self.record(EventKind::ExceptionThrown);
+                self.record(command, EventKind::FallbackFailure);
+                self.record(command, EventKind::ExceptionThrown);
                 return Reply::Done;
             }
             FallbackEnd::Missing => {
-                self.record(EventKind::FallbackMissing);
-                self.record(EventKind::ExceptionThrown);
+                self.record(command, EventKind::FallbackMissing);
+                self.record(command, EventKind::ExceptionThrown);
                 return Reply::Done;
             }
         }

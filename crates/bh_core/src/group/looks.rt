@@ -49,7 +49,7 @@ impl Group {
         if self.is_worn() {
             return false;
         }
-        self.pool_busy_count(tickets) < self.props.core && tickets.any_queued(self.number)
+        self.pool_busy_count(tickets) < self.workers() && tickets.any_queued(self.number)
     }
 
     /// Whether a `Collect` of the serial would be answered `Pending`, at whatever moment.
@@ -68,23 +68,30 @@ impl Group {
 
     /// Whether an `Expire` at the moment would be answered `Expired` of more than 0.
     pub fn is_due(&self, tickets: &Tickets, now: Moment) -> bool
-        requires { HasTickets tickets.now self.now }
+        requires has { HasTickets tickets.now self.now }
+        requires steady { IsSteady (view_in tickets.now self.now) }
         ensures { result ≡ expires_some (view_reply (view_in tickets.now self.now) op.Expire now) }
     {
         if self.is_worn() {
             return false;
         }
-        let due = DueRule {
-            moment: self.moment_of(now),
-            ..self.due_rule()
-        };
-        tickets.any_due(self.number, &due)
+        let moment = self.moment_of(now);
+        for command in 0..self.command_count() {
+            let due = DueRule {
+                moment,
+                ..self.due_rule(command)
+            };
+            if tickets.any_due(self.number, &due) {
+                return true;
+            }
+        }
+        false
     }
 
     /// The moment of a step that comes at the given one: never before the latest.
     fn moment_of(&self, now: Moment) -> Moment
-        ensures { result ≡ max self.now.history.latest now }
+        ensures { result ≡ max self.now.latest now }
     {
-        self.history.latest().max(now)
+        self.latest.max(now)
     }
 }

@@ -1,11 +1,12 @@
 //! Start, finish and fail: the runs of the dependency.
 
-ghost use Rattle.std.specs.Prelude.{◌≡◌, find, false};
+ghost use Rattle.std.specs.Prelude.{◌≡◌, ◌<◌, ◌≤◌, find, false};
 ghost use Rattle.bh_base.specs.declared.step.Op.TheVariants as op;
+ghost use Rattle.bh_base.specs.Commands.{command_count};
 ghost use Rattle.bh_base.specs.Machine.{pool_busy_count, run_ended};
 ghost use Rattle.bh_base.specs.Order.{AreKnown};
 ghost use Rattle.bh_base.specs.Tickets.{is_busy_at};
-ghost use Rattle.bh_core.specs.Stepping.{IsBounded, IsDone, IsDoneBy};
+ghost use Rattle.bh_core.specs.Stepping.{IsBounded, IsDone, IsDoneBy, worker_count};
 ghost use Rattle.bh_core.specs.GroupView.{HasTickets, Leaves, view_in};
 ghost use Rattle.bh_tickets.specs.Changes.{queued_in};
 ghost use Rattle.bh_tickets.specs.TicketsView.{group_at};
@@ -22,7 +23,7 @@ impl Group {
         ensures done { IsDone (view_in tickets.old self.now) op.Start result (view_in tickets.new self.now) }
         ensures left { Leaves tickets.old self.now tickets.new self.now }
     {
-        if self.pool_busy_count(tickets) >= self.props.core {
+        if self.pool_busy_count(tickets) >= self.workers() {
             return Reply::Idle;
         }
         match tickets.first_queued(self.number) {
@@ -48,8 +49,22 @@ impl Group {
         requires known { AreKnown self.now.props (group_at tickets.now self.now.number).items }
         ensures { result ≡ pool_busy_count (view_in tickets.now self.now).present }
     {
-        match self.props.command.strategy {
-            Strategy::Thread => tickets.busy_count(self.number, 0),
+        let mut count = 0;
+        for command in 0..self.command_count() {
+            count += self.worker_count(tickets, command);
+        }
+        count
+    }
+
+    /// How many of them are at a run of the command.
+    fn worker_count(&self, tickets: &Tickets, command: u8) -> u64
+        requires has { HasTickets tickets.now self.now }
+        requires known { command < command_count self.now.props }
+        ensures few { result ≤ 4096 }
+        ensures count { result ≡ worker_count command (view_in tickets.now self.now).present }
+    {
+        match self.props.command(command).strategy {
+            Strategy::Thread => tickets.busy_count(self.number, command),
             Strategy::Semaphore => 0,
         }
     }
@@ -104,13 +119,15 @@ impl Group {
         match tickets.find_busy(self.number, serial) {
             None => Reply::NotRunning,
             Some(slot) => {
-                if !is_running(tickets.get(self.number, slot)) {
+                let ticket = tickets.get(self.number, slot);
+                let command = ticket.command;
+                if !is_running(ticket) {
                     tickets.stop_run(self.number, slot);
                     return Reply::Late;
                 }
                 tickets.end_run(self.number, slot, state);
-                self.record(kind);
-                self.tell_circuit(serial, end);
+                self.record(command, kind);
+                self.tell_circuit(command, serial, end);
                 Reply::Done
             }
         }

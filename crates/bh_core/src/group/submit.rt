@@ -5,8 +5,7 @@ ghost use Rattle.bh_base.specs.declared.step.Op.TheVariants as op;
 ghost use Rattle.bh_base.specs.Commands.{command_count, props_of};
 ghost use Rattle.bh_base.specs.Order.{AreKnown};
 ghost use Rattle.bh_base.specs.Machine.{due_fallback, is_admitted, placed, rejected, submitted};
-ghost use Rattle.bh_base.specs.Seen.{view_rolling};
-ghost use Rattle.bh_core.specs.Stepping.{IsBounded, IsDone, IsDoneBy, IsJoinable, asked_with, view_with_ticket};
+ghost use Rattle.bh_core.specs.Stepping.{IsBounded, IsDone, IsDoneBy, IsJoinable, asked_with, rolling_now, view_with_ticket};
 ghost use Rattle.bh_core.specs.GroupView.{HasTickets, Leaves, view_in};
 ghost use Rattle.bh_tickets.specs.TicketsView.{group_at};
 
@@ -34,10 +33,11 @@ impl Group {
 
     /// The slot of the cached ticket that the request may join.
     fn find_cached(&self, tickets: &Tickets, request: &Request) -> Option<u32>
-        requires { HasTickets tickets.now self.now }
+        requires has { HasTickets tickets.now self.now }
+        requires known { request.now.command < command_count self.now.props }
         ensures { IsJoinable (view_in tickets.now self.now).present (group_at tickets.now self.now.number) request.now result }
     {
-        if !self.props.command.cache_on {
+        if !self.props.command(request.command).cache_on {
             return None;
         }
         match &request.cache {
@@ -55,13 +55,14 @@ impl Group {
     fn join(&mut self, tickets: &mut Tickets, request: &Request, slot: u32) -> Reply
         requires has { HasTickets tickets.old self.old }
         requires bounded { IsBounded (view_in tickets.old self.old) }
+        requires known { request.now.command < command_count self.old.props }
         requires found { IsJoinable (view_in tickets.old self.old).present (group_at tickets.old self.old.number) request.now (Some slot) }
         ensures done { IsDone (view_in tickets.old self.old) (op.Submit request.now) result (view_in tickets.new self.new) }
         ensures left { Leaves tickets.old self.old tickets.new self.new }
     {
         let serial = tickets.get(self.number, slot).serial;
         tickets.add_holder(self.number, slot);
-        self.record(EventKind::ResponseFromCache);
+        self.record(request.command, EventKind::ResponseFromCache);
         Reply::Joined(serial)
     }
 
@@ -70,16 +71,16 @@ impl Group {
         requires has { HasTickets tickets.old self.old }
         requires bounded { IsBounded (view_in tickets.old self.old) }
         requires known { request.now.command < command_count self.old.props }
-        ensures done { IsDoneBy (view_in tickets.old self.old) (submitted None request.now (view_rolling (view_in tickets.old self.old) (view_in tickets.old self.old).present.latest) (view_in tickets.old self.old).present) result (view_in tickets.new self.new) }
+        ensures done { IsDoneBy (view_in tickets.old self.old) (submitted None request.now (rolling_now (view_in tickets.old self.old) request.now.command) (view_in tickets.old self.old).present) result (view_in tickets.new self.new) }
         ensures left { Leaves tickets.old self.old tickets.new self.new }
     {
-        if tickets.len(self.number) >= self.props.slots {
+        if tickets.len(self.number) >= self.slots() {
             return Reply::GroupFull;
         }
-        let health = self.health_asked(tickets);
-        let said = self.circuit.admit(
-            self.history.latest(),
-            &self.props.command,
+        let health = self.health_asked(tickets, request.command);
+        let said = self.commands[request.command as usize].circuit.admit(
+            self.latest,
+            self.props.command(request.command),
             health,
             tickets.next_serial(self.number),
         );
@@ -96,17 +97,19 @@ impl Group {
         }
     }
 
-    /// Health for the circuit breaker, which is counted only where it is looked at.
-    fn health_asked(&self, tickets: &Tickets) -> Health
-        requires { HasTickets tickets.now self.now }
+    /// Health for the command's circuit breaker, which is counted only where it is looked at.
+    fn health_asked(&self, tickets: &Tickets, command: u8) -> Health
+        requires has { HasTickets tickets.now self.now }
+        requires known { command < command_count self.now.props }
         ensures range { result.errors ≤ result.total }
-        ensures same { asked_with (view_in tickets.now self.now) result ≡ asked_with (view_in tickets.now self.now) (view_rolling (view_in tickets.now self.now) (view_in tickets.now self.now).present.latest).health }
+        ensures same { asked_with command (view_in tickets.now self.now) result ≡ asked_with command (view_in tickets.now self.now) (rolling_now (view_in tickets.now self.now) command).health }
     {
-        if self
+        let own = &self.commands[command as usize];
+        if own
             .circuit
-            .takes_snapshot(self.history.latest(), &self.props.command)
+            .takes_snapshot(self.latest, self.props.command(command))
         {
-            return self.history.health();
+            return own.history.health(self.latest);
         }
         Health {
             errors: 0,
@@ -127,7 +130,7 @@ impl Group {
             return self.reject(tickets, request, test);
         }
         let serial = tickets.next_serial(self.number);
-        match self.props.command.strategy {
+        match self.props.command(request.command).strategy {
             Strategy::Semaphore => {
                 self.add_ticket(tickets, request, &TicketState::Running, true, test);
                 return Reply::Inline(serial);
@@ -146,10 +149,9 @@ impl Group {
         requires known { command < command_count self.now.props }
         ensures { result ≡ is_admitted (view_in tickets.now self.now).present command (props_of command self.now.props).strategy }
     {
-        match self.props.command.strategy {
-            Strategy::Semaphore => {
-                tickets.busy_count(self.number, command) < self.props.command.semaphore
-            }
+        let props = self.props.command(command);
+        match props.strategy {
+            Strategy::Semaphore => tickets.busy_count(self.number, command) < props.semaphore,
             Strategy::Thread => pool_admits(
                 self.pool_busy_count(tickets),
                 tickets.waiting_count(self.number),
@@ -166,11 +168,15 @@ impl Group {
         requires bounded { IsBounded (view_in tickets.old self.old) }
         requires known { request.now.command < command_count self.old.props }
         requires free { length (view_in tickets.old self.old).present.tickets < (view_in tickets.old self.old).present.props.slots }
-        ensures done { IsDoneBy (view_in tickets.old self.old) (rejected (view_in tickets.old self.old).present.props.command.strategy request.now test (view_in tickets.old self.old).present) result (view_in tickets.new self.new) }
+        ensures done { IsDoneBy (view_in tickets.old self.old) (rejected (props_of request.now.command self.old.props).strategy request.now test (view_in tickets.old self.old).present) result (view_in tickets.new self.new) }
         ensures left { Leaves tickets.old self.old tickets.new self.new }
     {
-        self.tell_circuit(tickets.next_serial(self.number), End::Error);
-        match self.props.command.strategy {
+        self.tell_circuit(
+            request.command,
+            tickets.next_serial(self.number),
+            End::Error,
+        );
+        match self.props.command(request.command).strategy {
             Strategy::Semaphore => {
                 return self.fall_back_from(
                     tickets,
@@ -216,7 +222,7 @@ impl Group {
             false,
             test,
         );
-        self.record(event);
+        self.record(request.command, event);
         Reply::FallbackDue { serial, cause }
     }
 
@@ -241,11 +247,11 @@ impl Group {
             command: request.command,
             arg: request.arg,
             cache: request.cache,
-            submitted: self.history.latest(),
+            submitted: self.latest,
             state: *state,
             busy,
             holders: 1,
-            cached: self.props.command.cache_on && request.cache.is_some(),
+            cached: self.props.command(request.command).cache_on && request.cache.is_some(),
             test,
         };
         tickets.push(self.number, &ticket);

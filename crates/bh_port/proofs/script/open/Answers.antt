@@ -1,6 +1,6 @@
 use Rattle.std.proofs.Common.{◌≡◌, ℕ, List, [], ◌∷◌, ◌++◌, ◌∙◌, sym, ap, arith, append_assoc, append-nil, map}
 use Rattle.std.proofs.lemmas.Grind.{common_steps}
-use Rattle.bh_base.specs.declared.props.GroupProps.{GroupProps}
+use Rattle.bh_base.specs.Props.{GroupProps}
 use Rattle.bh_core.specs.CoreView.{CoreView}
 use Rattle.bh_props.specs.Shown.{settings_view}
 use Rattle.bh_port.proofs.OwnSteps.{opened_view, open-more, agrees-opened}

@@ -1,5 +1,5 @@
 use Rattle.std.proofs.Common.{◌≡◌, ◌++◌, List, ℕ, map}
-use Rattle.bh_base.specs.declared.props.GroupProps.{GroupProps}
+use Rattle.bh_base.specs.Props.{GroupProps}
 use Rattle.bh_props.specs.Shown.{settings_view}
 use Rattle.bh_port.proofs.OwnSteps.{opened_view}
 use Rattle.bh_port.proofs.script.open.Given as goal

@@ -1,7 +1,9 @@
-use Rattle.std.proofs.Common.{◌≡◌, ◌<◌, ◌≤◌, length, sym, ◌∙◌, subst, arith}
+use Rattle.std.proofs.Common.{◌≡◌, ◌≤◌, length, sym, ◌∙◌, subst, arith}
 use Rattle.bh_base.specs.Runs.{View}
 use Rattle.bh_core.specs.GroupView.{GroupView, group_view, view_in}
 use Rattle.bh_core.specs.Stepping.{released_view}
+use Rattle.bh_core.proofs.Commands.{have_buckets}
+use Rattle.bh_core.proofs.Counting.{HaveBuckets}
 use Rattle.bh_core.proofs.Own.{view_released}
 use Rattle.bh_core.proofs.Stepping.{replied, stepped}
 use Rattle.bh_core.proofs.Steady.{stays_steady}
@@ -31,7 +33,7 @@ returns-clause-steady c =
     let ready = c.self.invariant in
     let has = c.requires.has in
     let v : View = view_in ts c.args.self.now in
-    let some : 0 < v.present.props.command.buckets = rw (← c.self.view_is) ready.served.buckets in
+    let some : HaveBuckets v.pasts = rw (← c.self.view_is) (have_buckets c.self.inside.latest c.self.inside.commands.items ready.commands) in
     let few : length v.present.tickets ≤ 4096 = rw (← c.self.view_is) (omega (arith, (rw (← c.self.view_is) at has.few), ready.served.slots)) in
     let ended : view_in vs c.act-reply.new.self ≡ released_view (view_in us c.act-reply.new.self) = subst (λ (g : GroupView). view_in vs g ≡ released_view (view_in us g)) c.self-2.view_is (view_released us vs (group_view c.self-2.inside) c.release.ensures.items c.release.ensures.left.next) in
     stays_steady v (view_in ts c.begin.new.self) (view_in us c.act-reply.new.self) (view_in vs c.act-reply.new.self) c.args.op.now c.args.now c.act-reply.result (sym c.is_known.ensures ∙ c.if-not-is_known.false) some few c.requires.steady (c.begin.ensures.begins ts) (c.begin.ensures.bounded ts has c.requires.steady) c.act-reply.ensures.done ended

@@ -18,7 +18,7 @@ pub fall_back-requires-clause-known : goal.fall_back-requires-clause-known
 fall_back-requires-clause-known c =
     let g = c.self.inside in
     let bounded : IsBounded (view_in c.args.tickets.now (group_view g)) = rw (← c.self.view_is) at c.requires.bounded in
-    known_found (group_at c.args.tickets.now g.number) c.in-Some.slot (is_held_at c.args.serial) c.get-ticket.result.now g.props bounded.known c.in-Some.ensures.found c.get-ticket.ensures
+    rw (← c.self.view_is) (known_found (group_at c.args.tickets.now g.number) c.in-Some.slot (is_held_at c.args.serial) c.get-ticket.result.now g.props bounded.known c.in-Some.ensures.found c.get-ticket.ensures)
 
 pub returns-in-NeedsFallback-clause-done : goal.returns-in-NeedsFallback-clause-done
 returns-in-NeedsFallback-clause-done c =

@@ -1,4 +1,6 @@
-use Rattle.std.proofs.Common.{◌<◌}
+use Rattle.std.proofs.Common.{◌≡◌, ◌<◌, sym, ap, ◌∙◌, arith}
+use Rattle.bh_base.specs.declared.props.CommandProps.{CommandProps}
+use Rattle.bh_base.specs.Commands.{props_of}
 use Rattle.bh_base.specs.declared.reply.Reply.TheVariants as reply
 use Rattle.bh_base.specs.declared.ticket.TicketState.TheVariants as ticket
 use Rattle.bh_base.specs.Machine.{changed, collected_in, in_fallback_count}
@@ -14,8 +16,8 @@ use Rattle.bh_tickets.specs.TicketsView.{group_at}
 pub answer_holder-requires-clause-held : goal.answer_holder-requires-clause-held
 answer_holder-requires-clause-held c = held_first (group_at c.args.tickets.now c.self.inside.number) c.args.serial c.args.slot (rw (← c.self.view_is) at c.requires.held)
 
-pub answer_holder-requires-then-in_fallback_count-self-clause-held : goal.answer_holder-requires-then-in_fallback_count-self-clause-held
-answer_holder-requires-then-in_fallback_count-self-clause-held c = held_first (group_at c.args.tickets.now c.self.inside.number) c.args.serial c.args.slot (rw (← c.self.view_is) at c.requires.held)
+pub answer_holder-requires-then-in_fallback_count-own-clause-held : goal.answer_holder-requires-then-in_fallback_count-own-clause-held
+answer_holder-requires-then-in_fallback_count-own-clause-held c = held_first (group_at c.args.tickets.now c.self.inside.number) c.args.serial c.args.slot (rw (← c.self.view_is) at c.requires.held)
 
 pub returns-clause-done : goal.returns-clause-done
 returns-clause-done c =
@@ -24,7 +26,8 @@ returns-clause-done c =
     let g = group_view c.self.inside in
     let n = c.args.serial in
     let v : View = view_in ts g in
-    let free : in_fallback_count c.args.command v.present < v.present.props.command.fallback_permits = rw c.in_fallback_count.ensures at c.if-in_fallback_count-self.false in
+    let own : c.command-own.result.now ≡ props_of c.args.command g.props = c.command-own.ensures in
+    let free : in_fallback_count c.args.command v.present < (props_of c.args.command v.present.props).fallback_permits = omega (arith, c.in_fallback_count.ensures, c.if-in_fallback_count-own.false, ap (λ (p : CommandProps). p.fallback_permits) own) in
     rw (← c.self.view_is) (done_quiet v (collected_in (ticket.NeedsFallback c.args.cause) c.args.command n v.present) (reply.RunFallback c.args.cause) (changed (is_held_at n) (fallback_started c.args.cause) v.present) (view_in us g)
-    (fall_runs v.present c.args.command n c.args.cause c.if-not-self.false free)
+    (fall_runs v.present c.args.command n c.args.cause (ap (λ (p : CommandProps). p.fallback_on) (sym own) ∙ c.if-not-own.false) free)
     (view_changed ts us g (is_held_at n) (fallback_started c.args.cause) (c.start_fallback.ensures.items (is_held_at n) (rw (← c.self.view_is) at c.requires.held)) c.start_fallback.ensures.left.next))

@@ -1,7 +1,7 @@
 use Rattle.std.proofs.Common.{◌≡◌, ◌++◌, List, ℕ}
 use Rattle.std.specs.List.{flat_map}
 use Rattle.std.specs.Fmt.{HasWritten, IsPlainFormatter}
-use Rattle.bh_base.specs.declared.props.GroupProps.{GroupProps}
+use Rattle.bh_base.specs.Props.{GroupProps}
 use Rattle.bh_props.specs.Printed.{group_lines}
 use Rattle.bh_props.proofs.print.SettingsDisplay.fmt.Given as goal
 
