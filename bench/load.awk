@@ -1,13 +1,15 @@
 # Prints so many lines, the steps of so many groups in turn. A group's requests run one after the other; every eighth
-# fails and is answered by its fallback, and every tenth is followed by a reading of the metrics.
+# fails and is answered by its fallback, and every tenth is followed by a reading of the metrics. The requests are of the
+# commands of a group in turn.
 #
-#   awk -v GROUPS=16 -v LINES=1000000 -f load.awk
+#   awk -v GROUPS=16 -v COMMANDS=1 -v LINES=1000000 -f load.awk
 
-# The step of every group, until there are enough lines.
-function step(op, rest) {
+# The step of every group, of a command other than its own one where `further` is above 0, until there are enough lines.
+function step(op, rest, further,    command) {
     now += 10
     for (group = 1; group <= GROUPS && printed < LINES; group++) {
-        printf("{\"op\":\"%s\",\"group\":\"group-%d\",\"now\":%d%s}\n", op, group, now, rest)
+        command = further ? sprintf(",\"command\":\"group-%d-%d\"", group, further) : ""
+        printf("{\"op\":\"%s\",\"group\":\"group-%d\",\"now\":%d%s%s}\n", op, group, now, command, rest)
         printed++
     }
 }
@@ -15,7 +17,8 @@ function step(op, rest) {
 BEGIN {
     for (ticket = 1; printed < LINES; ticket++) {
         number = ",\"ticket\":" ticket
-        step("submit", ",\"arg\":\"order " ticket "\"")
+        further = (ticket - 1) % COMMANDS
+        step("submit", ",\"arg\":\"order " ticket "\"", further)
         step("start", "")
         if (ticket % 8 == 0) {
             step("fail", number ",\"bad\":false")
@@ -26,7 +29,7 @@ BEGIN {
         }
         step("collect", number)
         if (ticket % 10 == 0) {
-            step("read", "")
+            step("read", "", further)
         }
     }
 }

@@ -13,6 +13,17 @@ list_groups() {
     }'
 }
 
+# Prints the further commands of so many groups, each of which has so many commands with its own one.
+list_commands() {
+    awk -v GROUPS="$1" -v COMMANDS="$2" 'BEGIN {
+        for (group = 1; group <= GROUPS; group++) {
+            for (command = 1; command < COMMANDS; command++) {
+                printf("service.command.group-%d-%d.group = \"group-%d\"\n", group, command, group)
+            }
+        }
+    }'
+}
+
 # The least milliseconds of processor time of the runs over the lines of a file, each of which has to be answered. A run
 # has ten minutes.
 best() {

@@ -30,7 +30,7 @@ extern "C" {
 
 /* The version of this interface. A program that was compiled with this file may use a library whose bulkhead_version
  * answers the same number. */
-#define BULKHEAD_VERSION 1u
+#define BULKHEAD_VERSION 2u
 
 /* What a call comes to. */
 #define BULKHEAD_DONE 0u              /* the call did what it is for */
@@ -42,6 +42,7 @@ extern "C" {
 #define BULKHEAD_NOT_TEXT 6u          /* a text is not UTF-8 */
 #define BULKHEAD_TOO_LONG 7u          /* a text of a step is longer than it may be */
 #define BULKHEAD_NO_SUCH_OPERATION 8u /* no operation has the number */
+#define BULKHEAD_NO_SUCH_COMMAND 9u   /* no command of the group has the name */
 
 /* What a program holds of a service. Begin with {0}, let bulkhead_open fill it, and neither read nor write nor copy it:
  * it is open from then until bulkhead_close, and every call below but bulkhead_open wants one that is open. */
@@ -50,8 +51,8 @@ typedef struct bulkhead_service {
 } bulkhead_service;
 
 /* What a step does, for `operation` of a step. In brackets the fields that count beside `group` and `moment`. */
-#define BULKHEAD_SUBMIT 1u            /* asks for a run [text: the argument] */
-#define BULKHEAD_SUBMIT_SHARED 2u     /* the same, and may share the answer [context, key, text] */
+#define BULKHEAD_SUBMIT 1u            /* asks for a run [command; text: the argument] */
+#define BULKHEAD_SUBMIT_SHARED 2u     /* the same, and may share the answer [command, context, key, text] */
 #define BULKHEAD_START 3u             /* a worker asks for a run to do */
 #define BULKHEAD_FINISH 4u            /* the run of a ticket gave a body [ticket, text: the body] */
 #define BULKHEAD_FAIL 5u              /* the run of a ticket failed [ticket] */
@@ -62,7 +63,7 @@ typedef struct bulkhead_service {
 #define BULKHEAD_FALLBACK_FAILURE 10u /* the fallback of a ticket failed [ticket] */
 #define BULKHEAD_FALLBACK_MISSING 11u /* the ticket has no fallback [ticket] */
 #define BULKHEAD_CLOSE_CONTEXT 12u    /* ends a request context [context] */
-#define BULKHEAD_READ 13u             /* asks for the metrics of the group */
+#define BULKHEAD_READ 13u             /* asks for the metrics of a command [command] */
 
 /* A step. Texts are UTF-8 and have no zero at their end; a text may have zeros in it. */
 typedef struct bulkhead_step {
@@ -75,6 +76,7 @@ typedef struct bulkhead_step {
     uint32_t text_length; /* 0 to 64 of an argument, 0 to 256 of a body */
     uint8_t key[32];
     uint8_t text[256];
+    uint8_t command;      /* the number of a command of the group; 0 is the group's own one */
 } bulkhead_step;
 
 /* Which reply it is, for `kind` of a reply. In brackets the fields that are written beside `kind`. */
@@ -83,7 +85,7 @@ typedef struct bulkhead_step {
 #define BULKHEAD_FALLBACK_DUE 3u     /* the ticket needs a fallback [number: the ticket; cause] */
 #define BULKHEAD_JOINED 4u           /* the request shares the answer of a ticket [number: the ticket] */
 #define BULKHEAD_GROUP_FULL 5u       /* no slot is free, and no ticket was made */
-#define BULKHEAD_ASSIGNED 6u         /* the worker is to run the ticket [number: the ticket; text: the argument] */
+#define BULKHEAD_ASSIGNED 6u         /* the worker is to run the ticket [number: the ticket; command; text: the argument] */
 #define BULKHEAD_IDLE 7u             /* there is nothing to run, or no worker is free */
 #define BULKHEAD_OK 8u               /* the end was taken */
 #define BULKHEAD_LATE 9u             /* the run had timed out, and its end counts for nothing */
@@ -98,7 +100,7 @@ typedef struct bulkhead_step {
 #define BULKHEAD_NO_TICKET 18u       /* nobody holds such a ticket */
 #define BULKHEAD_NOT_IN_FALLBACK 19u /* no fallback of the ticket is under way */
 #define BULKHEAD_CLOSED 20u          /* tickets are cached no longer [number: how many] */
-#define BULKHEAD_METRICS 21u         /* the metrics of the group [metrics] */
+#define BULKHEAD_METRICS 21u         /* the metrics of the command [metrics] */
 #define BULKHEAD_WORN 22u            /* the group has done all the steps that it may; nothing changed */
 #define BULKHEAD_NO_GROUP 23u        /* no group has the number; nothing changed */
 #define BULKHEAD_NO_COMMAND 24u      /* the group has no such command; nothing changed */
@@ -121,7 +123,7 @@ typedef struct bulkhead_step {
 #define BULKHEAD_CIRCUIT_OPEN 2u
 #define BULKHEAD_CIRCUIT_HALF_OPEN 3u
 
-/* The metrics of a group at the moment of the step. */
+/* The metrics of a command at the moment of the step. */
 typedef struct bulkhead_metrics {
     uint64_t circuit; /* BULKHEAD_CIRCUIT_CLOSED and so on */
     uint64_t errors;  /* runs in the window that failed, timed out or were rejected, since the circuit last closed */
@@ -129,7 +131,7 @@ typedef struct bulkhead_metrics {
     uint64_t percent; /* the errors of a hundred runs, rounded down */
     uint64_t busy;    /* runs that a worker or a permit is at */
     uint64_t queued;  /* tickets that wait for a worker */
-    uint64_t free;    /* slots for further tickets */
+    uint64_t free;    /* slots of the group for further tickets */
     /* the events of the rolling window, by kind */
     uint64_t bad_request;
     uint64_t exception_thrown;
@@ -153,6 +155,7 @@ typedef struct bulkhead_reply {
     uint32_t fallback;    /* BULKHEAD_FALLBACK_FAILED and so on */
     uint32_t text_length; /* 0 to 256 */
     uint64_t number;      /* a ticket, or how many there were */
+    uint64_t command;     /* the number of a command of the group; 0 is the group's own one */
     uint8_t text[256];    /* UTF-8, with no zero at its end */
     bulkhead_metrics metrics;
 } bulkhead_reply;
@@ -179,6 +182,13 @@ void bulkhead_close(bulkhead_service *service);
  *
  * BULKHEAD_NO_SUCH_GROUP; BULKHEAD_NOT_TEXT. */
 uint32_t bulkhead_group(bulkhead_service *service, const uint8_t *name, size_t name_length, uint64_t *number);
+
+/* Writes the number of the command of the name in the group of the number to `number`. The name of the group is that of
+ * its own command, number 0.
+ *
+ * BULKHEAD_NO_SUCH_COMMAND, also where there is no such group; BULKHEAD_NOT_TEXT. */
+uint32_t bulkhead_command(bulkhead_service *service, uint64_t group, const uint8_t *name, size_t name_length,
+                          uint8_t *number);
 
 /* Makes a step and writes its reply. It takes no memory, and cannot be refused for want of it.
  *

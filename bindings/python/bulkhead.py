@@ -12,7 +12,7 @@ import os
 from ctypes import POINTER, byref, c_char_p, c_size_t, c_uint8, c_uint32, c_uint64, c_void_p
 from threading import get_ident
 
-VERSION = 1
+VERSION = 2
 ANSWER_ROOM = 2048
 
 OPERATIONS = (
@@ -83,6 +83,10 @@ class NoSuchGroup(Error):
     """No group has the name."""
 
 
+class NoSuchCommand(Error):
+    """No command of the group has the name."""
+
+
 class BadStep(Error):
     """No operation has the name, or a text is not UTF-8 or too long."""
 
@@ -96,6 +100,7 @@ ERRORS = {
     6: (BadStep, "a text is not UTF-8"),
     7: (BadStep, "a text is too long"),
     8: (BadStep, "no operation has the number"),
+    9: (NoSuchCommand, "no command of the group has the name"),
 }
 
 METRICS = (
@@ -137,6 +142,7 @@ class _Step(ctypes.Structure):
         ("text_length", c_uint32),
         ("key", c_uint8 * 32),
         ("text", c_uint8 * 256),
+        ("command", c_uint8),
     ]
 
 
@@ -151,6 +157,7 @@ class _Reply(ctypes.Structure):
         ("fallback", c_uint32),
         ("text_length", c_uint32),
         ("number", c_uint64),
+        ("command", c_uint64),
         ("text", c_uint8 * 256),
         ("metrics", _Metrics),
     ]
@@ -163,6 +170,7 @@ def _load(path):
         "open": [POINTER(_Held), c_char_p, c_size_t, POINTER(c_uint8), c_size_t, POINTER(c_size_t)],
         "close": [POINTER(_Held)],
         "group": [POINTER(_Held), c_char_p, c_size_t, POINTER(c_uint64)],
+        "command": [POINTER(_Held), c_uint64, c_char_p, c_size_t, POINTER(c_uint8)],
         "make_step": [POINTER(_Held), POINTER(_Step), POINTER(_Reply)],
         "line": [POINTER(_Held), c_char_p, c_size_t, POINTER(c_uint8), c_size_t, POINTER(c_size_t)],
         "check": [POINTER(_Held), POINTER(c_uint8), c_size_t, POINTER(c_size_t)],
@@ -187,13 +195,16 @@ def _raise_unless_done(code):
 
 
 class Reply:
-    """A reply: its kind, and of number, cause, fallback, text and metrics those that the kind has; the others are None."""
+    """A reply: its kind, and of number, command, cause, fallback, text and metrics those that the kind has; the others
+    are None."""
 
     def __init__(self, told):
         self.kind = KINDS[told.kind - 1]
-        self.number = self.cause = self.fallback = self.text = self.metrics = None
+        self.number = self.command = self.cause = self.fallback = self.text = self.metrics = None
         if self.kind in ("queued", "inline", "fallback-due", "joined", "assigned", "expired", "closed"):
             self.number = told.number
+        if self.kind == "assigned":
+            self.command = told.command
         if self.kind in ("fallback-due", "run-fallback", "fallback-value", "error"):
             self.cause = CAUSES[told.cause - 1]
         if self.kind == "error":
@@ -248,12 +259,20 @@ class Service:
         _raise_unless_done(_library.bulkhead_group(self._open(), name, len(name), byref(number)))
         return number.value
 
-    def step(self, operation, group, now, ticket=0, text="", context=0, key=""):
-        """Makes a step of a group, which is named or given by its number, and gives its Reply."""
+    def command(self, group, name):
+        """The number of the command of the name in the group of the number."""
+        number, name = c_uint8(), name.encode()
+        _raise_unless_done(_library.bulkhead_command(self._open(), group, name, len(name), byref(number)))
+        return number.value
+
+    def step(self, operation, group, now, ticket=0, text="", context=0, key="", command=0):
+        """Makes a step of a group and, where it is a submit or a read, of a command, each of which is named or given by
+        its number, and gives its Reply."""
         if operation not in NUMBERED:
             raise BadStep(f"no operation is called {operation}")
         number = self.group(group) if isinstance(group, str) else group
         given = _Step(number, now, ticket, context, NUMBERED[operation])
+        given.command = self.command(number, command) if isinstance(command, str) else command
         key, text = key.encode(), text.encode()
         if len(key) > 32 or len(text) > 256:
             raise BadStep("a text is too long")

@@ -1,5 +1,5 @@
 #!/usr/bin/env python3
-"""A service of two groups: steps, a line, and settings that are refused.
+"""A service of two groups, one of which has two commands: steps, a line, and settings that are refused.
 
 bindings/build.sh && bindings/python/example.py
 """
@@ -8,6 +8,7 @@ from bulkhead import Refused, Service
 
 SETTINGS = b"""
 service.groups = ["catalog", "payment"]
+service.command.refund.group = "payment"
 hystrix.threadpool.payment.coreSize = 1
 """
 
@@ -16,6 +17,8 @@ with Service(SETTINGS) as service:
     print(service.step("start", group="payment", now=1))
     print(service.step("finish", group="payment", now=20, ticket=ticket, text="paid"))
     print(service.step("collect", group="payment", now=20, ticket=ticket))
+    print(service.step("submit", group="payment", now=25, command="refund", text="order 2"))
+    print(service.step("start", group="payment", now=26))
     print(service.line(b'{"op":"submit","group":"catalog","now":30,"arg":"item 7"}').decode(), end="")
 
 try:

@@ -8,7 +8,7 @@ use Rattle.bh_port.specs.Script.{GroupsShow}
 use Rattle.bh_port.specs.Text.{names_in, answer_to, steps_with}
 use Rattle.bh_props.specs.SettingsView.{SettingsView}
 use Rattle.bh_c.specs.declared.outcome.Outcome.{Outcome}
-use Rattle.bh_c.specs.declared.outcome.Outcome.TheVariants.{Done, Refused, NoMemory, NoRoom, BadLine, NoSuchGroup, NotText, TooLong, NoSuchOperation}
+use Rattle.bh_c.specs.declared.outcome.Outcome.TheVariants.{Done, Refused, NoMemory, NoRoom, BadLine, NoSuchGroup, NotText, TooLong, NoSuchOperation, NoSuchCommand}
 use Rattle.bh_c.specs.Buffers.{IsWritten}
 use Rattle.bh_c.specs.Calls.{LineTold, DoesStep, WritesReply, FaultWritten}
 use Rattle.bh_c.specs.Lines.{line_text}
@@ -16,12 +16,12 @@ use Rattle.bh_c.specs.Lines.{line_text}
 module _ (service : SettingsView) (line : List ℕ) (was is : CoreView) (old new : List ℕ) (needed : ℕ) (text : line_text line ≡ Some line) where
   -- of a line that says a step
   pub line-step : (step : Step) → line_step (names_in service) line ≡ Ok step → step.group.0 < length service.groups
-      → DoesStep step was is → WritesReply step was old new needed → LineTold service line was is old new needed Done
+      → DoesStep service step was is → WritesReply service step was old new needed → LineTold service line was is old new needed Done
   line-step step says inside does writes = (
     text,
     λ before agrees. record {
-      answer = subst (λ said. IsWritten (answer_to service before said) old new needed) (sym says) (writes service before inside agrees);
-      agrees = subst (λ said. GroupsShow service is (steps_with before said)) (sym says) (does service before agrees);
+      answer = subst (λ said. IsWritten (answer_to service before said) old new needed) (sym says) (writes before inside agrees);
+      agrees = subst (λ said. GroupsShow service is (steps_with before said)) (sym says) (does before agrees);
     },
   )
 
@@ -43,3 +43,4 @@ module _ (service : SettingsView) (line : List ℕ) (was is : CoreView) (old new
   line-fault fault NotText says same done = absurd done
   line-fault fault TooLong says same done = absurd done
   line-fault fault NoSuchOperation says same done = absurd done
+  line-fault fault NoSuchCommand says same done = absurd done

@@ -6,10 +6,9 @@ use Rattle.bh_core.specs.CoreView.{CoreView}
 use Rattle.bh_core.specs.Step.{IsStep}
 use Rattle.bh_lines.specs.declared.fault.Fault.{Fault}
 use Rattle.bh_lines.specs.FaultLine.{fault_line}
-use Rattle.bh_lines.specs.ReplyLine.{reply_line}
 use Rattle.bh_lines.specs.StepLine.{line_step}
 use Rattle.bh_port.specs.Script.{GroupsShow}
-use Rattle.bh_port.specs.Text.{names_in, reply_to, answer_to, steps_with}
+use Rattle.bh_port.specs.Text.{names_in, reply_to, told_line, answer_to, steps_with}
 use Rattle.bh_props.specs.SettingsView.{SettingsView}
 use Rattle.bh_c.specs.declared.outcome.Outcome.{Outcome}
 use Rattle.bh_c.specs.declared.outcome.Outcome.TheVariants.{Done, NoMemory, NoRoom, BadLine}
@@ -23,10 +22,10 @@ abbrev pub StepTold : Result Step Outcome → CoreView → CoreView → ToldRepl
 StepTold (Ok step) was is old new outcome = (outcome ≡ Done) × ((reply : Reply) × IsStep was step reply is × (new ≡ shown reply old))
 StepTold (Err refusal) was is old new outcome = (outcome ≡ refusal) × (is ≡ was) × (new ≡ old)
 
--- the number of a group was told, or why there is none
-abbrev pub GroupTold : Result ℕ Outcome → ℕ → ℕ → Outcome → Type 0
-GroupTold (Ok number) old new outcome = (outcome ≡ Done) × (new ≡ number)
-GroupTold (Err refusal) old new outcome = (outcome ≡ refusal) × (new ≡ old)
+-- the number of a group or a command was told, or why there is none
+abbrev pub NumberTold : Result ℕ Outcome → ℕ → ℕ → Outcome → Type 0
+NumberTold (Ok number) old new outcome = (outcome ≡ Done) × (new ≡ number)
+NumberTold (Err refusal) old new outcome = (outcome ≡ refusal) × (new ≡ old)
 
 -- nothing was done
 pub record IsUndone (was is : CoreView) (old new : List ℕ) : Type 0 where
@@ -47,14 +46,14 @@ LineTold service line was is old new needed NoRoom = (length old < 2048) × (nee
 LineTold service line was is old new needed BadLine = (line_text line ≡ None) × IsUndone was is old new
 LineTold service line was is old new needed _ = ⊥
 
--- the groups did the step, in every service
-abbrev pub DoesStep : Step → CoreView → CoreView → Type 0
-DoesStep step was is = (service : SettingsView) (before : List Step) → GroupsShow service was before → GroupsShow service is (before ++ step ∷ [])
+-- the groups did the step, whatever steps they did before
+abbrev pub DoesStep : SettingsView → Step → CoreView → CoreView → Type 0
+DoesStep service step was is = (before : List Step) → GroupsShow service was before → GroupsShow service is (before ++ step ∷ [])
 
--- the line of the reply to the step stands in front of the buffer, in every service
-abbrev pub WritesReply : Step → CoreView → List ℕ → List ℕ → ℕ → Type 0
-WritesReply step was old new needed =
-    (service : SettingsView) (before : List Step) → step.group.0 < length service.groups → GroupsShow service was before → IsWritten (reply_line (reply_to service before step)) old new needed
+-- the line of the reply to the step stands in front of the buffer, whatever steps the groups did before
+abbrev pub WritesReply : SettingsView → Step → CoreView → List ℕ → List ℕ → ℕ → Type 0
+WritesReply service step was old new needed =
+    (before : List Step) → step.group.0 < length service.groups → GroupsShow service was before → IsWritten (told_line service step.group.0 (reply_to service before step)) old new needed
 
 -- the line of a fault was written if it could be
 abbrev pub FaultWritten : Fault → List ℕ → List ℕ → ℕ → Outcome → Type 0

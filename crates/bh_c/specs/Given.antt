@@ -47,15 +47,15 @@ or_not_text bytes = if is_utf8 bytes then Ok bytes else Err NotText
 abbrev pub text_in : ℕ → ℕ → List ℕ → Result (List ℕ) Outcome
 text_in limit count bytes = if nat_le count limit then or_not_text (take count bytes) else Err TooLong
 
--- the operation that the number names; its command is the group's own
+-- the operation that the number names
 abbrev pub op_in : OpNumber → GivenStep → Result Op Outcome
 op_in numbers.Submit s = do
   arg ← text_in 64 s.text_length s.text
-  Ok (op.Submit (record { command = 0; cache = None; arg = arg }))
+  Ok (op.Submit (record { command = s.command; cache = None; arg = arg }))
 op_in numbers.SubmitShared s = do
   key ← text_in 32 s.key_length s.key
   arg ← text_in 64 s.text_length s.text
-  Ok (op.Submit (record { command = 0; cache = Some (s.context, key); arg = arg }))
+  Ok (op.Submit (record { command = s.command; cache = Some (s.context, key); arg = arg }))
 op_in numbers.Start s = Ok op.Start
 op_in numbers.Finish s = do
   body ← text_in 256 s.text_length s.text
@@ -70,7 +70,7 @@ op_in numbers.FallbackValue s = do
 op_in numbers.FallbackFailed s = Ok (op.FallbackDone s.ticket ends.Failure)
 op_in numbers.FallbackMissing s = Ok (op.FallbackDone s.ticket ends.Missing)
 op_in numbers.Close s = Ok (op.Close s.context)
-op_in numbers.Read s = Ok (op.Read 0)
+op_in numbers.Read s = Ok (op.Read s.command)
 
 -- the step of an operation
 abbrev pub step_of : GivenStep → Op → Step

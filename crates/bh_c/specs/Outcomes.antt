@@ -14,3 +14,4 @@ code_of outcomes.NoSuchGroup = 5
 code_of outcomes.NotText = 6
 code_of outcomes.TooLong = 7
 code_of outcomes.NoSuchOperation = 8
+code_of outcomes.NoSuchCommand = 9

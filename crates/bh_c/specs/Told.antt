@@ -77,6 +77,10 @@ kind_shown kind told = record told { kind = kind_number kind }
 abbrev pub number_shown : ReplyKind → ℕ → ToldReply → ToldReply
 number_shown kind number told = record told { kind = kind_number kind; number = number }
 
+-- the ticket of a run and its command
+abbrev pub assigned_shown : ℕ → ℕ → ToldReply → ToldReply
+assigned_shown serial command told = record told { kind = kind_number kinds.Assigned; number = serial; command = command }
+
 -- the answer to a request
 abbrev pub answer_shown : Answer → ToldReply → ToldReply
 answer_shown (answer.Value body) told = body_shown body (kind_shown kinds.Value told)
@@ -91,7 +95,7 @@ shown (reply.Inline serial) told = number_shown kinds.Inline serial told
 shown (reply.FallbackDue serial why) told = record told { kind = kind_number kinds.FallbackDue; number = serial; cause = cause_number why }
 shown (reply.Joined serial) told = number_shown kinds.Joined serial told
 shown reply.GroupFull told = kind_shown kinds.GroupFull told
-shown (reply.Assigned serial command arg) told = body_shown arg (number_shown kinds.Assigned serial told)
+shown (reply.Assigned serial command arg) told = body_shown arg (assigned_shown serial command told)
 shown reply.Idle told = kind_shown kinds.Idle told
 shown reply.Done told = kind_shown kinds.Done told
 shown reply.Late told = kind_shown kinds.Late told

@@ -4,10 +4,10 @@ ghost use Rattle.std.specs.Prelude.{◌≡◌, ◌≢◌, ◌⊎◌, IsSome, IfE
 ghost use Rattle.bh_port.specs.Text.{names_in};
 ghost use Rattle.bh_props.specs.Printed.{lines_of};
 ghost use Rattle.bh_props.specs.Shown.{settings_view};
-ghost use Rattle.bh_c.specs.Calls.{CheckTold, GroupTold, LineTold, StepTold};
+ghost use Rattle.bh_c.specs.Calls.{CheckTold, LineTold, NumberTold, StepTold};
 ghost use Rattle.bh_c.specs.Exports.{Answers, Keeps, OpenTold, Works};
 ghost use Rattle.bh_c.specs.Given.{step_in};
-ghost use Rattle.bh_c.specs.Names.{group_in};
+ghost use Rattle.bh_c.specs.Names.{command_in, group_in};
 ghost use Rattle.bh_props.specs.SettingsFile.{settings_in};
 
 use crate::buffers::put_cut;
@@ -20,12 +20,12 @@ use bh_props::SettingsError;
 use std::alloc::Global;
 
 /// The version of the interface.
-const VERSION: u32 = 1;
+const VERSION: u32 = 2;
 
 /// The version of the interface.
 #[unsafe(no_mangle)]
 pub extern "C" fn bulkhead_version() -> u32
-    ensures { result ≡ 1 }
+    ensures { result ≡ 2 }
 {
     VERSION
 }
@@ -70,10 +70,29 @@ pub extern "C" fn bulkhead_group(
 ) -> u32
     requires { IsSome service.old.held }
     ensures { Answers result (λ outcome. Keeps service.old.held service.new.held (λ held.
-        GroupTold (group_in (names_in (settings_view held.settings)) name.now) number.old number.new outcome)) }
+        NumberTold (group_in (names_in (settings_view held.settings)) name.now) number.old number.new outcome)) }
 {
     let held = take(service, alloc);
     let outcome = held.group(name, number);
+    put(service, held);
+    outcome.code()
+}
+
+/// The number of the command of a name in a group.
+#[unsafe(no_mangle)]
+pub extern "C" fn bulkhead_command(
+    alloc: Global,
+    service: &mut Handle,
+    group: u64,
+    name: &[u8],
+    number: &mut u8,
+) -> u32
+    requires { IsSome service.old.held }
+    ensures { Answers result (λ outcome. Keeps service.old.held service.new.held (λ held.
+        NumberTold (command_in (names_in (settings_view held.settings)) group name.now) number.old number.new outcome)) }
+{
+    let held = take(service, alloc);
+    let outcome = held.command(group, name, number);
     put(service, held);
     outcome.code()
 }

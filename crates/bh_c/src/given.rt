@@ -29,6 +29,8 @@ pub struct GivenStep {
     pub key: [u8; 32],
     /// The argument of a submit, or a body.
     pub text: [u8; 256],
+    /// The number of the command that a submit or a read is of; 0 is the group's own one.
+    pub command: u8,
 }
 
 /// The operations that C can name by a number.

@@ -24,10 +24,12 @@ pub enum Outcome {
     TooLong,
     /// No operation has the number.
     NoSuchOperation,
+    /// No command of the group has the name.
+    NoSuchCommand,
 }
 
 impl Outcome {
-    /// The number that C sees, 0 to 8.
+    /// The number that C sees, 0 to 9.
     pub fn code(self) -> u32
         ensures { result ≡ code_of self }
     {
@@ -41,6 +43,7 @@ impl Outcome {
             Outcome::NotText => 6,
             Outcome::TooLong => 7,
             Outcome::NoSuchOperation => 8,
+            Outcome::NoSuchCommand => 9,
         }
     }
 }

@@ -7,10 +7,10 @@ ghost use Rattle.bh_port.specs.Script.{GroupsShow};
 ghost use Rattle.bh_port.specs.Text.{names_in};
 ghost use Rattle.bh_props.specs.Printed.{lines_of};
 ghost use Rattle.bh_props.specs.Shown.{settings_view};
-ghost use Rattle.bh_c.specs.Calls.{CheckTold, GroupTold, DoesStep, LineTold, StepTold, WritesReply, FaultWritten};
+ghost use Rattle.bh_c.specs.Calls.{CheckTold, NumberTold, DoesStep, LineTold, StepTold, WritesReply, FaultWritten};
 ghost use Rattle.bh_c.specs.Given.{step_in};
 ghost use Rattle.bh_c.specs.Lines.{line_text};
-ghost use Rattle.bh_c.specs.Names.{group_in};
+ghost use Rattle.bh_c.specs.Names.{command_in, group_in};
 ghost use Rattle.bh_props.specs.SettingsFile.{settings_in};
 
 use crate::buffers::{put_front, put_line};
@@ -18,10 +18,11 @@ use crate::given::GivenStep;
 use crate::outcome::Outcome;
 use crate::steps::make_given;
 use crate::told::ToldReply;
-use bh_base::Step;
+use bh_base::{GroupId, Step};
 use bh_core::Core;
 use bh_lines::lines::LINE_LIMIT;
 use bh_lines::{Fault, put_fault, put_reply_within};
+use bh_port::commands::{command_number, told_command};
 use bh_port::script;
 use bh_port::steps::{group_number, line_step};
 use bh_props::{Settings, SettingsError, settings_in};
@@ -65,7 +66,7 @@ impl Service {
 
     /// Tells the number of the group of the name, or says why there is none.
     pub fn group(&self, name: &[u8], number: &mut u64) -> Outcome
-        ensures { GroupTold (group_in (names_in (settings_view self.now.settings)) name.now) number.old number.new result }
+        ensures { NumberTold (group_in (names_in (settings_view self.now.settings)) name.now) number.old number.new result }
     {
         match self.group_number(name) {
             Ok(of_name) => {
@@ -86,6 +87,32 @@ impl Service {
         match group_number(&self.settings.groups, text) {
             Some(number) => Ok(number),
             None => Err(Outcome::NoSuchGroup),
+        }
+    }
+
+    /// Tells the number of the group's command of the name, or says why there is none.
+    pub fn command(&self, group: u64, name: &[u8], number: &mut u8) -> Outcome
+        ensures { NumberTold (command_in (names_in (settings_view self.now.settings)) group name.now) number.old number.new result }
+    {
+        match self.command_number(group, name) {
+            Ok(of_command) => {
+                *number = of_command;
+                Outcome::Done
+            }
+            Err(outcome) => outcome,
+        }
+    }
+
+    /// The number of the group's command of the name, or why there is none.
+    fn command_number(&self, group: u64, name: &[u8]) -> Result<u8, Outcome>
+        ensures { result ≡ command_in (names_in (settings_view self.now.settings)) group name.now }
+    {
+        let Ok(text) = str::from_utf8(name) else {
+            return Err(Outcome::NotText);
+        };
+        match command_number(&self.settings, GroupId(group), text) {
+            Some(number) => Ok(number),
+            None => Err(Outcome::NoSuchCommand),
         }
     }
 
@@ -129,12 +156,14 @@ impl Service {
         requires empty { self.old.answer.items ≡ [] }
         requires room { vec_len self.old.answer + 2048 ≤ vec_capacity self.old.answer }
         requires buffer { 2048 ≤ length buffer.old }
-        ensures step { DoesStep step self.old.core self.new.core }
-        ensures line { WritesReply step self.old.core buffer.old buffer.new needed.new }
+        ensures step { DoesStep (settings_view self.old.settings) step self.old.core self.new.core }
+        ensures line { WritesReply (settings_view self.old.settings) step self.old.core buffer.old buffer.new needed.new }
         ensures settings { self.new.settings ≡ self.old.settings }
     {
+        let group = step.group;
         let reply = self.core.apply(step);
-        put_reply_within(self.alloc, &mut self.answer, &reply);
+        let command = told_command(&self.settings, group, &reply);
+        put_reply_within(self.alloc, &mut self.answer, &reply, command);
         put_line(self.answer.as_slice(), buffer, needed);
     }
 

@@ -113,7 +113,8 @@ fn close(core: &mut Core, given: &GivenStep, told: &mut ToldReply) -> Outcome
 fn read(core: &mut Core, given: &GivenStep, told: &mut ToldReply) -> Outcome
     ensures { StepTold (made_in OpNumber.Read given.now) core.old core.new told.old told.new result }
 {
-    make(core, given, Op::Read { command: 0 }, told)
+    let command = given.command;
+    make(core, given, Op::Read { command }, told)
 }
 
 /// A submit that shares nothing.
@@ -124,7 +125,7 @@ fn submit(core: &mut Core, given: &GivenStep, told: &mut ToldReply) -> Outcome
     match text_in::<64>(&given.text, given.text_length) {
         Ok(arg) => {
             let request = Request {
-                command: 0,
+                command: given.command,
                 cache: None,
                 arg,
             };
@@ -146,7 +147,7 @@ fn submit_shared(core: &mut Core, given: &GivenStep, told: &mut ToldReply) -> Ou
     match text_in::<64>(&given.text, given.text_length) {
         Ok(arg) => {
             let request = Request {
-                command: 0,
+                command: given.command,
                 cache: Some((given.context, key)),
                 arg,
             };

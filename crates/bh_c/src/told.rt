@@ -21,13 +21,15 @@ pub struct ToldReply {
     pub text_length: u32,
     /// The ticket, or how many there were.
     pub number: u64,
+    /// The number of the command of a run that is assigned.
+    pub command: u64,
     /// The argument of a run, or a body.
     pub text: [u8; 256],
-    /// The metrics of the group.
+    /// The metrics of a command.
     pub metrics: ToldMetrics,
 }
 
-/// The metrics of a group.
+/// The metrics of a command.
 #[repr(C)]
 #[derive(Clone, Copy)]
 pub struct ToldMetrics {
@@ -68,8 +70,13 @@ impl ToldReply {
             }
             Reply::Joined(serial) => self.show_number(ReplyKind::Joined, *serial),
             Reply::GroupFull => self.show_kind(ReplyKind::GroupFull),
-            Reply::Assigned { serial, arg, .. } => {
+            Reply::Assigned {
+                serial,
+                command,
+                arg,
+            } => {
                 self.show_number(ReplyKind::Assigned, *serial);
+                self.command = u64::from(*command);
                 self.show_text(arg);
             }
             Reply::Idle => self.show_kind(ReplyKind::Idle),

@@ -91,9 +91,9 @@ fault_line-some : (fault : Fault) → [] ≡ fault_line fault → ⊥
 unfolding fault_line
 fault_line-some fault e = append-some (compact_text (error_data (fault_word fault))) 10 e
 
-reply_line-some : (r : Reply) → [] ≡ reply_line r → ⊥
+reply_line-some : (r : Reply) → [] ≡ reply_line None r → ⊥
 unfolding reply_line
-reply_line-some r e = append-some (compact_text (reply_data r)) 10 e
+reply_line-some r e = append-some (compact_text (reply_data None r)) 10 e
 
 groups_line-some : (names : List (List ℕ)) → [] ≡ groups_line names → ⊥
 unfolding groups_line
@@ -112,8 +112,8 @@ answer_line-some (Err call_errors.NoCommand) e = append-some (compact_text (erro
 
 is_answer-some : (who : Responder) (said : Result ControlLine Fault) → IsAnswer who said [] → ⊥
 is_answer-some who (Err fault) h = fault_line-some fault h
-is_answer-some who (Ok lines.Groups) h = groups_line-some who.names h
-is_answer-some who (Ok (lines.Metrics group)) h = reply_line-some h.0 h.2
+is_answer-some who (Ok lines.Groups) h = groups_line-some who.names.groups h
+is_answer-some who (Ok (lines.Metrics group command)) h = reply_line-some h.0 h.2
 is_answer-some who (Ok (lines.Call group request)) h = answer_line-some h.0 h.2
 is_answer-some who (Ok (lines.Close group context)) h = reply_line-some h.0 h.2
 

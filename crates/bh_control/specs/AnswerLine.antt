@@ -1,5 +1,5 @@
 -- The lines that answer control lines.
-use Rattle.std.specs.Prelude.{◌≡◌, ℕ, List, ◌++◌, Bool, true, false, codes, map, Result, Ok, Err}
+use Rattle.std.specs.Prelude.{◌≡◌, ℕ, List, ◌++◌, Bool, true, false, codes, map, Option, None, Result, Ok, Err}
 use Rattle.serde_json.specs.Data.{Data, object, member, no_members, string, array, Items}
 use Rattle.serde_json.specs.View.{items_of}
 use Rattle.bh_base.specs.declared.step.GroupId.{GroupId}
@@ -10,6 +10,7 @@ use Rattle.bh_base.specs.declared.reply.CallError.TheVariants as call_errors
 use Rattle.bh_base.specs.declared.reply.Reply.{Reply}
 use Rattle.bh_base.specs.declared.reply.Reply.TheVariants as reply
 use Rattle.bh_lines.specs.declared.fault.Fault.{Fault}
+use Rattle.bh_lines.specs.Names.{Names}
 use Rattle.bh_lines.specs.ReplyLine.{text_member, json_line, reply_line}
 use Rattle.bh_lines.specs.FaultLine.{error_data, fault_line}
 use Rattle.bh_control.specs.declared.control_line.ControlLine.{ControlLine}
@@ -30,35 +31,36 @@ groups_line names = json_line (groups_data names)
 
 -- the line of the answer to a call, or of why there is none
 unfoldable pub answer_line : Result Answer CallError → List ℕ
-answer_line (Ok answer) = reply_line (reply.Answered answer)
-answer_line (Err call_errors.GroupFull) = reply_line reply.GroupFull
-answer_line (Err call_errors.Worn) = reply_line reply.Worn
+answer_line (Ok answer) = reply_line None (reply.Answered answer)
+answer_line (Err call_errors.GroupFull) = reply_line None reply.GroupFull
+answer_line (Err call_errors.Worn) = reply_line None reply.Worn
 answer_line (Err call_errors.PassFull) = json_line (error_data (codes "full"))
 answer_line (Err call_errors.Stopped) = json_line (error_data (codes "stopped"))
 answer_line (Err call_errors.Taken) = json_line (error_data (codes "taken"))
 answer_line (Err call_errors.NoGroup) = json_line (error_data (codes "group"))
 answer_line (Err call_errors.NoCommand) = json_line (error_data (codes "command"))
 
--- who answers: the names of the groups, and what each call may give for its arguments
+-- who answers: the names of the groups and commands, and what each call may give for its arguments
 pub record Responder : Type 1 where
-  pub names : List (List ℕ)
-  pub may_show : GroupId → Reply → Type 0
+  pub names : Names
+  pub may_show : GroupId → ℕ → Reply → Type 0
   pub may_answer : GroupId → Request → Result Answer CallError → Type 0
   pub may_close : GroupId → ℕ → Reply → Type 0
 
 -- one who answers so
-abbrev pub responder : List (List ℕ) → (GroupId → Reply → Type 0) → (GroupId → Request → Result Answer CallError → Type 0) → (GroupId → ℕ → Reply → Type 0) → Responder
+abbrev pub responder : Names → (GroupId → ℕ → Reply → Type 0) → (GroupId → Request → Result Answer CallError → Type 0) → (GroupId → ℕ → Reply → Type 0) → Responder
 responder names may_show may_answer may_close = record { names = names; may_show = may_show; may_answer = may_answer; may_close = may_close }
 
--- what a line that says this may be answered: a faulty one by the line of its fault, one for the names by the names,
--- and any other by the line of what the call may give for the group, the request or the context that it says
+-- what a line that says this may be answered: a faulty one by the line of its fault, one for the names by the names of the
+-- groups, and any other by the line of what the call may give for the group and its command, the request or the context
+-- that it says; it assigns no run, so no command is named in it
 abbrev pub IsAnswer : Responder → Result ControlLine Fault → List ℕ → Type 0
 IsAnswer who (Err fault) out = out ≡ fault_line fault
-IsAnswer who (Ok lines.Groups) out = out ≡ groups_line who.names
-IsAnswer who (Ok (lines.Metrics group)) out = (reply : Reply) × who.may_show group reply × (out ≡ reply_line reply)
+IsAnswer who (Ok lines.Groups) out = out ≡ groups_line who.names.groups
+IsAnswer who (Ok (lines.Metrics group command)) out = (reply : Reply) × who.may_show group command reply × (out ≡ reply_line None reply)
 IsAnswer who (Ok (lines.Call group request)) out =
     (answer : Result Answer CallError) × who.may_answer group request answer × (out ≡ answer_line answer)
-IsAnswer who (Ok (lines.Close group context)) out = (reply : Reply) × who.may_close group context reply × (out ≡ reply_line reply)
+IsAnswer who (Ok (lines.Close group context)) out = (reply : Reply) × who.may_close group context reply × (out ≡ reply_line None reply)
 
 -- what a line may be answered
 unfoldable pub Answers : Responder → List ℕ → List ℕ → Type 0
@@ -68,7 +70,7 @@ Answers who bytes out = IsAnswer who (control_line who.names bytes) out
 abbrev pub may_wait : Result ControlLine Fault → Bool
 may_wait (Err fault) = false
 may_wait (Ok lines.Groups) = false
-may_wait (Ok (lines.Metrics group)) = false
+may_wait (Ok (lines.Metrics group command)) = false
 may_wait (Ok (lines.Call group request)) = true
 may_wait (Ok (lines.Close group context)) = false
 

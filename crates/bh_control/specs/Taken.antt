@@ -4,12 +4,13 @@ use Rattle.bh_lines.specs.declared.fault.Fault.{Fault}
 use Rattle.bh_lines.specs.declared.port_error.PortError.{PortError}
 use Rattle.bh_lines.specs.declared.port_error.PortError.TheVariants.{Read, Write, Line, Memory}
 use Rattle.bh_lines.specs.Lines.{line, ended, stopped, cut, has_line}
+use Rattle.bh_lines.specs.Names.{Names}
 use Rattle.bh_lines.specs.Taken.{IsBehindFeed}
 use Rattle.bh_control.specs.declared.control_line.ControlLine.{ControlLine}
 use Rattle.bh_control.specs.ControlLine.{control_line}
 
--- what the next line of `old` asks of the groups with these names, whatever bytes follow, and what is left behind it
-abbrev pub TakesAsked : List (List ℕ) → List ℕ → Result (Option (Result ControlLine Fault)) PortError → List ℕ → Type 0
+-- what the next line of `old` asks of the groups and commands with these names, whatever bytes follow, and what is left behind it
+abbrev pub TakesAsked : Names → List ℕ → Result (Option (Result ControlLine Fault)) PortError → List ℕ → Type 0
 TakesAsked names old (Ok (Some asked)) new =
     (bytes : List ℕ) × (asked ≡ control_line names bytes) × (length new < length old)
     × ((more : List ℕ) → cut (old ++ more) ≡ line bytes (cut (new ++ more))) × IsBehindFeed old new
@@ -20,7 +21,7 @@ TakesAsked names old (Err Read) new = ⊥
 TakesAsked names old (Err Write) new = ⊥
 
 -- what the last line of an input that ends with `rest` asks
-abbrev pub IsLastAsked : List (List ℕ) → List ℕ → Result (Option (Result ControlLine Fault)) PortError → Type 0
+abbrev pub IsLastAsked : Names → List ℕ → Result (Option (Result ControlLine Fault)) PortError → Type 0
 IsLastAsked names rest (Ok (Some asked)) = (bytes : List ℕ) × (asked ≡ control_line names bytes) × (cut rest ≡ line bytes ended)
 IsLastAsked names rest (Ok None) = cut rest ≡ ended
 IsLastAsked names rest (Err Line) = cut rest ≡ stopped

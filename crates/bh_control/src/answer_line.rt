@@ -24,7 +24,7 @@ pub fn put_answer<C: Control>(
     asked: Asked,
     out: &mut Vec<u8>,
 ) -> Result<(), AllocError>
-    requires group { IfOk asked (IsOfGroups (length (C.names control.old))) }
+    requires group { IfOk asked (IsOfGroups (length (C.names control.old).groups)) }
     requires held { may_wait asked ≡ true → out.old.items ≡ [] }
     ensures answer { OnOk result (IsPut (IsAnswer (responder (C.names control.old) C.may_show C.may_answer C.may_close) asked) out.old.items out.new.items) }
     ensures kept { OnErr result (out.new.items ≡ out.old.items) }
@@ -50,7 +50,7 @@ fn put_asked<C: Control>(
     line: ControlLine,
     out: &mut Vec<u8>,
 ) -> Result<(), AllocError>
-    requires group { IsOfGroups (length (C.names control.old)) line }
+    requires group { IsOfGroups (length (C.names control.old).groups) line }
     requires held { may_wait (Ok line) ≡ true → out.old.items ≡ [] }
     ensures answer { OnOk result (IsPut (IsAnswer (responder (C.names control.old) C.may_show C.may_answer C.may_close) (Ok line)) out.old.items out.new.items) }
     ensures kept { OnErr result (out.new.items ≡ out.old.items) }
@@ -58,14 +58,14 @@ fn put_asked<C: Control>(
 {
     match line {
         ControlLine::Groups => put_groups(alloc, control.groups(), out),
-        ControlLine::Metrics { group } => {
-            let reply = control.metrics(group);
-            put_reply(alloc, out, &reply)
+        ControlLine::Metrics { group, command } => {
+            let reply = control.metrics(group, command);
+            put_reply(alloc, out, &reply, None)
         }
         ControlLine::Call { group, request } => put_call(alloc, control, group, request, out),
         ControlLine::Close { group, context } => {
             let reply = control.close(group, context);
-            put_reply(alloc, out, &reply)
+            put_reply(alloc, out, &reply, None)
         }
     }
 }
@@ -78,7 +78,7 @@ fn put_call<C: Control>(
     request: Request,
     out: &mut Vec<u8>,
 ) -> Result<(), AllocError>
-    requires group { group.0 < length (C.names control.old) }
+    requires group { group.0 < length (C.names control.old).groups }
     requires held { out.old.items ≡ [] }
     ensures answer { OnOk result ((answer : Result Answer CallError) × C.may_answer group request answer × (out.new.items ≡ out.old.items ++ answer_line answer)) }
     ensures kept { OnErr result (out.new.items ≡ out.old.items) }
@@ -138,9 +138,9 @@ fn put_answered(
     ensures err { OnErr result (out.new.items ≡ out.old.items) }
 {
     match answer {
-        Ok(answer) => put_reply(alloc, out, &Reply::Answered(answer)),
-        Err(CallError::GroupFull) => put_reply(alloc, out, &Reply::GroupFull),
-        Err(CallError::Worn) => put_reply(alloc, out, &Reply::Worn),
+        Ok(answer) => put_reply(alloc, out, &Reply::Answered(answer), None),
+        Err(CallError::GroupFull) => put_reply(alloc, out, &Reply::GroupFull, None),
+        Err(CallError::Worn) => put_reply(alloc, out, &Reply::Worn, None),
         Err(CallError::PassFull) => put_error(alloc, out, "full"),
         Err(CallError::Stopped) => put_error(alloc, out, "stopped"),
         Err(CallError::Taken) => put_error(alloc, out, "taken"),

@@ -1,25 +1,27 @@
 //! The service that control lines are asked of, as a trait.
 
-ghost use Rattle.std.specs.Prelude.{◌≡◌, ◌<◌, ℕ, List, length, Result, IfSome, option_map};
+ghost use Rattle.std.specs.Prelude.{◌≡◌, ◌<◌, ℕ, length, Result, IfSome, option_map};
 ghost use Rattle.bh_base.specs.declared.step.GroupId.{GroupId};
 ghost use Rattle.bh_base.specs.declared.step.Request.{Request};
 ghost use Rattle.bh_base.specs.declared.reply.Reply.{Reply};
 ghost use Rattle.bh_base.specs.declared.reply.Answer.{Answer};
 ghost use Rattle.bh_base.specs.declared.reply.CallError.{CallError};
+ghost use Rattle.bh_lines.specs.Names.{Names, command_number};
 ghost use Rattle.bh_lines.specs.StepLine.{group_number};
 
 use bh_base::{Answer, CallError, GroupId, Reply, Request, Text};
 
-/// A service that control lines are asked of. A group is meant by its place in `groups`, which no call changes.
+/// A service that control lines are asked of. A group is meant by its place in `groups`, and a command by its number in its
+/// group, 0 for the group's own. No call changes the names of either.
 ///
 /// The type of the control names, whatever its value, what each call may answer for its arguments. A control whose
 /// calls wait keeps the runtime that they wait by.
 pub trait Control {
-    // The names of the groups.
-    ghost names: { Self → List (List ℕ) };
+    // The names of the groups and of their commands.
+    ghost names: { Self → Names };
 
-    // The replies of a group that is asked for the metrics of its own command.
-    ghost may_show: { GroupId → Reply → Type 0 };
+    // The replies of a group that is asked for the metrics of its command of a number.
+    ghost may_show: { GroupId → ℕ → Reply → Type 0 };
 
     // The answers to a request to a group.
     ghost may_answer: { GroupId → Request → Result Answer CallError → Type 0 };
@@ -29,23 +31,27 @@ pub trait Control {
 
     /// The names of the groups, in the order of their numbers.
     fn groups(&self) -> &[Text<32>]
-        ensures { result.now ≡ names self.now };
+        ensures { result.now ≡ (names self.now).groups };
 
-    /// The metrics of the group's own command, or `Worn`.
-    fn metrics(&mut self, group: GroupId) -> Reply
-        requires { group.0 < length (names self.old) }
-        ensures reply { may_show group result }
+    /// The number of the group's command of the name, if it has one: 0 for the name of the group.
+    fn command(&self, group: GroupId, name: &str) -> Option<u8>
+        ensures { result ≡ command_number (names self.now) group.0 name.now };
+
+    /// The metrics of the group's command of the number, or why there are none, as `Worn`.
+    fn metrics(&mut self, group: GroupId, command: u8) -> Reply
+        requires { group.0 < length (names self.old).groups }
+        ensures reply { may_show group command result }
         ensures groups { names self.new ≡ names self.old };
 
     /// The answer to a request to the group, or why there is none.
     fn call(&mut self, group: GroupId, request: Request) -> Result<Answer, CallError>
-        requires { group.0 < length (names self.old) }
+        requires { group.0 < length (names self.old).groups }
         ensures answer { may_answer group request result }
         ensures groups { names self.new ≡ names self.old };
 
     /// Ends the request context in the group: how many tickets are cached no longer, or `Worn`.
     fn close(&mut self, group: GroupId, context: u64) -> Reply
-        requires { group.0 < length (names self.old) }
+        requires { group.0 < length (names self.old).groups }
         ensures reply { may_close group context result }
         ensures groups { names self.new ≡ names self.old };
 
@@ -53,8 +59,8 @@ pub trait Control {
     ///
     /// This goes through the names; a control with an index of them gives a body of its own.
     fn group(&self, name: &str) -> Option<GroupId>
-        ensures number { option_map (λ group. group.0) result ≡ group_number (names self.now) name.now }
-        ensures within { IfSome result (λ group. group.0 < length (names self.now)) }
+        ensures number { option_map (λ group. group.0) result ≡ group_number (names self.now).groups name.now }
+        ensures within { IfSome result (λ group. group.0 < length (names self.now).groups) }
     {
         group_at(self.groups(), name)
     }

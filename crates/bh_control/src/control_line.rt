@@ -1,8 +1,8 @@
 //! Control lines: what each asks, read from a line of JSON.
 
-ghost use Rattle.std.specs.Prelude.{◌≡◌, ◌<◌, length, IfOk};
+ghost use Rattle.std.specs.Prelude.{◌≡◌, ◌<◌, length, option_copied, IfOk};
 ghost use Rattle.bh_lines.specs.Flat.{members_data};
-ghost use Rattle.bh_lines.specs.StepLine.{cache_view};
+ghost use Rattle.bh_lines.specs.StepLine.{cache_view, command_in};
 ghost use Rattle.bh_control.specs.ControlLine.{control_word, request_of, control_line_for, control_line_at, group_named, control_line, IsOfGroups};
 
 use crate::control::Control;
@@ -10,7 +10,7 @@ use bh_base::{GroupId, Request, Text};
 use bh_lines::Fault;
 use bh_lines::flat::FlatObject;
 use bh_lines::members::{Members, value_of};
-use bh_lines::step_line::{cache_of, short_name};
+use bh_lines::step_line::{cache_of, command_of, short_name};
 use json::Scratch;
 use std::alloc::{AllocError, Global};
 
@@ -23,13 +23,14 @@ pub enum ControlWord {
     Close,
 }
 
-/// What a control line asks. A group is meant by its place in the list of groups, from 0.
+/// What a control line asks. A group is meant by its place in the list of groups, from 0, and a command by its number in
+/// its group, 0 for the group's own.
 #[derive(Clone, Copy, Debug, PartialEq, Eq)]
 pub enum ControlLine {
     /// The names of all groups.
     Groups,
-    /// What the group's own command shows of itself.
-    Metrics { group: GroupId },
+    /// What the group's command of the number shows of itself.
+    Metrics { group: GroupId, command: u8 },
     /// The answer to a request.
     Call { group: GroupId, request: Request },
     /// The end of a request context in a group.
@@ -52,7 +53,7 @@ impl ControlLine {
         line: &str,
     ) -> Result<Asked, AllocError>
         ensures asked { IfOk result (λ said. said ≡ control_line (C.names control.now) line.now) }
-        ensures group { IfOk result (λ said. IfOk said (IsOfGroups (length (C.names control.now)))) }
+        ensures group { IfOk result (λ said. IfOk said (IsOfGroups (length (C.names control.now).groups))) }
     {
         if let Some(object) = FlatObject::parse(line, scratch)? {
             return Ok(control_line_at(control, Members::Flat(&object)));
@@ -67,7 +68,7 @@ impl ControlLine {
 /// What the members ask.
 fn control_line_at<C: Control>(control: &C, members: Members<'_>) -> Asked
     ensures asked { result ≡ control_line_at (C.names control.now) (members_data members.entry) }
-    ensures group { IfOk result (IsOfGroups (length (C.names control.now))) }
+    ensures group { IfOk result (IsOfGroups (length (C.names control.now).groups)) }
 {
     let word = members.text("op").ok_or(Fault::Field)?;
     match control_word(word).ok_or(Fault::Op)? {
@@ -94,30 +95,34 @@ fn control_word(word: &str) -> Option<ControlWord>
 /// What a line for metrics asks.
 fn metrics_at<C: Control>(control: &C, members: Members<'_>) -> Asked
     ensures asked { result ≡ control_line_for (C.names control.now) ControlWord.Metrics (members_data members.entry) }
-    ensures group { IfOk result (IsOfGroups (length (C.names control.now))) }
+    ensures group { IfOk result (IsOfGroups (length (C.names control.now).groups)) }
 {
     let name = members.text("group").ok_or(Fault::Field)?;
+    let said = command_of(members)?;
     let group = group_named(control, name)?;
-    Ok(ControlLine::Metrics { group })
+    let command = command_in(control, group, said)?;
+    Ok(ControlLine::Metrics { group, command })
 }
 
 /// What a line for a call asks.
 fn call_at<C: Control>(control: &C, members: Members<'_>) -> Asked
     ensures asked { result ≡ control_line_for (C.names control.now) ControlWord.Call (members_data members.entry) }
-    ensures group { IfOk result (IsOfGroups (length (C.names control.now))) }
+    ensures group { IfOk result (IsOfGroups (length (C.names control.now).groups)) }
 {
     let name = members.text("group").ok_or(Fault::Field)?;
+    let said = command_of(members)?;
     let arg = members.text("arg").ok_or(Fault::Field)?;
     let cache = cache_of(members)?;
     let group = group_named(control, name)?;
-    let request = request_of(cache, arg)?;
+    let command = command_in(control, group, said)?;
+    let request = request_of(command, cache, arg)?;
     Ok(ControlLine::Call { group, request })
 }
 
 /// What a line that closes a context asks.
 fn close_at<C: Control>(control: &C, members: Members<'_>) -> Asked
     ensures asked { result ≡ control_line_for (C.names control.now) ControlWord.Close (members_data members.entry) }
-    ensures group { IfOk result (IsOfGroups (length (C.names control.now))) }
+    ensures group { IfOk result (IsOfGroups (length (C.names control.now).groups)) }
 {
     let name = members.text("group").ok_or(Fault::Field)?;
     let context = members.number("context").ok_or(Fault::Field)?;
@@ -125,13 +130,13 @@ fn close_at<C: Control>(control: &C, members: Members<'_>) -> Asked
     Ok(ControlLine::Close { group, context })
 }
 
-/// The request of the group's own command, unless a text is too long.
-fn request_of(cache: Option<(u64, &str)>, arg: &str) -> Result<Request, Fault>
-    ensures { result ≡ request_of (cache_view cache.entry) arg.now }
+/// The request of the command of this number, unless a text is too long.
+fn request_of(command: u8, cache: Option<(u64, &str)>, arg: &str) -> Result<Request, Fault>
+    ensures { result ≡ request_of command (cache_view cache.entry) arg.now }
 {
     match (short_name(cache), Text::new(arg)) {
         (Ok(cache), Ok(arg)) => Ok(Request {
-            command: 0,
+            command,
             cache,
             arg,
         }),
@@ -142,7 +147,17 @@ fn request_of(cache: Option<(u64, &str)>, arg: &str) -> Result<Request, Fault>
 /// The group of the name.
 fn group_named<C: Control>(control: &C, name: &str) -> Result<GroupId, Fault>
     ensures group { result ≡ group_named (C.names control.now) name.now }
-    ensures within { IfOk result (λ group. group.0 < length (C.names control.now)) }
+    ensures within { IfOk result (λ group. group.0 < length (C.names control.now).groups) }
 {
     control.group(name).ok_or(Fault::Group)
+}
+
+/// The number of the group's command of the name, or of its own command where no name is said.
+fn command_in<C: Control>(control: &C, group: GroupId, said: Option<&str>) -> Result<u8, Fault>
+    ensures { result ≡ command_in (C.names control.now) group.0 (option_copied said.entry) }
+{
+    match said {
+        Some(name) => control.command(group, name).ok_or(Fault::Command),
+        None => Ok(0),
+    }
 }

@@ -57,13 +57,14 @@ impl Received {
         self.bytes.clear();
     }
 
-    /// Takes the line in front, and answers what it asks of the groups of the control, or nothing where none has ended.
+    /// Takes the line in front, and answers what it asks of the groups and commands of the control, or nothing where none
+    /// has ended.
     ///
     /// `Line` comes where the line in front is of over 1,024 bytes, ended or not, or is not UTF-8; `Memory` where memory
     /// is refused. After an error nothing is to be taken.
     pub fn next<C: Control>(&mut self, control: &C) -> Result<Option<Asked>, PortError>
         ensures taken { TakesAsked (C.names control.now) self.old result self.new }
-        ensures group { IfOk result (λ next. IfSome next (λ asked. IfOk asked (IsOfGroups (length (C.names control.now))))) }
+        ensures group { IfOk result (λ next. IfSome next (λ asked. IfOk asked (IsOfGroups (length (C.names control.now).groups)))) }
     {
         let Some(line) = front_line(self.bytes.as_slice())? else {
             return Ok(None);
@@ -81,7 +82,7 @@ impl Received {
     pub fn last<C: Control>(&mut self, control: &C) -> Result<Option<Asked>, PortError>
         requires { has_line self.old ≡ false }
         ensures last { IsLastAsked (C.names control.now) self.old result }
-        ensures group { IfOk result (λ last. IfSome last (λ asked. IfOk asked (IsOfGroups (length (C.names control.now))))) }
+        ensures group { IfOk result (λ last. IfSome last (λ asked. IfOk asked (IsOfGroups (length (C.names control.now).groups)))) }
     {
         let Some(text) = end_line(self.bytes.as_slice())? else {
             return Ok(None);

@@ -1,5 +1,5 @@
 -- The line of a reply is of at most 2,048 bytes.
-use Rattle.std.proofs.Common.{◌+◌, ◌*◌, ◌≤◌, ℕ, ◌==◌, ◌&&◌, true, false, Bool, cond, List, [], ◌∷◌, ◌++◌, length, refl, ap, arith, length-append, Result, Ok, Err, OnOk, IsOk, if◌then◌else◌, decimal}
+use Rattle.std.proofs.Common.{◌+◌, ◌*◌, ◌≤◌, ℕ, ◌==◌, ◌&&◌, true, false, Bool, cond, List, [], ◌∷◌, ◌++◌, length, refl, ap, arith, length-append, Option, Some, None, Result, Ok, Err, OnOk, IsOk, if◌then◌else◌, decimal}
 use Rattle.std.specs.declared.alloc.AllocError.{AllocError}
 use Rattle.json.specs.Token.{Token, key, number}
 use Rattle.json.specs.Print.{escape_byte, escape, print_from, separator, begins, ends, token_text}
@@ -19,8 +19,8 @@ use Rattle.bh_base.specs.declared.reply.Answer.TheVariants as answer
 use Rattle.bh_base.specs.declared.reply.Metrics.{Metrics}
 use Rattle.bh_base.specs.declared.reply.Reply.{Reply}
 use Rattle.bh_base.specs.declared.reply.Reply.TheVariants as reply
-use Rattle.bh_lines.specs.ReplyLine.{cause_word, fallback_word, circuit_word, kind_names, counts_listed, answer_data, metrics_data, reply_data, json_line}
-use Rattle.bh_lines.specs.Bounded.{IsShortAnswer, IsShortReply}
+use Rattle.bh_lines.specs.ReplyLine.{cause_word, fallback_word, circuit_word, kind_names, counts_listed, assigned_data, answer_data, metrics_data, reply_data, json_line}
+use Rattle.bh_lines.specs.Bounded.{IsShortAnswer, IsShortName, IsShortReply}
 use Rattle.bh_lines.specs.Sent.{Sends, data_tokens, counts_tokens, most_room}
 use Rattle.bh_lines.proofs.Sending.{most_room-append, events-sent}
 
@@ -87,30 +87,35 @@ answer-room (answer.FallbackValue c body) short = omega (arith, length-quoted bo
 answer-room (answer.Error c f) short = omega (arith, length-quoted (cause_word c), cause-short c, length-quoted (fallback_word f), fallback-short f)
 answer-room answer.BadRequest short = omega arith
 
--- the object of a reply whose texts are short
-pub reply-room : (r : Reply) → IsShortReply r → most_room (data_tokens (reply_data r)) ≤ 2047
+assigned-room : (ticket : ℕ) (command : Option (List ℕ)) (arg : List ℕ) → length arg ≤ 64 → IsShortName command → most_room (data_tokens (assigned_data ticket command arg)) ≤ 2047
 unfolding escape_byte
-reply-room (reply.Queued serial) short = omega arith
-reply-room (reply.Inline serial) short = omega arith
-reply-room (reply.FallbackDue serial c) short = omega (arith, length-quoted (cause_word c), cause-short c)
-reply-room (reply.Joined serial) short = omega arith
-reply-room reply.GroupFull short = omega arith
-reply-room (reply.Assigned serial command arg) short = omega (arith, length-quoted arg, short)
-reply-room reply.Idle short = omega arith
-reply-room reply.Done short = omega arith
-reply-room reply.Late short = omega arith
-reply-room reply.NotRunning short = omega arith
-reply-room (reply.Expired n) short = omega arith
-reply-room reply.Pending short = omega arith
-reply-room (reply.RunFallback c) short = omega (arith, length-quoted (cause_word c), cause-short c)
-reply-room (reply.Answered a) short = answer-room a short
-reply-room reply.NoTicket short = omega arith
-reply-room reply.NotInFallback short = omega arith
-reply-room (reply.Closed n) short = omega arith
-reply-room (reply.Metrics m) short = metrics-room m
-reply-room reply.Worn short = omega arith
-reply-room reply.NoCommand short = omega arith
-reply-room reply.NoGroup short = omega arith
+assigned-room ticket None arg short named = omega (arith, length-quoted arg, short)
+assigned-room ticket (Some name) arg short named = omega (arith, length-quoted arg, short, length-quoted name, named)
+
+-- the object of a reply whose texts are short
+pub reply-room : (command : Option (List ℕ)) (r : Reply) → IsShortReply command r → most_room (data_tokens (reply_data command r)) ≤ 2047
+unfolding escape_byte
+reply-room command (reply.Queued serial) short = omega arith
+reply-room command (reply.Inline serial) short = omega arith
+reply-room command (reply.FallbackDue serial c) short = omega (arith, length-quoted (cause_word c), cause-short c)
+reply-room command (reply.Joined serial) short = omega arith
+reply-room command reply.GroupFull short = omega arith
+reply-room command (reply.Assigned serial n arg) short = assigned-room serial command arg short.0 short.1
+reply-room command reply.Idle short = omega arith
+reply-room command reply.Done short = omega arith
+reply-room command reply.Late short = omega arith
+reply-room command reply.NotRunning short = omega arith
+reply-room command (reply.Expired n) short = omega arith
+reply-room command reply.Pending short = omega arith
+reply-room command (reply.RunFallback c) short = omega (arith, length-quoted (cause_word c), cause-short c)
+reply-room command (reply.Answered a) short = answer-room a short
+reply-room command reply.NoTicket short = omega arith
+reply-room command reply.NotInFallback short = omega arith
+reply-room command (reply.Closed n) short = omega arith
+reply-room command (reply.Metrics m) short = metrics-room m
+reply-room command reply.Worn short = omega arith
+reply-room command reply.NoCommand short = omega arith
+reply-room command reply.NoGroup short = omega arith
 
 length-comma : (b : Bool) → length {A = ℕ} (cond b (44 ∷ []) []) ≤ 1
 length-comma true = omega arith

@@ -11,6 +11,7 @@ fault_word faults.Syntax = codes "syntax"
 fault_word faults.Field = codes "field"
 fault_word faults.Op = codes "op"
 fault_word faults.Group = codes "group"
+fault_word faults.Command = codes "command"
 fault_word faults.Long = codes "long"
 
 -- the object of a line that says why nothing was done

@@ -1,6 +1,7 @@
 pub mod Bounded
 pub mod Lines
 pub mod Taken
+pub mod Names
 pub mod StepLine
 pub mod ReplyLine
 pub mod Sent

@@ -1,5 +1,5 @@
 -- The lines of replies.
-use Rattle.std.specs.Prelude.{ℕ, List, [], ◌∷◌, ◌++◌, ◌==◌, if◌then◌else◌, codes}
+use Rattle.std.specs.Prelude.{ℕ, List, [], ◌∷◌, ◌++◌, ◌==◌, if◌then◌else◌, codes, Option, Some, None}
 use Rattle.serde_json.specs.Data.{Data, object, member, no_members, Members, string, number, unsigned}
 use Rattle.serde_json.specs.Written.{compact_text}
 use Rattle.bh_base.specs.declared.circuit.CircuitState.{CircuitState}
@@ -109,10 +109,13 @@ abbrev pub fallback_due_data : ℕ → Cause → Data
 fallback_due_data ticket cause =
     object (text_member (codes "cause") (cause_word cause) (text_member (codes "reply") (codes "fallback-due") (number_member (codes "ticket") ticket no_members)))
 
--- the object of a run that a worker is to do
-abbrev pub assigned_data : ℕ → List ℕ → Data
-assigned_data ticket arg =
+-- the object of a run that a worker is to do; the name of its command stands in it where it is a further one
+abbrev pub assigned_data : ℕ → Option (List ℕ) → List ℕ → Data
+assigned_data ticket None arg =
     object (text_member (codes "arg") arg (text_member (codes "reply") (codes "assigned") (number_member (codes "ticket") ticket no_members)))
+assigned_data ticket (Some name) arg =
+    object (text_member (codes "arg") arg (text_member (codes "command") name (
+    text_member (codes "reply") (codes "assigned") (number_member (codes "ticket") ticket no_members))))
 
 -- the object of how many tickets timed out
 abbrev pub expired_data : ℕ → Data
@@ -126,34 +129,35 @@ run_fallback_data cause = object (text_member (codes "cause") (cause_word cause)
 abbrev pub closed_data : ℕ → Data
 closed_data n = object (number_member (codes "released") n (text_member (codes "reply") (codes "closed") no_members))
 
--- the object of a reply, its members in the order of their names
-abbrev pub reply_data : Reply → Data
-reply_data (reply.Queued serial) = numbered (codes "queued") serial
-reply_data (reply.Inline serial) = numbered (codes "inline") serial
-reply_data (reply.FallbackDue serial cause) = fallback_due_data serial cause
-reply_data (reply.Joined serial) = numbered (codes "joined") serial
-reply_data reply.GroupFull = named (codes "group-full")
-reply_data (reply.Assigned serial command arg) = assigned_data serial arg
-reply_data reply.Idle = named (codes "idle")
-reply_data reply.Done = named (codes "done")
-reply_data reply.Late = named (codes "late")
-reply_data reply.NotRunning = named (codes "not-running")
-reply_data (reply.Expired n) = expired_data n
-reply_data reply.Pending = named (codes "pending")
-reply_data (reply.RunFallback cause) = run_fallback_data cause
-reply_data (reply.Answered answer) = answer_data answer
-reply_data reply.NoTicket = named (codes "no-ticket")
-reply_data reply.NotInFallback = named (codes "not-in-fallback")
-reply_data (reply.Closed n) = closed_data n
-reply_data (reply.Metrics metrics) = metrics_data metrics
-reply_data reply.Worn = named (codes "worn")
-reply_data reply.NoCommand = named (codes "no-command")
-reply_data reply.NoGroup = named (codes "no-group")
+-- the object of a reply, its members in the order of their names. The name is that of the further command whose run is
+-- assigned, if it is one; no other reply has it.
+abbrev pub reply_data : Option (List ℕ) → Reply → Data
+reply_data command (reply.Queued serial) = numbered (codes "queued") serial
+reply_data command (reply.Inline serial) = numbered (codes "inline") serial
+reply_data command (reply.FallbackDue serial cause) = fallback_due_data serial cause
+reply_data command (reply.Joined serial) = numbered (codes "joined") serial
+reply_data command reply.GroupFull = named (codes "group-full")
+reply_data command (reply.Assigned serial n arg) = assigned_data serial command arg
+reply_data command reply.Idle = named (codes "idle")
+reply_data command reply.Done = named (codes "done")
+reply_data command reply.Late = named (codes "late")
+reply_data command reply.NotRunning = named (codes "not-running")
+reply_data command (reply.Expired n) = expired_data n
+reply_data command reply.Pending = named (codes "pending")
+reply_data command (reply.RunFallback cause) = run_fallback_data cause
+reply_data command (reply.Answered answer) = answer_data answer
+reply_data command reply.NoTicket = named (codes "no-ticket")
+reply_data command reply.NotInFallback = named (codes "not-in-fallback")
+reply_data command (reply.Closed n) = closed_data n
+reply_data command (reply.Metrics metrics) = metrics_data metrics
+reply_data command reply.Worn = named (codes "worn")
+reply_data command reply.NoCommand = named (codes "no-command")
+reply_data command reply.NoGroup = named (codes "no-group")
 
 -- a line is the compact text and a line feed
 abbrev pub json_line : Data → List ℕ
 json_line d = compact_text d ++ 10 ∷ []
 
 -- the line of a reply
-unfoldable pub reply_line : Reply → List ℕ
-reply_line r = json_line (reply_data r)
+unfoldable pub reply_line : Option (List ℕ) → Reply → List ℕ
+reply_line command r = json_line (reply_data command r)

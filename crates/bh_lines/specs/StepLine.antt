@@ -1,5 +1,5 @@
 -- The step that a line says, or its fault.
-use Rattle.std.specs.Prelude.{ℕ, List, length, codes, Option, Some, None, option_and_then, option_map, Result, Ok, Err, Bool, true, ◌&&◌, nat_le, if◌then◌else◌}
+use Rattle.std.specs.Prelude.{ℕ, List, length, codes, Option, Some, None, option_and_then, option_map, option_copied, Result, Ok, Err, Bool, true, ◌&&◌, nat_le, if◌then◌else◌}
 use Rattle.std.specs.List.{position_from}
 use Rattle.std.specs.Str.{bytes_eq}
 use Rattle.std.specs.Borrow.{Bor}
@@ -20,6 +20,7 @@ use Rattle.bh_lines.specs.declared.step_line.EndLine.TheVariants as end_lines
 use Rattle.bh_lines.specs.declared.step_line.OpLine.{OpLine}
 use Rattle.bh_lines.specs.declared.step_line.OpLine.TheVariants as lines
 use Rattle.bh_lines.specs.declared.step_line.StepLine.{StepLine}
+use Rattle.bh_lines.specs.Names.{Names, command_number}
 
 -- a member that is text
 abbrev pub text_at : List ℕ → Data → Option (List ℕ)
@@ -67,6 +68,13 @@ cache_of (Some c) (Some k) = do
 cache_of (Some c) None = Err faults.Field
 cache_of None (Some k) = Err faults.Field
 
+-- the name of a command, where one is said
+abbrev pub command_of : Option Data → Result (Option (List ℕ)) Fault
+command_of None = Ok None
+command_of (Some c) = do
+  name ← or_fault faults.Field (as_str c)
+  Ok (Some name)
+
 -- how a fallback ended, by its word: the value stands beside a success, and nothing is read beside another end
 abbrev pub fallback_end_of : List ℕ → Data → Result FallbackEnd Fault
 fallback_end_of word d =
@@ -74,7 +82,7 @@ fallback_end_of word d =
     (if bytes_eq word (codes "failure") then Ok ends.Failure else
     (if bytes_eq word (codes "missing") then Ok ends.Missing else Err faults.Field))
 
--- the operation that an object says, with texts of any length; its command is the group's own
+-- the operation that an object says, with texts of any length, as one of the group's own command
 abbrev pub op_at : OpWord → Data → Result Op Fault
 op_at words.Submit d = do
   cache ← cache_of (get (codes "context") d) (get (codes "key") d)
@@ -103,6 +111,19 @@ op_at words.Close d = do
   Ok (op.Close context)
 op_at words.Read d = Ok (op.Read 0)
 
+-- the name of the command that an object says: it counts for a submit and a read alone
+abbrev pub command_at : OpWord → Data → Result (Option (List ℕ)) Fault
+command_at words.Submit d = command_of (get (codes "command") d)
+command_at words.Read d = command_of (get (codes "command") d)
+command_at _ d = Ok None
+
+-- the name of the command, where one is said, and the operation
+abbrev pub op_said : OpWord → Data → Result (Option (List ℕ) × Op) Fault
+op_said word d = do
+  command ← command_at word d
+  o ← op_at word d
+  Ok (command, o)
+
 -- a key is of at most 32 bytes
 abbrev pub is_short_name : Option (ℕ × List ℕ) → Bool
 is_short_name None = true
@@ -120,18 +141,31 @@ is_short (op.Finish ticket body) = nat_le (length body) 256
 is_short (op.FallbackDone ticket end) = is_short_end end
 is_short _ = true
 
--- the operation, unless a text is too long
-abbrev pub if_short : Op → Result Op Fault
-if_short o = if is_short o then Ok o else Err faults.Long
+-- the operation, as one of the command of this number
+abbrev pub of_command : ℕ → Op → Op
+of_command number (op.Submit request) = op.Submit (record request { command = number })
+of_command number (op.Read own) = op.Read number
+of_command number o = o
+
+-- the operation of the command of this number, unless a text is too long
+abbrev pub if_short : ℕ → Op → Result Op Fault
+if_short number o = if is_short o then Ok (of_command number o) else Err faults.Long
 
 -- the number of the group of a name: its place in the list of names, from 0
 abbrev pub group_number : List (List ℕ) → List ℕ → Option ℕ
 group_number names name = position_from (λ n. bytes_eq n name) 0 names
 
--- a step as an object says it: the group by its name, the moment, and the operation with texts of any length
+-- the number of the command of a name in the group, or of the group's own command where no name is said
+abbrev pub command_in : Names → ℕ → Option (List ℕ) → Result ℕ Fault
+command_in names group None = Ok 0
+command_in names group (Some name) = or_fault faults.Command (command_number names group name)
+
+-- a step as an object says it: the group by its name, the moment, the command by its name if one is said, and the
+-- operation with texts of any length, as one of the group's own command
 pub record Said : Type 0 where
   pub group : List ℕ
   pub now : ℕ
+  pub command : Option (List ℕ)
   pub op : Op
 
 -- what an object says, whatever groups there are
@@ -141,24 +175,25 @@ said_at d = do
   kind ← or_fault faults.Op (op_word word)
   group ← or_fault faults.Field (text_at (codes "group") d)
   now ← or_fault faults.Field (number_at (codes "now") d)
-  o ← op_at kind d
-  Ok (record { group = group; now = now; op = o })
+  said ← op_said kind d
+  Ok (record { group = group; now = now; command = said.0; op = said.1 })
 
--- the step that an object says: its group is looked up before its texts are measured
-abbrev pub step_at : List (List ℕ) → Data → Result Step Fault
+-- the step that an object says: its group is looked up before its command, and both before its texts are measured
+abbrev pub step_at : Names → Data → Result Step Fault
 step_at names d = do
   said ← said_at d
-  group ← or_fault faults.Group (group_number names said.group)
-  o ← if_short said.op
+  group ← or_fault faults.Group (group_number names.groups said.group)
+  command ← command_in names group said.command
+  o ← if_short command said.op
   Ok (record { group = record { 0 = group }; now = said.now; op = o })
 
 -- the step that a line says, if it is JSON at all
-abbrev pub step_in : List (List ℕ) → Option Data → Result Step Fault
+abbrev pub step_in : Names → Option Data → Result Step Fault
 step_in names None = Err faults.Syntax
 step_in names (Some d) = step_at names d
 
--- the step that a line says to a service of groups with these names
-unfoldable pub line_step : List (List ℕ) → List ℕ → Result Step Fault
+-- the step that a line says to a service of groups and commands with these names
+unfoldable pub line_step : Names → List ℕ → Result Step Fault
 line_step names bytes = step_in names (read bytes)
 
 -- the context and the key that the code found
@@ -172,9 +207,9 @@ end_view (end_lines.Success body) = ends.Success body.now
 end_view end_lines.Failure = ends.Failure
 end_view end_lines.Missing = ends.Missing
 
--- the operation that the code found
+-- the operation that the code found, as one of the group's own command
 abbrev pub op_view : OpLine → Op
-op_view (lines.Submit cache arg) = op.Submit (record { command = 0; cache = cache_view cache; arg = arg.now })
+op_view (lines.Submit command cache arg) = op.Submit (record { command = 0; cache = cache_view cache; arg = arg.now })
 op_view lines.Start = op.Start
 op_view (lines.Finish ticket body) = op.Finish ticket body.now
 op_view (lines.Fail ticket bad) = op.Fail ticket bad
@@ -182,11 +217,22 @@ op_view lines.Expire = op.Expire
 op_view (lines.Collect ticket) = op.Collect ticket
 op_view (lines.FallbackDone ticket end) = op.FallbackDone ticket (end_view end)
 op_view (lines.Close context) = op.Close context
-op_view lines.Read = op.Read 0
+op_view (lines.Read command) = op.Read 0
 
--- the operation that the code found, or the fault
-abbrev pub found_op : Result OpLine Fault → Result Op Fault
-found_op (Ok o) = Ok (op_view o)
+-- the name of the command that the code found
+abbrev pub command_view : OpLine → Option (List ℕ)
+command_view (lines.Submit command cache arg) = option_copied command
+command_view (lines.Read command) = option_copied command
+command_view _ = None
+
+-- the name of the command that the code found, or the fault
+abbrev pub found_command : Result (Option (Bor (List ℕ))) Fault → Result (Option (List ℕ)) Fault
+found_command (Ok command) = Ok (option_copied command)
+found_command (Err fault) = Err fault
+
+-- the name of the command and the operation that the code found, or the fault
+abbrev pub found_op : Result OpLine Fault → Result (Option (List ℕ) × Op) Fault
+found_op (Ok o) = Ok (command_view o, op_view o)
 found_op (Err fault) = Err fault
 
 -- the context and the key that the code found, or the fault
@@ -201,5 +247,5 @@ found_end (Err fault) = Err fault
 
 -- what the code found that an object says, or the fault
 abbrev pub found_said : Result StepLine Fault → Result Said Fault
-found_said (Ok said) = Ok (record { group = said.group.now; now = said.now; op = op_view said.op })
+found_said (Ok said) = Ok (record { group = said.group.now; now = said.now; command = command_view said.op; op = op_view said.op })
 found_said (Err fault) = Err fault

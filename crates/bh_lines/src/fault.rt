@@ -18,6 +18,8 @@ pub enum Fault {
     Op,
     /// No group has this name.
     Group,
+    /// The group has no command of this name.
+    Command,
     /// An argument of over 64 bytes, a key of over 32 or a body of over 256.
     Long,
 }
@@ -41,6 +43,7 @@ fn fault_word(fault: Fault) -> &'static str
         Fault::Field => "field",
         Fault::Op => "op",
         Fault::Group => "group",
+        Fault::Command => "command",
         Fault::Long => "long",
     }
 }

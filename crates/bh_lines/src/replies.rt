@@ -1,18 +1,18 @@
 //! Replies, each printed as a line of compact JSON with its members in the order of their names.
 
-ghost use Rattle.std.specs.Prelude.{◌≡◌, ◌+◌, ◌≤◌, ◌++◌, ◌∷◌, [], false, map, length, take, IfOk, IsOk, OnErr, OnOk, string_bytes, vec_capacity, vec_len};
+ghost use Rattle.std.specs.Prelude.{◌≡◌, ◌+◌, ◌≤◌, ◌++◌, ◌∷◌, [], false, map, length, take, option_copied, IfOk, IsOk, OnErr, OnOk, string_bytes, vec_capacity, vec_len};
 ghost use Rattle.json.specs.Print.{print};
 ghost use Rattle.serde_json.specs.View.{view};
 ghost use Rattle.serde_json.specs.Written.{has_float};
 ghost use Rattle.bh_lines.specs.ReplyLine.{cause_word, fallback_word, circuit_word, named, numbered, fallback_due_data, assigned_data, expired_data, run_fallback_data, closed_data, value_data, fallback_value_data, error_answer_data, events_data, metrics_data, answer_data, reply_data, json_line, reply_line};
 ghost use Rattle.bh_lines.specs.FaultLine.{error_data};
-ghost use Rattle.bh_lines.specs.Bounded.{IsShortAnswer, IsShortReply};
+ghost use Rattle.bh_lines.specs.Bounded.{IsShortAnswer, IsShortName, IsShortReply};
 ghost use Rattle.bh_lines.specs.Sent.{Sends, data_tokens, counts_tokens};
 
 use crate::writing::{
     Member, begin_object, end_object, write_key, write_members, write_number, write_object,
 };
-use bh_base::{Answer, Cause, CircuitState, Counts, FallbackFault, Metrics, Reply};
+use bh_base::{Answer, Cause, CircuitState, Counts, FallbackFault, Metrics, Reply, Text};
 use json::Writer;
 use serde_json::Value;
 use std::alloc::{AllocError, Global};
@@ -20,35 +20,53 @@ use std::mem;
 
 /// Puts the line of a reply, with its line feed, behind the bytes. It fails only for want of memory, and leaves the bytes
 /// as they were then.
-pub fn put_reply(alloc: Global, bytes: &mut Vec<u8>, reply: &Reply) -> Result<(), AllocError>
-    ensures ok { OnOk result (bytes.new.items ≡ bytes.old.items ++ reply_line reply.now) }
+///
+/// `command` is the name of the further command whose run is assigned: it stands in the line of `Assigned`, and in no
+/// other. `None` is the group's own command, whose name does not stand there.
+pub fn put_reply(
+    alloc: Global,
+    bytes: &mut Vec<u8>,
+    reply: &Reply,
+    command: Option<&Text<32>>,
+) -> Result<(), AllocError>
+    ensures ok { OnOk result (bytes.new.items ≡ bytes.old.items ++ reply_line (option_copied command.entry) reply.now) }
     ensures err { OnErr result (bytes.new.items ≡ bytes.old.items) }
 {
     let start = bytes.len();
-    let written = put_object(alloc, bytes, reply);
+    let written = put_object(alloc, bytes, reply, command);
     end_line(bytes, start, written)
 }
 
 /// Puts the line of a reply, without its line feed, behind the bytes, within the room that is there: this takes no memory
-/// and cannot fail.
-pub fn put_reply_within(alloc: Global, bytes: &mut Vec<u8>, reply: &Reply)
+/// and cannot fail. `command` is as in `put_reply`.
+pub fn put_reply_within(
+    alloc: Global,
+    bytes: &mut Vec<u8>,
+    reply: &Reply,
+    command: Option<&Text<32>>,
+)
     requires { vec_len bytes.old + 2047 ≤ vec_capacity bytes.old }
-    ensures line { bytes.new.items ++ 10 ∷ [] ≡ bytes.old.items ++ reply_line reply.now }
-    ensures length { length (reply_line reply.now) ≤ 2048 }
+    ensures line { bytes.new.items ++ 10 ∷ [] ≡ bytes.old.items ++ reply_line (option_copied command.entry) reply.now }
+    ensures length { length (reply_line (option_copied command.entry) reply.now) ≤ 2048 }
 {
-    put_object(alloc, bytes, reply).unwrap();
+    put_object(alloc, bytes, reply, command).unwrap();
 }
 
 /// Puts the line of a reply, without its line feed, behind the bytes. It fails only for want of memory, and not where there
 /// is room for 2,047 bytes more; some of the line may be there then.
-fn put_object(alloc: Global, bytes: &mut Vec<u8>, reply: &Reply) -> Result<(), AllocError>
-    ensures line { OnOk result (bytes.new.items ++ 10 ∷ [] ≡ bytes.old.items ++ reply_line reply.now) }
-    ensures length { OnOk result (length (reply_line reply.now) ≤ 2048) }
+fn put_object(
+    alloc: Global,
+    bytes: &mut Vec<u8>,
+    reply: &Reply,
+    command: Option<&Text<32>>,
+) -> Result<(), AllocError>
+    ensures line { OnOk result (bytes.new.items ++ 10 ∷ [] ≡ bytes.old.items ++ reply_line (option_copied command.entry) reply.now) }
+    ensures length { OnOk result (length (reply_line (option_copied command.entry) reply.now) ≤ 2048) }
     ensures front { take (length bytes.old.items) bytes.new.items ≡ bytes.old.items }
     ensures room { vec_len bytes.old + 2047 ≤ vec_capacity bytes.old → IsOk result }
 {
     let mut writer = Writer::new(mem::replace(bytes, Vec::new(alloc)));
-    let written = write_reply(&mut writer, reply);
+    let written = write_reply(&mut writer, reply, command);
     *bytes = writer.into_inner();
     written
 }
@@ -98,10 +116,14 @@ pub fn json_line(alloc: Global, value: &Value) -> Result<String, AllocError>
     Ok(line)
 }
 
-/// The object of a reply.
-fn write_reply(writer: &mut Writer, reply: &Reply) -> Result<(), AllocError>
-    ensures sent { Sends result writer.old writer.new (data_tokens (reply_data reply.now)) }
-    ensures short { IsShortReply reply.now }
+/// The object of a reply, with the name of the further command that an `Assigned` is of.
+fn write_reply(
+    writer: &mut Writer,
+    reply: &Reply,
+    command: Option<&Text<32>>,
+) -> Result<(), AllocError>
+    ensures sent { Sends result writer.old writer.new (data_tokens (reply_data (option_copied command.entry) reply.now)) }
+    ensures short { IsShortReply (option_copied command.entry) reply.now }
 {
     match reply {
         Reply::Queued(serial) => write_numbered(writer, "queued", *serial),
@@ -109,7 +131,7 @@ fn write_reply(writer: &mut Writer, reply: &Reply) -> Result<(), AllocError>
         Reply::FallbackDue { serial, cause } => write_fallback_due(writer, *serial, *cause),
         Reply::Joined(serial) => write_numbered(writer, "joined", *serial),
         Reply::GroupFull => write_named(writer, "group-full"),
-        Reply::Assigned { serial, arg, .. } => write_assigned(writer, *serial, arg.as_str()),
+        Reply::Assigned { serial, arg, .. } => write_assigned(writer, *serial, command, arg),
         Reply::Idle => write_named(writer, "idle"),
         Reply::Done => write_named(writer, "done"),
         Reply::Late => write_named(writer, "late"),
@@ -159,12 +181,47 @@ fn write_fallback_due(writer: &mut Writer, ticket: u64, cause: Cause) -> Result<
     write_object(writer, &members)
 }
 
-/// A run that a worker is to do.
-fn write_assigned(writer: &mut Writer, ticket: u64, arg: &str) -> Result<(), AllocError>
-    ensures { Sends result writer.old writer.new (data_tokens (assigned_data ticket arg.now)) }
+/// A run that a worker is to do, of the group's own command or of the further one of the name.
+fn write_assigned(
+    writer: &mut Writer,
+    ticket: u64,
+    command: Option<&Text<32>>,
+    arg: &Text<64>,
+) -> Result<(), AllocError>
+    ensures sent { Sends result writer.old writer.new (data_tokens (assigned_data ticket (option_copied command.entry) arg.now)) }
+    ensures arg { length arg.now ≤ 64 }
+    ensures name { IsShortName (option_copied command.entry) }
+{
+    match command {
+        None => write_own_run(writer, ticket, arg.as_str()),
+        Some(name) => write_run(writer, ticket, name.as_str(), arg.as_str()),
+    }
+}
+
+/// A run of the group's own command, whose name does not stand in it.
+fn write_own_run(writer: &mut Writer, ticket: u64, arg: &str) -> Result<(), AllocError>
+    ensures { Sends result writer.old writer.new (data_tokens (assigned_data ticket None arg.now)) }
 {
     let members = [
         Member::Text("arg", arg),
+        Member::Text("reply", "assigned"),
+        Member::Number("ticket", ticket),
+    ];
+    write_object(writer, &members)
+}
+
+/// A run of the further command of the name.
+fn write_run<'a>(
+    writer: &mut Writer,
+    ticket: u64,
+    name: &'a str,
+    arg: &'a str,
+) -> Result<(), AllocError>
+    ensures { Sends result writer.old writer.new (data_tokens (assigned_data ticket (Some name.now) arg.now)) }
+{
+    let members = [
+        Member::Text("arg", arg),
+        Member::Text("command", name),
         Member::Text("reply", "assigned"),
         Member::Number("ticket", ticket),
     ];

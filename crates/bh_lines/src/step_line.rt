@@ -1,9 +1,9 @@
 //! What the JSON of a line says.
 
-ghost use Rattle.std.specs.Prelude.{◌≡◌, Ok, if◌then◌else◌, Err, codes};
+ghost use Rattle.std.specs.Prelude.{◌≡◌, Ok, if◌then◌else◌, Err, codes, option_copied};
 ghost use Rattle.serde_json.specs.Find.{get};
 ghost use Rattle.bh_lines.specs.Flat.{members_data};
-ghost use Rattle.bh_lines.specs.StepLine.{op_word, cache_of, op_at, if_short, said_at, op_view, cache_view, found_op, found_cache, found_said, is_short_name, fallback_end_of, end_view, found_end, is_short_end};
+ghost use Rattle.bh_lines.specs.StepLine.{op_word, cache_of, command_of, op_said, if_short, said_at, op_view, cache_view, command_view, found_op, found_cache, found_command, found_said, is_short_name, fallback_end_of, end_view, found_end, is_short_end};
 
 use crate::fault::Fault;
 use crate::members::Members;
@@ -35,6 +35,7 @@ pub enum EndLine<'a> {
 #[derive(Clone, Copy, Debug)]
 pub enum OpLine<'a> {
     Submit {
+        command: Option<&'a str>,
         cache: Option<(u64, &'a str)>,
         arg: &'a str,
     },
@@ -58,7 +59,21 @@ pub enum OpLine<'a> {
     Close {
         context: u64,
     },
-    Read,
+    Read {
+        command: Option<&'a str>,
+    },
+}
+
+impl<'a> OpLine<'a> {
+    /// The name of the command that the line says, where it says one: only a submit and a read do.
+    pub fn command(self) -> Option<&'a str>
+        ensures { option_copied result ≡ command_view self.entry }
+    {
+        match self {
+            OpLine::Submit { command, .. } | OpLine::Read { command } => command,
+            _ => None,
+        }
+    }
 }
 
 /// A step as a line says it: its group by name, its moment in milliseconds, and its operation.
@@ -69,8 +84,8 @@ pub struct StepLine<'a> {
     pub op: OpLine<'a>,
 }
 
-/// What the members say, whatever groups there are, with its texts of any length. `Field` comes where there is no
-/// object or a member is missing or of another type, and `Op` where no operation has the name.
+/// What the members say, whatever groups and commands there are, with its texts of any length. `Field` comes where there
+/// is no object or a member is missing or of another type, and `Op` where no operation has the name.
 pub fn said_at(members: Members<'_>) -> Result<StepLine<'_>, Fault>
     ensures { found_said result ≡ said_at (members_data members.entry) }
 {
@@ -102,10 +117,11 @@ fn op_word(word: &str) -> Option<OpWord>
 
 /// The operation of the word, from the members, or `Field` where one is missing or of another type.
 pub fn op_at(word: OpWord, members: Members<'_>) -> Result<OpLine<'_>, Fault>
-    ensures { found_op result ≡ op_at word (members_data members.entry) }
+    ensures { found_op result ≡ op_said word (members_data members.entry) }
 {
     Ok(match word {
         OpWord::Submit => OpLine::Submit {
+            command: command_of(members)?,
             cache: cache_of(members)?,
             arg: members.text("arg").ok_or(Fault::Field)?,
         },
@@ -129,7 +145,9 @@ pub fn op_at(word: OpWord, members: Members<'_>) -> Result<OpLine<'_>, Fault>
         OpWord::Close => OpLine::Close {
             context: members.number("context").ok_or(Fault::Field)?,
         },
-        OpWord::Read => OpLine::Read,
+        OpWord::Read => OpLine::Read {
+            command: command_of(members)?,
+        },
     })
 }
 
@@ -146,6 +164,17 @@ fn fallback_end_of<'a>(word: &str, members: Members<'a>) -> Result<EndLine<'a>, 
         "missing" => Ok(EndLine::Missing),
         _ => Err(Fault::Field),
     }
+}
+
+/// The name of the command that the members say, of any length, where they say one. `Field` comes where it is no text.
+pub fn command_of(members: Members<'_>) -> Result<Option<&str>, Fault>
+    ensures { found_command result ≡ command_of (get (codes "command") (members_data members.entry)) }
+{
+    if !members.has("command") {
+        return Ok(None);
+    }
+    let name = members.text("command").ok_or(Fault::Field)?;
+    Ok(Some(name))
 }
 
 /// The context and the key of a request where they stand, of any length: both or neither. `Field` comes where only one
@@ -165,16 +194,16 @@ pub fn cache_of(members: Members<'_>) -> Result<Option<(u64, &str)>, Fault>
 }
 
 /// The operation with texts that fit, or `Long` where an argument is of over 64 bytes, a key of over 32 or a body of
-/// over 256.
-pub fn if_short(said: OpLine<'_>) -> Result<Op, Fault>
-    ensures { result ≡ if_short (op_view said.entry) }
+/// over 256. A submit and a read are of the command of this number in the group.
+pub fn if_short(command: u8, said: OpLine<'_>) -> Result<Op, Fault>
+    ensures { result ≡ if_short command (op_view said.entry) }
 {
     match said {
-        OpLine::Submit { cache, arg } => {
+        OpLine::Submit { cache, arg, .. } => {
             let cache = short_name(cache)?;
             let arg = Text::new(arg).map_err(|_| Fault::Long)?;
             Ok(Op::Submit(Request {
-                command: 0,
+                command,
                 cache,
                 arg,
             }))
@@ -201,7 +230,7 @@ pub fn if_short(said: OpLine<'_>) -> Result<Op, Fault>
             })
         }
         OpLine::Close { context } => Ok(Op::Close { context }),
-        OpLine::Read => Ok(Op::Read { command: 0 }),
+        OpLine::Read { .. } => Ok(Op::Read { command }),
     }
 }
 

@@ -3,3 +3,4 @@ pub mod OwnSteps
 pub mod Answering
 pub mod AtOnce
 pub mod Running
+pub mod Finding

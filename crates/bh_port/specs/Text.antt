@@ -8,13 +8,14 @@ use Rattle.bh_base.specs.Runs.{State, opened, step, state_after, own}
 use Rattle.bh_props.specs.SettingsView.{SettingsView}
 use Rattle.bh_lines.specs.declared.fault.Fault.{Fault}
 use Rattle.bh_lines.specs.Lines.{Cut, line, ended, stopped}
+use Rattle.bh_lines.specs.Names.{Names, command_name}
 use Rattle.bh_lines.specs.StepLine.{line_step}
 use Rattle.bh_lines.specs.ReplyLine.{reply_line}
 use Rattle.bh_lines.specs.FaultLine.{fault_line}
 
--- the names of the groups, in listed order
-abbrev pub names_in : SettingsView → List (List ℕ)
-names_in service = map (λ group. group.0) service.groups
+-- the names of the groups, in listed order, and those of their further commands
+abbrev pub names_in : SettingsView → Names
+names_in service = record { groups = map (λ group. group.0) service.groups; commands = service.commands }
 
 -- the most steps that a group may do
 abbrev pub most_steps : ℕ
@@ -42,9 +43,18 @@ reply_of service before x (Some group) = (step (group_after service group.1 x.gr
 unfoldable pub reply_to : SettingsView → List Step → Step → Reply
 reply_to service before x = reply_of service before x (slice_get service.groups x.group.0)
 
+-- the name of the further command whose run a reply of the group assigns, if it does
+abbrev pub told_name : SettingsView → ℕ → Reply → Option (List ℕ)
+told_name service group (reply.Assigned serial command arg) = command_name (names_in service) group command
+told_name service group _ = None
+
+-- the line of a reply of the group
+abbrev pub told_line : SettingsView → ℕ → Reply → List ℕ
+told_line service group told = reply_line (told_name service group told) told
+
 -- the line that answers what a line says, after these steps: of the reply to its step, or of its fault
 abbrev pub answer_to : SettingsView → List Step → Result Step Fault → List ℕ
-answer_to service before (Ok x) = reply_line (reply_to service before x)
+answer_to service before (Ok x) = told_line service x.group.0 (reply_to service before x)
 answer_to service before (Err fault) = fault_line fault
 
 -- the steps up to and with a line: a faulty line is no step

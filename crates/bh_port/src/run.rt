@@ -1,19 +1,19 @@
 //! A run of a script: lines are answered as they come, each by the line of the reply to its step or of its fault.
 
-ghost use Rattle.std.specs.Prelude.{◌≡◌, ◌<◌, ◌⊎◌, ◌++◌, ◌∷◌, ℕ, List, [], length, false, Some, Err, OnOk, OnErr, IfErr};
+ghost use Rattle.std.specs.Prelude.{◌≡◌, ◌<◌, ◌⊎◌, ◌++◌, ◌∷◌, ℕ, List, [], length, false, Some, Err, OnOk, OnErr, IfErr, option_copied};
 ghost use Rattle.bh_base.specs.declared.step.Step.{Step};
 ghost use Rattle.bh_props.specs.Shown.{settings_view};
-ghost use Rattle.bh_props.specs.SettingsView.{SettingsView};
 ghost use Rattle.bh_lines.specs.Lines.{cut, has_line};
 ghost use Rattle.bh_lines.specs.Taken.{IsMemoryOrLine};
 ghost use Rattle.bh_lines.specs.FaultLine.{fault_line};
 ghost use Rattle.bh_lines.specs.ReplyLine.{reply_line};
 ghost use Rattle.bh_streams.specs.Watched.{writer_of, bytes_held, OneRefused, NoneRefused};
-ghost use Rattle.bh_port.specs.Text.{reply_to};
+ghost use Rattle.bh_port.specs.Text.{reply_to, told_line};
 ghost use Rattle.bh_port.specs.Script.{GroupsShow, AnswersLine, ScriptAnswered, ScriptOutcome, IsNotRead};
 
+use crate::commands::told_command;
 use crate::steps::line_step;
-use bh_base::{Reply, Step};
+use bh_base::{Reply, Step, Text};
 use bh_core::Core;
 use bh_lines::{Fault, PortError, last_line, next_line, put_fault, put_reply};
 use bh_props::Settings;
@@ -116,23 +116,25 @@ impl Run {
         ensures left { self.new.buffer ≡ self.old.buffer }
     {
         match line_step(self.alloc, settings, &mut self.scratch, line) {
-            Ok(Ok(step)) => self.answer_step(step),
+            Ok(Ok(step)) => self.answer_step(settings, step),
             Ok(Err(fault)) => self.answer_fault(fault),
             Err(error) => Err(error),
         }
     }
 
     /// Does a step, and puts the line of its reply behind what is to be written.
-    fn answer_step(&mut self, step: Step) -> Result<(), AllocError>
-        ensures wrote { OnOk result ((service : SettingsView) (before : List Step) → step.group.0 < length service.groups → GroupsShow service self.old.core before →
-            self.new.out.items ≡ self.old.out.items ++ reply_line (reply_to service before step)) }
-        ensures agrees { OnOk result ((service : SettingsView) (before : List Step) → GroupsShow service self.old.core before →
-            GroupsShow service self.new.core (before ++ step ∷ [])) }
+    fn answer_step(&mut self, settings: &Settings, step: Step) -> Result<(), AllocError>
+        ensures wrote { OnOk result ((before : List Step) → step.group.0 < length settings.now.groups.entries → GroupsShow (settings_view settings.now) self.old.core before →
+            self.new.out.items ≡ self.old.out.items ++ told_line (settings_view settings.now) step.group.0 (reply_to (settings_view settings.now) before step)) }
+        ensures agrees { OnOk result ((before : List Step) → GroupsShow (settings_view settings.now) self.old.core before →
+            GroupsShow (settings_view settings.now) self.new.core (before ++ step ∷ [])) }
         ensures kept { OnErr result (self.new.out.items ≡ self.old.out.items) }
         ensures left { self.new.buffer ≡ self.old.buffer }
     {
+        let group = step.group;
         let reply = self.core.apply(step);
-        append_reply(self.alloc, &mut self.answer, &mut self.out, &reply)
+        let command = told_command(settings, group, &reply);
+        append_reply(self.alloc, &mut self.answer, &mut self.out, &reply, command)
     }
 
     /// Puts the line of a fault behind what is to be written.
@@ -146,18 +148,20 @@ impl Run {
     }
 }
 
-/// Puts the line of the reply behind the bytes, by way of a buffer for one line.
+/// Puts the line of the reply behind the bytes, by way of a buffer for one line. The name is that of the further command
+/// whose run is assigned.
 fn append_reply(
     alloc: Global,
     line: &mut Vec<u8>,
     bytes: &mut Vec<u8>,
     reply: &Reply,
+    command: Option<&Text<32>>,
 ) -> Result<(), AllocError>
-    ensures ok { OnOk result (bytes.new.items ≡ bytes.old.items ++ reply_line reply.now) }
+    ensures ok { OnOk result (bytes.new.items ≡ bytes.old.items ++ reply_line (option_copied command.entry) reply.now) }
     ensures err { OnErr result (bytes.new.items ≡ bytes.old.items) }
 {
     line.clear();
-    put_reply(alloc, line, reply)?;
+    put_reply(alloc, line, reply, command)?;
     bytes.extend_from_slice(line.as_slice())
 }
 

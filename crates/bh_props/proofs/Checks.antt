@@ -1,36 +1,35 @@
--- The checks at one group of the list.
+-- The checks at one subject of the list.
 use Rattle.std.proofs.Common.{◌≡◌, ℕ, suc, ◌+◌, ◌<◌, List, ◌∷◌, drop, length, get_or, Option, Some, None, Err, sym, ap, ◌∙◌, add-one, drop-cons}
-use Rattle.std.specs.List.{find}
 use Rattle.toml.specs.Data.{Data}
 use Rattle.bh_props.specs.declared.property.Property.{Property}
+use Rattle.bh_props.specs.declared.subject.Subject.{Subject}
 use Rattle.bh_props.specs.declared.value.Fault.{Fault}
-use Rattle.bh_props.specs.Table.{all}
-use Rattle.bh_props.specs.Refusals.{is_at_fault, refusal, refused_at, checked_values}
+use Rattle.bh_props.specs.Refusals.{first_at_fault, refusal, refused_at, checked_values}
 
-drop-here : (names : List (List ℕ)) (i : ℕ) (name : List ℕ) → i < length names → name ≡ get_or names i name → drop i names ≡ name ∷ drop (i + 1) names
-drop-here names i name within is =
-    let split : drop i names ≡ get_or names i name ∷ drop (suc i) names = drop-cons names i name within in
-    split ∙ ap (λ x. x ∷ drop (suc i) names) (sym is) ∙ ap (λ n. name ∷ drop n names) (sym (add-one i))
+drop-here : (some : List Subject) (i : ℕ) (s : Subject) → i < length some → s ≡ get_or some i s → drop i some ≡ s ∷ drop (i + 1) some
+drop-here some i s within is =
+    let split : drop i some ≡ get_or some i s ∷ drop (suc i) some = drop-cons some i s within in
+    split ∙ ap (λ x. x ∷ drop (suc i) some) (sym is) ∙ ap (λ n. s ∷ drop n some) (sym (add-one i))
 
-values-at : (fault : Fault) (d : Data) (names : List (List ℕ)) (i : ℕ) (name : List ℕ) (found : Option Property) → i < length names → name ≡ get_or names i name
-    → found ≡ find (is_at_fault fault name d) all
-    → checked_values fault d (drop i names) ≡ refused_at fault name found (checked_values fault d (drop (i + 1) names))
-values-at fault d names i name found within is finds =
-    ap (checked_values fault d) (drop-here names i name within is)
-    ∙ ap (λ o. refused_at fault name o (checked_values fault d (drop (i + 1) names))) (sym finds)
+values-at : (fault : Fault) (d : Data) (some : List Subject) (i : ℕ) (s : Subject) (found : Option Property) → i < length some → s ≡ get_or some i s
+    → found ≡ first_at_fault fault d s
+    → checked_values fault d (drop i some) ≡ refused_at fault s.name found (checked_values fault d (drop (i + 1) some))
+values-at fault d some i s found within is finds =
+    ap (checked_values fault d) (drop-here some i s within is)
+    ∙ ap (λ o. refused_at fault s.name o (checked_values fault d (drop (i + 1) some))) (sym finds)
 
--- the check of values at a group with a property at fault
-pub checked_values-refused : (fault : Fault) (d : Data) (names : List (List ℕ)) (i : ℕ) (name : List ℕ) (found : Option Property) (p : Property) → i < length names → name ≡ get_or names i name
-    → found ≡ find (is_at_fault fault name d) all → found ≡ Some p
-    → checked_values fault d (drop i names) ≡ Err (refusal fault name p)
-checked_values-refused fault d names i name found p within is finds some =
-    values-at fault d names i name found within is finds
-    ∙ ap (λ o. refused_at fault name o (checked_values fault d (drop (i + 1) names))) some
+-- the check of values at a subject with a property at fault
+pub checked_values-refused : (fault : Fault) (d : Data) (some : List Subject) (i : ℕ) (s : Subject) (found : Option Property) (p : Property) → i < length some → s ≡ get_or some i s
+    → found ≡ first_at_fault fault d s → found ≡ Some p
+    → checked_values fault d (drop i some) ≡ Err (refusal fault s.name p)
+checked_values-refused fault d some i s found p within is finds has =
+    values-at fault d some i s found within is finds
+    ∙ ap (λ o. refused_at fault s.name o (checked_values fault d (drop (i + 1) some))) has
 
 -- and at one without
-pub checked_values-passed : (fault : Fault) (d : Data) (names : List (List ℕ)) (i : ℕ) (name : List ℕ) (found : Option Property) → i < length names → name ≡ get_or names i name
-    → found ≡ find (is_at_fault fault name d) all → found ≡ None
-    → checked_values fault d (drop i names) ≡ checked_values fault d (drop (i + 1) names)
-checked_values-passed fault d names i name found within is finds none =
-    values-at fault d names i name found within is finds
-    ∙ ap (λ o. refused_at fault name o (checked_values fault d (drop (i + 1) names))) none
+pub checked_values-passed : (fault : Fault) (d : Data) (some : List Subject) (i : ℕ) (s : Subject) (found : Option Property) → i < length some → s ≡ get_or some i s
+    → found ≡ first_at_fault fault d s → found ≡ None
+    → checked_values fault d (drop i some) ≡ checked_values fault d (drop (i + 1) some)
+checked_values-passed fault d some i s found within is finds none =
+    values-at fault d some i s found within is finds
+    ∙ ap (λ o. refused_at fault s.name o (checked_values fault d (drop (i + 1) some))) none

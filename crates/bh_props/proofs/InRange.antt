@@ -1,9 +1,11 @@
 -- Settings that nothing refuses have their fields in range.
-use Rattle.std.proofs.Common.{◌≡◌, ◌==◌, ℕ, ℤ, pos, negsuc, nat_le, zero, suc, ◌%◌, ◌<◌, ◌≤◌, List, [], ◌∷◌, length, map, get_or, Bool, true, false, ◌&&◌, Option, Some, None, Result, Ok, Err, IfSome, All, refl, sym, true≢false, lit<, lit≤, ◌*◌, ◌/◌, ◌^◌, arith}
+use Rattle.std.proofs.Common.{◌≡◌, ◌==◌, ℕ, ℤ, pos, negsuc, nat_le, zero, suc, ◌%◌, ◌<◌, ◌≤◌, ◌+◌, List, [], ◌∷◌, ◌++◌, length, map, take, drop, get_or, Bool, true, false, ◌&&◌, Option, Some, None, Result, Ok, Err, IfSome, All, refl, sym, true≢false, lit<, lit≤, ◌*◌, ◌/◌, ◌^◌, arith}
 use Rattle.std.proofs.lemmas.Bool.{leb-true, eqb-true}
-use Rattle.std.proofs.lemmas.List.Elements.{All-map}
-use Rattle.std.specs.List.{find}
+use Rattle.std.proofs.lemmas.List.{length-map}
+use Rattle.std.proofs.lemmas.List.Elements.{All-from_recursion}
+use Rattle.std.specs.List.{AllByRecursion, find, flat_map}
 use Rattle.toml.specs.Data.{Data, string, integer, float, boolean, datetime, array, table}
+use Rattle.bh_base.specs.Commands.{each_from}
 use Rattle.bh_base.specs.Ranges.{IsCommandInRange, IsInRange, IsQueueLength}
 use Rattle.bh_props.specs.declared.error.SettingsError.TheVariants as refusals
 use Rattle.bh_props.specs.declared.property.Property.{Property}
@@ -13,10 +15,13 @@ use Rattle.bh_props.specs.declared.value.Kind.TheVariants as kinds
 use Rattle.bh_props.specs.declared.value.PropertyValue.{PropertyValue}
 use Rattle.bh_props.specs.declared.value.Fault.{Fault}
 use Rattle.bh_props.specs.declared.value.Fault.TheVariants.{WrongType, OutOfRange}
+use Rattle.bh_props.specs.declared.subject.Subject.{Subject}
 use Rattle.bh_props.specs.Table.{row, all}
+use Rattle.bh_props.specs.Commands.{Commands, commands_in}
+use Rattle.bh_props.specs.Subjects.{of_command, properties_of, a_command, subjects_at, subjects}
 use Rattle.bh_props.specs.InForce.{given, within, queue_size, read_as, read_given, in_force}
-use Rattle.bh_props.specs.Refusals.{has_fault, is_at_fault, refused_at, number, checked_values, checked_windows}
-use Rattle.bh_props.specs.Settings.{IsAuditLimit, optional_number, command_of, props_of, group_in_force}
+use Rattle.bh_props.specs.Refusals.{has_fault, is_at_fault, first_at_fault, refused_at, number, has_whole_buckets, checked_values, checked_windows}
+use Rattle.bh_props.specs.Settings.{IsAuditLimit, optional_number, command_in_force, props_in_force, group_in_force}
 
 -- what is read as one of a kind is in its range
 abbrev Accepted : Kind → Result PropertyValue Fault → Type 0
@@ -98,33 +103,32 @@ find-none test (x ∷ xs) (suc i) d h l = by (test x) refl (λ g. find-none test
     by false e later = later (rw e at h)
     by true e later = let bad : Some x ≡ None = rw e at h in cc
 
--- a group whose values have no fault
-record IsFaultless (name : List ℕ) (d : Data) : Type 0 where
-  types : find (is_at_fault WrongType name d) all ≡ None
-  ranges : find (is_at_fault OutOfRange name d) all ≡ None
-  windows : (number (in_force properties.Window name d) % number (in_force properties.Buckets name d) == 0) ≡ true
+-- no value in force of the properties has a fault
+record HaveNoFault (some : List Property) (name : List ℕ) (d : Data) : Type 0 where
+  types : find (is_at_fault WrongType name d) some ≡ None
+  ranges : find (is_at_fault OutOfRange name d) some ≡ None
 
-accepted-at : (i : ℕ) (name : List ℕ) (d : Data) → IsFaultless name d → i < length all → let p : Property = get_or all i properties.Slots in Accepted (row p).kind (Ok (row p).built_in) → Accepted (row p).kind (in_force p name d)
-accepted-at i name d h l built_in =
-    let p : Property = get_or all i properties.Slots in
-    let (v, is) = faultless (in_force p name d) (find-none _ all i properties.Slots h.types l) (find-none _ all i properties.Slots h.ranges l) in
+accepted-at : (some : List Property) (i : ℕ) (name : List ℕ) (d : Data) → HaveNoFault some name d → i < length some → let p : Property = get_or some i properties.Slots in Accepted (row p).kind (Ok (row p).built_in) → Accepted (row p).kind (in_force p name d)
+accepted-at some i name d h l built_in =
+    let p : Property = get_or some i properties.Slots in
+    let (v, is) = faultless (in_force p name d) (find-none _ some i properties.Slots h.types l) (find-none _ some i properties.Slots h.ranges l) in
     read_given-accepted p (given p name d) v built_in is
 
 below : (n : ℕ) → n ≤ 4294967295 → n < 2 ^ 32
 below n h = omega arith
 
-command-in_range : (name : List ℕ) (d : Data) → IsFaultless name d → IsCommandInRange (command_of (λ p. in_force p name d))
-unfolding all
-command-in_range name d h =
-    let timeout = accepted-at 3 name d h (lit< tt) (lit≤ tt, lit≤ tt) in
-    let semaphore = accepted-at 5 name d h (lit< tt) (lit≤ tt, lit≤ tt) in
-    let fallback_permits = accepted-at 6 name d h (lit< tt) (lit≤ tt, lit≤ tt) in
-    let volume = accepted-at 9 name d h (lit< tt) (lit≤ tt, lit≤ tt) in
-    let sleep = accepted-at 10 name d h (lit< tt) (lit≤ tt, lit≤ tt) in
-    let percent = accepted-at 11 name d h (lit< tt) (lit≤ tt, lit≤ tt) in
-    let window = accepted-at 14 name d h (lit< tt) (lit≤ tt, lit≤ tt) in
-    let buckets = accepted-at 15 name d h (lit< tt) (lit≤ tt, lit≤ tt) in
-    let health = accepted-at 16 name d h (lit< tt) (lit≤ tt, lit≤ tt) in
+command-in_range : (name : List ℕ) (d : Data) → HaveNoFault of_command name d → has_whole_buckets name d ≡ true → IsCommandInRange (command_in_force d name)
+unfolding all command_in_force
+command-in_range name d h windows =
+    let timeout = accepted-at of_command 1 name d h (lit< tt) (lit≤ tt, lit≤ tt) in
+    let semaphore = accepted-at of_command 3 name d h (lit< tt) (lit≤ tt, lit≤ tt) in
+    let fallback_permits = accepted-at of_command 4 name d h (lit< tt) (lit≤ tt, lit≤ tt) in
+    let volume = accepted-at of_command 7 name d h (lit< tt) (lit≤ tt, lit≤ tt) in
+    let sleep = accepted-at of_command 8 name d h (lit< tt) (lit≤ tt, lit≤ tt) in
+    let percent = accepted-at of_command 9 name d h (lit< tt) (lit≤ tt, lit≤ tt) in
+    let window = accepted-at of_command 12 name d h (lit< tt) (lit≤ tt, lit≤ tt) in
+    let buckets = accepted-at of_command 13 name d h (lit< tt) (lit≤ tt, lit≤ tt) in
+    let health = accepted-at of_command 14 name d h (lit< tt) (lit≤ tt, lit≤ tt) in
     record {
       timeout = below _ timeout.1;
       semaphore = below _ semaphore.1;
@@ -136,64 +140,100 @@ command-in_range name d h =
       short_window = window.1;
       some_buckets = buckets.0;
       few_buckets = buckets.1;
-      whole_buckets = whole _ _ buckets.0 h.windows;
+      whole_buckets = whole _ _ buckets.0 windows;
       health = below _ health.1;
     }
   where
     whole : (n by : ℕ) → 1 ≤ by → (n % by == 0) ≡ true → by * (n / by) ≡ n
     whole n by some even = let rest : n % by ≡ 0 = eqb-true (n % by) 0 even in let above : 0 < by = omega arith in omega arith
 
-group-in_range : (name : List ℕ) (d : Data) → IsFaultless name d → IsInRange (props_of (λ p. in_force p name d))
+-- a subject whose values have no fault, and whose window is cut into equal buckets
+record IsFaultless (d : Data) (s : Subject) : Type 0 where
+  values : HaveNoFault (properties_of s.scope) s.name d
+  windows : has_whole_buckets s.name d ≡ true
+
+find-none-parts : (test : Property → Bool) (xs ys : List Property) → find test (xs ++ ys) ≡ None → (find test xs ≡ None) × (find test ys ≡ None)
+find-none-parts test [] ys h = (refl, h)
+find-none-parts test (x ∷ xs) ys h = by (test x) refl (find-none-parts test xs ys)
+  where
+    by : (b : Bool) → test x ≡ b → (find test (xs ++ ys) ≡ None → (find test xs ≡ None) × (find test ys ≡ None)) → (find test (x ∷ xs) ≡ None) × (find test ys ≡ None)
+    by true e later = let bad : Some x ≡ None = rw e at h in cc
+    by false e later = let (front, back) = later (rw e at h) in (rw e front, back)
+
+-- the values of a group's own command have none where those of the group have none
+own-values : (name : List ℕ) (d : Data) → HaveNoFault all name d → HaveNoFault of_command name d
 unfolding all
-group-in_range name d h =
-    let slots = accepted-at 1 name d h (lit< tt) (lit≤ tt, lit≤ tt) in
-    let core = accepted-at 18 name d h (lit< tt) (lit≤ tt, lit≤ tt) in
-    let queue_threshold = accepted-at 20 name d h (lit< tt) (lit≤ tt, lit≤ tt) in
+own-values name d h = record {
+  types = inner (is_at_fault WrongType name d) h.types;
+  ranges = inner (is_at_fault OutOfRange name d) h.ranges;
+}
+  where
+    inner : (test : Property → Bool) → find test all ≡ None → find test of_command ≡ None
+    inner test none = (find-none-parts test of_command (drop 18 all) ((find-none-parts test (take 2 all) (of_command ++ drop 18 all) none).1)).0
+
+commands-in_range : (d : Data) (cs : Commands) → AllByRecursion (IsFaultless d) (map (λ c. a_command c.0) cs) → AllByRecursion IsCommandInRange (map (λ c. command_in_force d c.0) cs)
+commands-in_range d [] h = tt
+commands-in_range d (c ∷ cs) h = (command-in_range c.0 d h.0.values h.0.windows, commands-in_range d cs h.1)
+
+group-in_range : (d : Data) (commands : Commands) (place : ℕ) (name : List ℕ) → length (commands_in place commands) ≤ 15 → AllByRecursion (IsFaultless d) (subjects_at commands place name)
+    → IsInRange (props_in_force d commands place name)
+unfolding all
+group-in_range d commands place name few h =
+    let slots = accepted-at all 1 name d h.0.values (lit< tt) (lit≤ tt, lit≤ tt) in
+    let core = accepted-at all 18 name d h.0.values (lit< tt) (lit≤ tt, lit≤ tt) in
+    let queue_threshold = accepted-at all 20 name d h.0.values (lit< tt) (lit≤ tt, lit≤ tt) in
+    let further = length-map (commands_in place commands) (λ c. command_in_force d c.0) in
     record {
       some_slots = slots.0;
       few_slots = slots.1;
       some_core = core.0;
       small_core = core.1;
-      queue = accepted-at 19 name d h (lit< tt) tt;
+      queue = accepted-at all 19 name d h.0.values (lit< tt) tt;
       queue_threshold = below _ queue_threshold.1;
-      some_commands = lit≤ tt;
-      few_commands = lit≤ tt;
-      commands = (command-in_range name d h, tt);
+      some_commands = omega arith;
+      few_commands = omega (arith, further);
+      commands = (command-in_range name d (own-values name d h.0.values) h.0.windows, commands-in_range d (commands_in place commands) h.1);
     }
 
-values-passed : (fault : Fault) (d : Data) (names : List (List ℕ)) (i : ℕ) (e : List ℕ) → checked_values fault d names ≡ Ok tt → i < length names → find (is_at_fault fault (get_or names i e) d) all ≡ None
-values-passed fault d [] i e h l = absurd (omega arith)
-values-passed fault d (name ∷ names) i e h l = by i (find (is_at_fault fault name d) all) refl l (λ j g m. values-passed fault d names j e g m)
-  where
-    by : (i : ℕ) (found : Option Property) → find (is_at_fault fault name d) all ≡ found → i < length (name ∷ names)
-        → ((j : ℕ) → checked_values fault d names ≡ Ok tt → j < length names → find (is_at_fault fault (get_or names j e) d) all ≡ None)
-        → find (is_at_fault fault (get_or (name ∷ names) i e) d) all ≡ None
-    by i (Some p) is m later = let bad : refused_at fault name (Some p) (checked_values fault d names) ≡ Ok tt = rw is at h in cc
-    by zero None is m later = is
-    by (suc j) None is m later = later j (rw is at h) (omega arith)
+recursion-parts : {X : Type 0} (P : X → Type 0) (xs ys : List X) → AllByRecursion P (xs ++ ys) → AllByRecursion P xs × AllByRecursion P ys
+recursion-parts P [] ys h = (tt, h)
+recursion-parts P (x ∷ xs) ys h = let (front, back) = recursion-parts P xs ys h.1 in ((h.0, front), back)
 
-windows-passed : (d : Data) (names : List (List ℕ)) (i : ℕ) (e : List ℕ) → checked_windows d names ≡ Ok tt → i < length names
-    → let name : List ℕ = get_or names i e in (number (in_force properties.Window name d) % number (in_force properties.Buckets name d) == 0) ≡ true
-windows-passed d [] i e h l = absurd (omega arith)
-windows-passed d (name ∷ names) i e h l = by i (number (in_force properties.Window name d) % number (in_force properties.Buckets name d) == 0) refl l (λ j g m. windows-passed d names j e g m)
-  where
-    by : (i : ℕ) (b : Bool) → (number (in_force properties.Window name d) % number (in_force properties.Buckets name d) == 0) ≡ b → i < length (name ∷ names)
-        → ((j : ℕ) → checked_windows d names ≡ Ok tt → j < length names
-        → (number (in_force properties.Window (get_or names j e) d) % number (in_force properties.Buckets (get_or names j e) d) == 0) ≡ true)
-        → (number (in_force properties.Window (get_or (name ∷ names) i e) d) % number (in_force properties.Buckets (get_or (name ∷ names) i e) d) == 0) ≡ true
-    by i false is m later = let bad : Err (refusals.NotMultiple name) ≡ Ok tt = rw is at h in cc
-    by zero true is m later = is
-    by (suc j) true is m later = later j (rw is at h) (omega arith)
+rows-in_range : (d : Data) (commands : Commands) (from : ℕ) (names : List (List ℕ)) → ((place : ℕ) → length (commands_in place commands) ≤ 15)
+    → AllByRecursion (IsFaultless d) (flat_map (λ row. row) (each_from from (subjects_at commands) names)) → AllByRecursion (λ group. IsInRange group.1) (each_from from (group_in_force d commands) names)
+rows-in_range d commands from [] few h = tt
+rows-in_range d commands from (name ∷ names) few h =
+    let (here, later) = recursion-parts (IsFaultless d) (subjects_at commands from name) (flat_map (λ row. row) (each_from (from + 1) (subjects_at commands) names)) h in
+    (group-in_range d commands from name (few from) here, rows-in_range d commands (from + 1) names few later)
 
--- where no check refuses, the properties of each group are in their ranges
-pub groups-in_range : (d : Data) (names : List (List ℕ)) → checked_values WrongType d names ≡ Ok tt → checked_values OutOfRange d names ≡ Ok tt → checked_windows d names ≡ Ok tt
-    → All (λ group. IsInRange group.1) (map (group_in_force d) names)
-groups-in_range d names types ranges windows =
-    All-map (λ group. IsInRange group.1) (group_in_force d) names (λ i e l. group-in_range (get_or names i e) d (record {
-      types = values-passed WrongType d names i e types l;
-      ranges = values-passed OutOfRange d names i e ranges l;
-      windows = windows-passed d names i e windows l;
-    }))
+values-passed : (fault : Fault) (d : Data) (s : Subject) (rest : List Subject) → checked_values fault d (s ∷ rest) ≡ Ok tt → (first_at_fault fault d s ≡ None) × (checked_values fault d rest ≡ Ok tt)
+values-passed fault d s rest h = by (first_at_fault fault d s) refl
+  where
+    by : (found : Option Property) → first_at_fault fault d s ≡ found → (first_at_fault fault d s ≡ None) × (checked_values fault d rest ≡ Ok tt)
+    by (Some p) is = let bad : refused_at fault s.name (Some p) (checked_values fault d rest) ≡ Ok tt = rw is at h in cc
+    by None is = (is, rw is at h)
+
+windows-passed : (d : Data) (s : Subject) (rest : List Subject) → checked_windows d (s ∷ rest) ≡ Ok tt → (has_whole_buckets s.name d ≡ true) × (checked_windows d rest ≡ Ok tt)
+windows-passed d s rest h = by (has_whole_buckets s.name d) refl
+  where
+    by : (b : Bool) → has_whole_buckets s.name d ≡ b → (has_whole_buckets s.name d ≡ true) × (checked_windows d rest ≡ Ok tt)
+    by false is = let bad : Err (refusals.NotMultiple s.name) ≡ Ok tt = rw is at h in cc
+    by true is = (is, rw is at h)
+
+all-faultless : (d : Data) (some : List Subject) → checked_values WrongType d some ≡ Ok tt → checked_values OutOfRange d some ≡ Ok tt → checked_windows d some ≡ Ok tt → AllByRecursion (IsFaultless d) some
+all-faultless d [] types ranges windows = tt
+all-faultless d (s ∷ rest) types ranges windows =
+    let (type_here, types_later) = values-passed WrongType d s rest types in
+    let (range_here, ranges_later) = values-passed OutOfRange d s rest ranges in
+    let (window_here, windows_later) = windows-passed d s rest windows in
+    (record { values = record { types = type_here; ranges = range_here }; windows = window_here }, all-faultless d rest types_later ranges_later windows_later)
+
+-- where no check refuses, the properties of each group and of its commands are in their ranges
+pub groups-in_range : (d : Data) (names : List (List ℕ)) (commands : Commands) → ((place : ℕ) → length (commands_in place commands) ≤ 15)
+    → checked_values WrongType d (subjects names commands) ≡ Ok tt → checked_values OutOfRange d (subjects names commands) ≡ Ok tt → checked_windows d (subjects names commands) ≡ Ok tt
+    → All (λ group. IsInRange group.1) (each_from 0 (group_in_force d commands) names)
+groups-in_range d names commands few types ranges windows =
+    All-from_recursion _ _ (rows-in_range d commands 0 names few (all-faultless d (subjects names commands) types ranges windows))
 
 read_given-audit : (o : Option Data) → IfSome (optional_number (read_given properties.AuditSteps o)) IsAuditLimit
 read_given-audit None = tt

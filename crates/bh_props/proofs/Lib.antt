@@ -1,6 +1,10 @@
 pub mod Checks
 pub mod Dotted
+pub mod Each
+pub mod Further
 pub mod Groups
 pub mod InRange
+pub mod Known
 pub mod Named
 pub mod SettingsFile
+pub mod Subjects

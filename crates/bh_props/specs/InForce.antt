@@ -1,4 +1,4 @@
--- The value that is in force for a group.
+-- The value that is in force for a group or a further command.
 use Rattle.std.specs.Prelude.{ℕ, ℤ, pos, negsuc, nat_le, List, codes, ◌&&◌, ◌==◌, if◌then◌else◌, Option, Some, None, Result, Ok, Err}
 use Rattle.std.specs.Option.{option_or}
 use Rattle.std.specs.Str.{bytes_eq}
@@ -14,7 +14,7 @@ use Rattle.bh_props.specs.declared.value.Fault.TheVariants.{WrongType, OutOfRang
 use Rattle.bh_props.specs.Tree.{look_up}
 use Rattle.bh_props.specs.Table.{row, path_of}
 
--- the value that the file has: the group's own, else the default one
+-- the value that the file has: the group's or the command's own, else the default one
 abbrev pub given : Property → List ℕ → Data → Option Data
 given p group d = option_or (look_up (path_of p group) d) (look_up (path_of p (codes "default")) d)
 

@@ -2,6 +2,8 @@ pub mod Tree
 pub mod Table
 pub mod InForce
 pub mod Names
+pub mod Commands
+pub mod Subjects
 pub mod Refusals
 pub mod SettingsView
 pub mod Settings

@@ -5,12 +5,16 @@ use Rattle.std.specs.Fmt.{decimal}
 use Rattle.bh_base.specs.declared.props.Strategy.TheVariants as strategies
 use Rattle.bh_base.specs.declared.props.CommandProps.{CommandProps}
 use Rattle.bh_base.specs.Props.{GroupProps}
-use Rattle.bh_base.specs.Commands.{props_of}
+use Rattle.bh_base.specs.Commands.{props_of, each_from}
 use Rattle.bh_props.specs.declared.property.Property.{Property}
 use Rattle.bh_props.specs.declared.property.Property.TheVariants as properties
 use Rattle.bh_props.specs.declared.value.PropertyValue.{PropertyValue}
 use Rattle.bh_props.specs.declared.value.PropertyValue.TheVariants as values
-use Rattle.bh_props.specs.Table.{row, all}
+use Rattle.bh_props.specs.Table.{row}
+use Rattle.bh_props.specs.declared.subject.Scope.{Scope}
+use Rattle.bh_props.specs.declared.subject.Scope.TheVariants as scopes
+use Rattle.bh_props.specs.Commands.{Commands, commands_in}
+use Rattle.bh_props.specs.Subjects.{properties_of}
 use Rattle.bh_props.specs.SettingsView.{SettingsView}
 
 -- the word of a value
@@ -55,10 +59,20 @@ value_of audit_steps g c properties.QueueThreshold = values.Number g.queue_thres
 abbrev pub property_line : List ℕ → (Property → PropertyValue) → Property → List ℕ
 property_line name value p = name ++ codes " " ++ (row p).name ++ codes " " ++ word_of (value p) ++ codes "\n"
 
--- the lines of a group, in the order of the table
-abbrev pub group_lines : Option ℕ → List ℕ × GroupProps → List ℕ
-group_lines audit_steps group = flat_map (property_line group.0 (value_of audit_steps group.1 (props_of 0 group.1))) all
+-- the lines of a subject of the scope: a group, or one of its commands, of the number; in the order of the table
+abbrev pub subject_lines : Option ℕ → Scope → List ℕ → GroupProps → ℕ → List ℕ
+subject_lines audit_steps scope name g number =
+    flat_map (property_line name (value_of audit_steps g (props_of number g))) (properties_of scope)
+
+-- the lines of a group's further commands, in the order of their names
+abbrev pub further_lines : Option ℕ → GroupProps → Commands → List ℕ
+further_lines audit_steps g commands = flat_map (λ c. subject_lines audit_steps scopes.Command c.0 g c.1.1) commands
+
+-- the lines of the group at the place, then those of its further commands
+abbrev pub group_lines : SettingsView → ℕ → List ℕ × GroupProps → List ℕ
+group_lines s place group =
+    subject_lines s.audit_steps scopes.Group group.0 group.1 0 ++ further_lines s.audit_steps group.1 (commands_in place s.commands)
 
 -- the lines of all groups, in their order
 abbrev pub lines_of : SettingsView → List ℕ
-lines_of s = flat_map (group_lines s.audit_steps) s.groups
+lines_of s = flat_map (λ lines. lines) (each_from 0 (group_lines s) s.groups)

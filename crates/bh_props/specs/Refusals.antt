@@ -12,7 +12,8 @@ use Rattle.bh_props.specs.declared.value.Fault.TheVariants.{WrongType, OutOfRang
 use Rattle.bh_props.specs.declared.error.SettingsError.{SettingsError}
 use Rattle.bh_props.specs.declared.error.SettingsError.TheVariants as refusals
 use Rattle.bh_props.specs.Tree.{all_members}
-use Rattle.bh_props.specs.Table.{all}
+use Rattle.bh_props.specs.declared.subject.Subject.{Subject}
+use Rattle.bh_props.specs.Subjects.{properties_of}
 use Rattle.bh_props.specs.InForce.{in_force}
 
 -- a check: passed, or the first refusal
@@ -28,10 +29,16 @@ abbrev pub has_keys : List (List ℕ) → Data → Bool
 has_keys names (table ms) = all_members (λ key d. is_key names key) ms
 has_keys names _ = false
 
+-- a table
+abbrev pub is_table : Data → Bool
+is_table (table ms) = true
+is_table _ = false
+
 -- one that may stand under `service`
 abbrev pub is_service_member : List (List ℕ) → List ℕ → Data → Bool
 is_service_member names key d =
     bytes_eq key (codes "groups") || bytes_eq key (codes "auditSteps") || (bytes_eq key (codes "slots") && has_keys names d)
+    || (bytes_eq key (codes "command") && is_table d)
 
 -- a table of such members
 abbrev pub is_service : List (List ℕ) → Option Data → Bool
@@ -55,33 +62,37 @@ has_fault fault (Err found) = same_fault found fault
 
 -- the value in force of the property has this fault
 abbrev pub is_at_fault : Fault → List ℕ → Data → Property → Bool
-is_at_fault fault group d p = has_fault fault (in_force p group d)
+is_at_fault fault name d p = has_fault fault (in_force p name d)
 
--- the refusal of a property of a group
+-- the refusal of a property of a group or a command
 abbrev pub refusal : Fault → List ℕ → Property → SettingsError
-refusal WrongType group p = refusals.WrongType group p
-refusal OutOfRange group p = refusals.OutOfRange group p
+refusal WrongType name p = refusals.WrongType name p
+refusal OutOfRange name p = refusals.OutOfRange name p
 
 -- the refusal of the property at fault, if there is one, else what comes later
 abbrev pub refused_at : Fault → List ℕ → Option Property → Checked → Checked
-refused_at fault group (Some p) later = Err (refusal fault group p)
-refused_at fault group None later = later
+refused_at fault name (Some p) later = Err (refusal fault name p)
+refused_at fault name None later = later
 
--- no value in force has this fault: the groups in their order, of each the properties in the table's
-abbrev pub checked_values : Fault → Data → List (List ℕ) → Checked
+-- the first of its properties whose value in force has this fault
+abbrev pub first_at_fault : Fault → Data → Subject → Option Property
+first_at_fault fault d s = find (is_at_fault fault s.name d) (properties_of s.scope)
+
+-- no value in force has this fault: the subjects in their order, of each its properties in the table's
+abbrev pub checked_values : Fault → Data → List Subject → Checked
 checked_values fault d [] = Ok tt
-checked_values fault d (group ∷ groups) =
-    refused_at fault group (find (is_at_fault fault group d) all) (checked_values fault d groups)
+checked_values fault d (s ∷ rest) = refused_at fault s.name (first_at_fault fault d s) (checked_values fault d rest)
 
 -- a number in force; there is one wherever the property is one of numbers and has no fault
 abbrev pub number : Result PropertyValue Fault → ℕ
 number (Ok (values.Number n)) = n
 number _ = 0
 
--- each group's window is cut into buckets of equal length
-abbrev pub checked_windows : Data → List (List ℕ) → Checked
+-- the window in force is cut into buckets of equal length
+abbrev pub has_whole_buckets : List ℕ → Data → Bool
+has_whole_buckets name d = number (in_force properties.Window name d) % number (in_force properties.Buckets name d) == 0
+
+-- each subject's window is
+abbrev pub checked_windows : Data → List Subject → Checked
 checked_windows d [] = Ok tt
-checked_windows d (group ∷ groups) =
-    if number (in_force properties.Window group d) % number (in_force properties.Buckets group d) == 0
-    then checked_windows d groups
-    else Err (refusals.NotMultiple group)
+checked_windows d (s ∷ rest) = if has_whole_buckets s.name d then checked_windows d rest else Err (refusals.NotMultiple s.name)

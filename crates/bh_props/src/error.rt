@@ -25,19 +25,24 @@ pub enum SettingsError {
     /// The name at the place, from 1, stands before it too.
     #[error("settings refused: 4 twice named at {0}")]
     TwiceNamed(usize),
-    /// Something else than `groups`, `auditSteps` and `slots` stands under `service`, or `slots` is not a table
-    /// whose keys are `default` or groups.
+    /// Something else than `groups`, `auditSteps`, `slots` and `command` stands under `service`, or `slots` is not a
+    /// table whose keys are `default` or groups, or `command` is not a table.
     #[error("settings refused: 5 unknown service property")]
     UnknownService,
-    /// The value in force is of another type.
-    #[error("settings refused: 6 wrong type: {} {property}", .group.as_str())]
-    WrongType { group: Text<32>, property: Property },
+    /// The further command at the place, from 1 in the order of the names' bytes, has a name that may not name a group
+    /// or that names one, has something else than a table whose one key `group` is the name of a group, or is its
+    /// group's seventeenth.
+    #[error("settings refused: 10 bad command at {0}")]
+    BadCommand(usize),
+    /// The value in force for the group or the further command is of another type.
+    #[error("settings refused: 6 wrong type: {} {property}", .name.as_str())]
+    WrongType { name: Text<32>, property: Property },
     /// The value in force is outside the property's range.
-    #[error("settings refused: 7 out of range: {} {property}", .group.as_str())]
-    OutOfRange { group: Text<32>, property: Property },
+    #[error("settings refused: 7 out of range: {} {property}", .name.as_str())]
+    OutOfRange { name: Text<32>, property: Property },
     /// The rolling window is not a multiple of the number of buckets.
-    #[error("settings refused: 8 not a multiple: {}", .group.as_str())]
-    NotMultiple { group: Text<32> },
+    #[error("settings refused: 8 not a multiple: {}", .name.as_str())]
+    NotMultiple { name: Text<32> },
     /// Memory was refused.
     #[error("fault: memory")]
     Memory,

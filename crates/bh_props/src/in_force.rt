@@ -1,4 +1,4 @@
-//! The value that is in force for a group: its own, else the default one, else the built-in one.
+//! The value that is in force for a group or a further command: its own, else the default one, else the built-in one.
 
 ghost use Rattle.std.specs.Prelude.{◌≡◌, option_map};
 ghost use Rattle.toml.specs.View.{view};
@@ -24,7 +24,7 @@ fn value_under<'a>(root: &'a Value, property: Property, key: &str) -> Option<&'a
     }
 }
 
-/// The value that the file has for a property of a group.
+/// The value that the file has for a property of a group or a further command.
 fn given<'a>(root: &'a Value, property: Property, group: &str) -> Option<&'a Value>
     ensures { option_map (λ v. view v.now) result ≡ given property group.now (view root.now) }
 {
@@ -34,7 +34,7 @@ fn given<'a>(root: &'a Value, property: Property, group: &str) -> Option<&'a Val
     }
 }
 
-/// The value in force of a property of a group, or why the file's value is refused.
+/// The value in force of a property of a group or a further command, or why the file's value is refused.
 pub(crate) fn in_force(
     root: &Value,
     property: Property,

@@ -3,6 +3,7 @@
 #![tactic(auto)]
 
 mod check;
+mod commands;
 mod error;
 mod in_force;
 mod look_up;
@@ -13,6 +14,7 @@ mod reading;
 mod service;
 mod settings;
 mod settings_file;
+mod subject;
 mod value;
 
 pub use error::SettingsError;

@@ -1,50 +1,84 @@
 //! The lines that show what is in force.
 
-ghost use Rattle.std.specs.Prelude.{◌≡◌, ◌<◌, ◌≤◌, length, Some};
+ghost use Rattle.std.specs.Prelude.{◌≡◌, ◌<◌, All, Some};
 ghost use Rattle.std.specs.List.{flat_map};
 ghost use Rattle.std.specs.Fmt.{WritesOnOk};
-ghost use Rattle.bh_base.specs.Commands.{command_count, props_of};
-ghost use Rattle.bh_props.specs.Printed.{value_of, property_line, lines_of, group_lines, number_or};
+ghost use Rattle.bh_base.specs.Commands.{command_count};
+ghost use Rattle.bh_props.specs.Commands.{commands_in};
+ghost use Rattle.bh_props.specs.Printed.{value_of, property_line, lines_of, subject_lines, further_lines, number_or};
 ghost use Rattle.bh_props.specs.Shown.{settings_view};
 
+use crate::commands::Commands;
 use crate::property::Property;
 use crate::settings::Settings;
+use crate::subject::Scope;
 use crate::value::PropertyValue;
 use bh_base::{CommandProps, GroupProps};
 use std::fmt;
 
-/// One line for each group and property, in their orders: the group, the property's name and the value in force.
+/// One line for each group and property, in their orders: the group, the property's name and the value in force. Behind
+/// a group's lines stand those of each of its further commands, with the command's name first.
 impl fmt::Display for Settings {
     ghost output = { λ s. Some (lines_of (settings_view s)) };
 
     fn fmt<W: fmt::Write>(&self, f: &mut fmt::Formatter<W>) -> fmt::Result {
+        let mut place = 0;
         for (name, props) in self.groups.iter() {
-            write_group(f, name.as_str(), props, self.audit_steps)?;
+            write_subject(f, Scope::Group, name.as_str(), props, 0, self.audit_steps)?;
+            write_further(f, place, props, &self.commands, self.audit_steps)?;
+            place += 1;
         }
         Ok(())
     }
 }
 
-/// Writes the lines of a group.
-fn write_group<W: fmt::Write>(
+/// Writes the lines of the further commands of the group at the place.
+fn write_further<W: fmt::Write>(
     f: &mut fmt::Formatter<W>,
-    name: &str,
+    place: usize,
     props: &GroupProps,
+    commands: &Commands,
     audit_steps: Option<u64>,
 ) -> fmt::Result
-    requires { 1 ≤ length props.now.commands }
-    ensures { WritesOnOk W.write_str_gives f.old result (group_lines audit_steps (name.now, props.now)) f.new }
+    requires { All (λ c. c.1.0 ≡ place → c.1.1 < command_count props.now) commands.now.entries }
+    ensures { WritesOnOk W.write_str_gives f.old result
+        (further_lines audit_steps props.now (commands_in place commands.now.entries)) f.new }
 {
-    let own = command_of(props, 0);
-    write_lines(f, name, props, own, audit_steps, &Property::ALL)
+    for (name, command) in commands.iter() {
+        if command.0 as usize == place {
+            write_subject(
+                f,
+                Scope::Command,
+                name.as_str(),
+                props,
+                command.1,
+                audit_steps,
+            )?;
+        }
+    }
+    Ok(())
 }
 
-/// The properties of the command of the number.
-fn command_of(props: &GroupProps, number: u8) -> &CommandProps
+/// Writes the lines of a group, or of one of its commands.
+fn write_subject<W: fmt::Write>(
+    f: &mut fmt::Formatter<W>,
+    scope: Scope,
+    name: &str,
+    props: &GroupProps,
+    number: u8,
+    audit_steps: Option<u64>,
+) -> fmt::Result
     requires { number < command_count props.now }
-    ensures { result.now ≡ props_of number props.now }
+    ensures { WritesOnOk W.write_str_gives f.old result (subject_lines audit_steps scope name.now props.now number) f.new }
 {
-    &props.commands[number as usize]
+    write_lines(
+        f,
+        name,
+        props,
+        props.command(number),
+        audit_steps,
+        scope.properties(),
+    )
 }
 
 /// Writes the lines of some properties of a group and one of its commands.

@@ -54,7 +54,7 @@ pub enum Property {
     QueueThreshold,
 }
 
-/// Where a property stands; KEY is a group's name or `default`.
+/// Where a property stands; KEY is the name of a group or of a further command, or `default`.
 #[derive(Clone, Copy, Debug, PartialEq, Eq)]
 pub(crate) enum Place {
     /// At its name, once for the whole service.

@@ -1,16 +1,18 @@
 //! Reading a settings file.
 
-ghost use Rattle.std.specs.Prelude.{◌≡◌, ◌≢◌, [], Ok, Err, None, IfOk, IfErr};
+ghost use Rattle.std.specs.Prelude.{◌≡◌, ◌≢◌, ◌≤◌, [], length, Ok, Err, None, IfOk, IfErr};
 ghost use Rattle.toml.specs.View.{view};
 ghost use Rattle.bh_props.specs.Settings.{settings_of, settings_of_named, settings_of_groups};
 ghost use Rattle.bh_props.specs.Names.{names_of, first_twice};
 ghost use Rattle.bh_props.specs.Shown.{settings_view};
 
 use crate::check::{check_values, check_windows};
+use crate::commands::further_commands;
 use crate::error::SettingsError;
 use crate::names::group_names;
 use crate::service::check_service;
 use crate::settings::{Settings, audit_steps_in_force, groups_in_force};
+use crate::subject::subjects;
 use crate::value::Fault;
 use bh_base::Text;
 use std::alloc::Global;
@@ -18,8 +20,8 @@ use toml::Value;
 
 /// The settings that a text gives, or the first refusal (see `SettingsError` for the order of the checks).
 ///
-/// A property is found by its dotted name, however TOML spells it. The value in force is the group's own, else the
-/// one under `default`, else the built-in one; only values in force are checked. Each field of the settings is in its
+/// A property is found by its dotted name, however TOML spells it. The value in force is the group's or
+/// the further command's own, else the one under `default`, else the built-in one; only values in force are checked. Each field of the settings is in its
 /// range. `SettingsError::Memory` comes wherever memory was refused, in place of every other answer.
 pub fn read(alloc: Global, text: &str) -> Result<Settings, SettingsError>
     ensures ok { IfOk result (λ s. settings_of text.now ≡ Ok (settings_view s)) }
@@ -44,17 +46,21 @@ fn read_tree(alloc: Global, root: &Value) -> Result<Settings, SettingsError>
 
 /// The settings of a parsed file whose groups are known.
 fn read_groups(alloc: Global, root: &Value, names: &[Text<32>]) -> Result<Settings, SettingsError>
-    requires { first_twice [] 1 names.now ≡ None }
+    requires distinct { first_twice [] 1 names.now ≡ None }
+    requires few { length names.now ≤ 1000 }
     ensures ok { IfOk result (λ s. settings_of_groups (view root.now) names.now ≡ Ok (settings_view s)) }
     ensures refused { IfErr result (λ e. e ≢ SettingsError.Memory
         → settings_of_groups (view root.now) names.now ≡ Err e) }
 {
     check_service(root, names)?;
-    check_values(root, Fault::WrongType, names)?;
-    check_values(root, Fault::OutOfRange, names)?;
-    check_windows(root, names)?;
+    let commands = further_commands(alloc, root, names)?;
+    let subjects = subjects(alloc, names, &commands)?;
+    check_values(root, Fault::WrongType, &subjects)?;
+    check_values(root, Fault::OutOfRange, &subjects)?;
+    check_windows(root, &subjects)?;
     Ok(Settings {
-        groups: groups_in_force(alloc, root, names)?,
+        groups: groups_in_force(alloc, root, names, &commands)?,
         audit_steps: audit_steps_in_force(root),
+        commands,
     })
 }

@@ -5,13 +5,14 @@ ghost use Rattle.std.specs.List.{list_any};
 ghost use Rattle.std.specs.Str.{bytes_eq};
 ghost use Rattle.toml.specs.View.{view, table_view};
 ghost use Rattle.bh_props.specs.Tree.{all_members};
-ghost use Rattle.bh_props.specs.Refusals.{is_key, has_keys, is_service_member, checked_service};
+ghost use Rattle.bh_props.specs.Refusals.{is_key, has_keys, is_table, is_service_member, checked_service};
 
 use crate::error::SettingsError;
 use bh_base::Text;
 use toml::{Table, Value};
 
-/// Refuses a key under `service` that is not known, and slots of something else than `default` or a group.
+/// Refuses a key under `service` that is not known, slots of something else than `default` or a group, and a `command`
+/// that is no table.
 pub(crate) fn check_service(root: &Value, names: &[Text<32>]) -> Result<(), SettingsError>
     ensures { result ≡ checked_service names.now (view root.now) }
 {
@@ -40,6 +41,7 @@ fn is_known_member(key: &str, value: &Value, names: &[Text<32>]) -> bool
     match key {
         "groups" | "auditSteps" => true,
         "slots" => has_group_keys(value, names),
+        "command" => value.is_table(),
         _ => false,
     }
 }
@@ -74,7 +76,7 @@ fn is_group_key(key: &str, names: &[Text<32>]) -> bool
 }
 
 /// Whether the key is the name of a group.
-fn is_listed(key: &str, names: &[Text<32>]) -> bool
+pub(crate) fn is_listed(key: &str, names: &[Text<32>]) -> bool
     ensures { result ≡ list_any (λ name. bytes_eq name key.now) names.now }
 {
     names.iter().any(|name| name.as_str() == key)

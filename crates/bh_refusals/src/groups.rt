@@ -11,6 +11,7 @@ use std::process::Abort;
 const EXAMPLE: &str = "service.groups = [\"orders\", \"mail\"]
 service.auditSteps = 1000
 service.slots.mail = 16
+service.command.invoice.group = \"orders\"
 hystrix.command.default.execution.isolation.thread.timeoutInMilliseconds = 500
 hystrix.command.mail.execution.isolation.strategy = \"SEMAPHORE\"
 hystrix.command.mail.requestCache.enabled = false
@@ -26,6 +27,7 @@ fn settings_are_read_or_not(rt: HostRuntime) {
         match told {
             Ok(settings) => {
                 assert_eq!(rt; settings.groups.len(), 2);
+                assert_eq!(rt; settings.commands.len(), 1);
                 assert_eq!(rt; settings.audit_steps, Some(1000));
                 return;
             }

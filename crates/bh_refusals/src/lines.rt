@@ -1,5 +1,8 @@
 //! Scripts and conversations.
 
+ghost use Rattle.std.specs.Prelude.{◌≡◌, []};
+ghost use Rattle.bh_lines.specs.Names.{command_number, is_own_name};
+
 use crate::refusing::{MANY, assert_told, give_up, refuse};
 use crate::worked::text;
 use bh_base::{Answer, CallError, GroupId, Reply, Request, Text};
@@ -83,6 +86,27 @@ fn a_script_is_answered_whole_or_in_part(rt: HostRuntime) {
     give_up(&rt);
 }
 
+/// Whether the group, one of those with these names, has the name.
+fn is_own_name(groups: &[Text<32>], group: GroupId, name: &str) -> bool
+    ensures { result ≡ is_own_name (record { groups = groups.now; commands = [] }) group.0 name.now }
+{
+    match groups.get(group.0 as usize) {
+        Some(own) => own.as_str() == name,
+        None => false,
+    }
+}
+
+/// The number of the command of the name where groups of these names have their own commands alone.
+fn own_command(groups: &[Text<32>], group: GroupId, name: &str) -> Option<u8>
+    ensures { result ≡ command_number (record { groups = groups.now; commands = [] }) group.0 name.now }
+{
+    if is_own_name(groups, group, name) {
+        Some(0)
+    } else {
+        None
+    }
+}
+
 /// A service of the groups a and b whose answers are made up.
 #[derive(Drop)]
 struct MadeUp {
@@ -90,9 +114,9 @@ struct MadeUp {
 }
 
 impl Control for MadeUp {
-    ghost names = { λ control. control.names };
+    ghost names = { λ control. record { groups = control.names; commands = [] } };
 
-    ghost may_show = { λ _ _. Unit {0} };
+    ghost may_show = { λ _ _ _. Unit {0} };
 
     ghost may_answer = { λ _ _ _. Unit {0} };
 
@@ -102,7 +126,11 @@ impl Control for MadeUp {
         &self.names
     }
 
-    fn metrics(&mut self, _group: GroupId) -> Reply {
+    fn command(&self, group: GroupId, name: &str) -> Option<u8> {
+        own_command(&self.names, group, name)
+    }
+
+    fn metrics(&mut self, _group: GroupId, _command: u8) -> Reply {
         Reply::Worn
     }
 

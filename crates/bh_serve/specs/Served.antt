@@ -1,5 +1,5 @@
 -- What a service behind a port may answer, and what it was asked.
-use Rattle.std.specs.Prelude.{◌≡◌, ◌≢◌, ℕ, ◌≤◌, ◌⊎◌, true, List, Option, Some, None, Result, Err, if◌then◌else◌}
+use Rattle.std.specs.Prelude.{◌≡◌, ◌≢◌, ℕ, ◌<◌, ◌≤◌, ◌⊎◌, true, List, Option, Some, None, Result, Err, if◌then◌else◌}
 use Rattle.bh_base.specs.declared.step.GroupId.{GroupId}
 use Rattle.bh_base.specs.declared.step.Op.{Op}
 use Rattle.bh_base.specs.declared.step.Request.{Request}
@@ -25,9 +25,9 @@ use Rattle.bh_workers.specs.Receipts.{StepAdds}
 abbrev pub MayTell : Op → Reply → Type 0
 MayTell o told = (can_reply o told ≡ true) × (told ≢ reply.NoCommand)
 
--- a reply that a Read of the group's own command can get
-abbrev pub MayShow : GroupId → Reply → Type 0
-MayShow group told = MayTell (op.Read 0) told
+-- a reply that a Read of the group's command of the number can get: its own one, number 0, is not missing
+abbrev pub MayShow : GroupId → ℕ → Reply → Type 0
+MayShow group command told = (can_reply (op.Read command) told ≡ true) × (told ≡ reply.NoCommand → 0 < command)
 
 -- a reply that a Close can get
 abbrev pub MayClose : GroupId → ℕ → Reply → Type 0

@@ -40,7 +40,7 @@ impl<'e, R, D, C> Model for ServiceControl<'e, R, D, C> {
 }
 
 impl<'e, R, D, C> ServiceControl<'e, R, D, C> {
-    /// The control of a service whose groups have these names.
+    /// The control of a service whose groups and commands have these names.
     pub fn new(
         rt: &'e R,
         alloc: Global,
@@ -108,12 +108,16 @@ impl<'e, R: Wait, D: Dependency, C: Clock> Control for ServiceControl<'e, R, D, 
         Some(GroupId(number))
     }
 
-    fn metrics(&mut self, group: GroupId) -> Reply
-        ensures reply { MayShow group result }
+    fn command(&self, group: GroupId, name: &str) -> Option<u8> {
+        self.names.command(group, name)
+    }
+
+    fn metrics(&mut self, group: GroupId, command: u8) -> Reply
+        ensures reply { MayShow group command result }
         ensures groups { self.new.names ≡ self.old.names }
-        ensures made { IsStepped C.moments self.old.service group (op.Read 0) result self.new.last }
+        ensures made { IsStepped C.moments self.old.service group (op.Read command) result self.new.last }
     {
-        self.step(group, Op::Read { command: 0 })
+        self.step(group, Op::Read { command })
     }
 
     fn call(&mut self, group: GroupId, request: Request) -> Result<Answer, CallError>

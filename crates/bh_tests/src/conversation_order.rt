@@ -1,6 +1,8 @@
 //! When the answers of a session leave: beside the calls that it makes, and how many of them at a time.
 
-use crate::samples::text;
+ghost use Rattle.std.specs.Prelude.{[]};
+
+use crate::samples::{own_command, text};
 use bh_base::{Answer, CallError, GroupId, Reply, Request, Text};
 use bh_control::{Control, converse};
 use bh_lines::PortError;
@@ -20,9 +22,9 @@ struct Witness<'a> {
 }
 
 impl Control for Witness<'_> {
-    ghost names = { λ control. control.names };
+    ghost names = { λ control. record { groups = control.names; commands = [] } };
 
-    ghost may_show = { λ _ _. Unit {0} };
+    ghost may_show = { λ _ _ _. Unit {0} };
 
     ghost may_answer = { λ _ _ _. Unit {0} };
 
@@ -32,7 +34,11 @@ impl Control for Witness<'_> {
         &self.names
     }
 
-    fn metrics(&mut self, _group: GroupId) -> Reply {
+    fn command(&self, group: GroupId, name: &str) -> Option<u8> {
+        own_command(&self.names, group, name)
+    }
+
+    fn metrics(&mut self, _group: GroupId, _command: u8) -> Reply {
         Reply::Worn
     }
 

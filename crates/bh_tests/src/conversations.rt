@@ -1,24 +1,29 @@
 //! Conversations, without a socket.
 
-use crate::samples::text;
+ghost use Rattle.std.specs.Prelude.{◌∷◌, []};
+
+use crate::samples::{is_own_name, text};
 use crate::script::split_line;
-use bh_base::{Answer, CallError, GroupId, Reply, Request, Text};
+use crate::several_commands::NO_EVENTS;
+use bh_base::{Answer, CallError, CircuitState, Counts, GroupId, Metrics, Reply, Request, Text};
 use bh_control::{Control, Conversation};
 use bh_lines::PortError;
 use std::alloc::Global;
 use std::process::Abort;
 
-/// A service of the groups a and b whose answers are made up: a call is answered by its argument, or by the reason that
-/// the argument names, a close by the number of the group, and metrics as of a group with no command or a worn one.
+/// A service of the groups a and b, of which b has a further command, whose answers are made up: a call of an own command
+/// is answered by its argument, or by the reason that the argument names, one of the further command as a bad request, a
+/// close by the number of the group, and metrics as of a group with no command, a worn one, or a command with a failure.
 #[derive(Drop)]
 struct MadeUp {
     names: [Text<32>; 2],
+    further: Text<32>,
 }
 
 impl Control for MadeUp {
-    ghost names = { λ control. control.names };
+    ghost names = { λ control. record { groups = control.names; commands = (control.further, (1, 1)) ∷ [] } };
 
-    ghost may_show = { λ _ _. Unit {0} };
+    ghost may_show = { λ _ _ _. Unit {0} };
 
     ghost may_answer = { λ _ _ _. Unit {0} };
 
@@ -28,14 +33,29 @@ impl Control for MadeUp {
         &self.names
     }
 
-    fn metrics(&mut self, group: GroupId) -> Reply {
-        match group.0 {
-            0 => Reply::NoCommand,
-            _ => Reply::Worn,
+    fn command(&self, group: GroupId, name: &str) -> Option<u8> {
+        if is_own_name(&self.names, group, name) {
+            return Some(0);
+        }
+        if group.0 == 1 && self.further.as_str() == name {
+            Some(1)
+        } else {
+            None
+        }
+    }
+
+    fn metrics(&mut self, group: GroupId, command: u8) -> Reply {
+        match (group.0, command) {
+            (0, _) => Reply::NoCommand,
+            (_, 0) => Reply::Worn,
+            _ => Reply::Metrics(ONE_FAILURE),
         }
     }
 
     fn call(&mut self, _group: GroupId, request: Request) -> Result<Answer, CallError> {
+        if request.command != 0 {
+            return Ok(Answer::BadRequest);
+        }
         match request.arg.as_str() {
             "group full" => Err(CallError::GroupFull),
             "worn" => Err(CallError::Worn),
@@ -56,8 +76,24 @@ impl Control for MadeUp {
 fn made_up() -> MadeUp {
     MadeUp {
         names: [text("a"), text("b")],
+        further: text("c"),
     }
 }
+
+/// What the further command shows of itself.
+const ONE_FAILURE: Metrics = Metrics {
+    circuit: CircuitState::Closed,
+    counts: Counts {
+        failure: 1,
+        ..NO_EVENTS
+    },
+    errors: 1,
+    total: 1,
+    percent: 100,
+    busy: 0,
+    queued: 0,
+    free: 64,
+};
 
 const GROUPS: &str = "{\"op\":\"groups\"}\n";
 
@@ -173,13 +209,49 @@ const LINES: &str = r#"{"op":"close","group":"a","context":7} = {"released":0,"r
 groups = {"error":"syntax"}
 "#;
 
+/// Asserts what each line is answered.
+fn assert_lines<R: Abort + AllocGlobal>(rt: &R, lines: &str) {
+    let mut talk = Talk::new(rt.alloc());
+    for line in lines.lines() {
+        let (asked, reply) = split_line(line);
+        let piece = format!(in rt.alloc(); "{asked}\n").expect(rt, "memory");
+        let want = format!(in rt.alloc(); "{reply}\n").expect(rt, "memory");
+        talk.assert_fed(rt, piece.as_str().as_bytes(), want.as_str());
+    }
+}
+
 #[test]
 fn each_line_has_its_reply(rt: HostRuntime) {
-    let mut talk = Talk::new(rt.alloc());
-    for line in LINES.lines() {
-        let (asked, reply) = split_line(line);
-        let piece = format!(in rt.alloc(); "{asked}\n").expect(&rt, "memory");
-        let want = format!(in rt.alloc(); "{reply}\n").expect(&rt, "memory");
-        talk.assert_fed(&rt, piece.as_str().as_bytes(), want.as_str());
-    }
+    assert_lines(&rt, LINES);
+}
+
+/// Each line with its reply, as `LINES`. The name c is that of a further command of b.
+const COMMANDS: &str =
+    r#"{"op":"call","group":"b","command":"c","arg":"hi"} = {"reply":"bad-request"}
+{"op":"call","group":"b","command":"\u0063","arg":"hi","context":7,"key":"k","m":{}} = {"reply":"bad-request"}
+{"op":"call","group":"b","command":"b","arg":"hi"} = {"body":"hi","reply":"value"}
+{"op":"call","group":"a","command":"a","arg":"hi"} = {"body":"hi","reply":"value"}
+{"op":"call","group":"a","command":"c","arg":"hi"} = {"error":"command"}
+{"op":"call","group":"b","command":"a","arg":"hi"} = {"error":"command"}
+{"op":"call","group":"b","command":"","arg":"hi"} = {"error":"command"}
+{"op":"call","group":"b","command":1,"arg":"hi"} = {"error":"field"}
+{"op":"call","group":"b","command":null,"arg":"hi"} = {"error":"field"}
+{"op":"call","group":"b","command":"d"} = {"error":"field"}
+{"op":"call","group":"z","command":1,"arg":"hi"} = {"error":"field"}
+{"op":"call","group":"z","command":"c","arg":"hi"} = {"error":"group"}
+{"op":"call","group":"b","command":"d","arg":"hi","context":7,"key":"0123456789012345678901234567890-_"} = {"error":"command"}
+{"op":"call","group":"b","command":"c","arg":"hi","context":7,"key":"0123456789012345678901234567890-_"} = {"error":"long"}
+{"op":"call","group":"b","command":"0123456789012345678901234567890-_","arg":"hi"} = {"error":"command"}
+{"op":"metrics","group":"b","command":"c"} = {"busy":0,"circuit":"closed","errors":1,"events":{"FAILURE":1},"free":64,"percent":100,"queued":0,"reply":"metrics","total":1}
+{"op":"metrics","group":"b","command":"b"} = {"reply":"worn"}
+{"op":"metrics","group":"a","command":"c"} = {"error":"command"}
+{"op":"metrics","group":"z","command":"c"} = {"error":"group"}
+{"op":"metrics","group":"b","command":["c"]} = {"error":"field"}
+{"op":"close","group":"b","context":7,"command":1} = {"released":1,"reply":"closed"}
+{"op":"groups","command":1} = {"groups":["a","b"],"reply":"groups"}
+"#;
+
+#[test]
+fn calls_and_metrics_name_their_command(rt: HostRuntime) {
+    assert_lines(&rt, COMMANDS);
 }

@@ -1,7 +1,9 @@
 //! Lines that are nearly JSON: good lines in which a few parts were changed at random. Each is answered by one line, by
 //! the fault of its syntax exactly where `serde_json` refuses it, and no line ends a script or a conversation.
 
-use crate::samples::text;
+ghost use Rattle.std.specs.Prelude.{[]};
+
+use crate::samples::{own_command, text};
 use bh_base::{Answer, CallError, GroupId, Reply, Request, Text};
 use bh_control::{Control, Conversation};
 use bh_port::script::script;
@@ -24,6 +26,8 @@ const STEPS: &str = r#"{"op":"submit","group":"a","now":0,"arg":"x"}
 {"op":"fallback","group":"a","now":7,"ticket":2,"end":"success","body":"z"}
 {"op":"close","group":"a","now":8,"context":7}
 {"op":"read","group":"a","now":9}
+{"op":"submit","group":"a","command":"c","now":9,"arg":"y"}
+{"op":"read","group":"a","command":"c","now":9}
 { "op" : "st\u0061rt" , "group" : "\u0061" , "now" : 18446744073709551615 , "n" : [ null , true , -1.5e3 ] }
 {"p":{"q":{"r":[[],{}]}},"op":"submit","now":10,"now":11,"group":"a","arg":"\ud83d\ude00 \"€\""}
 "#;
@@ -31,8 +35,10 @@ const STEPS: &str = r#"{"op":"submit","group":"a","now":0,"arg":"x"}
 /// Control lines of every operation.
 const CONTROL_LINES: &str = r#"{"op":"groups"}
 {"op":"metrics","group":"a"}
+{"op":"metrics","group":"a","command":"a"}
 {"op":"call","group":"a","arg":"hi"}
 {"op":"call","group":"a","arg":"\u0068i","context":7,"key":"k"}
+{"op":"call","group":"a","command":"a","arg":"hi"}
 {"op":"close","group":"a","context":7}
 { "op" : "groups" , "n" : [ null , true , -1.5e3 ] , "m" : { "m" : {} } }
 "#;
@@ -164,7 +170,7 @@ fn count_answer<R: Abort + AllocGlobal>(rt: &R, counts: &mut Answers, line: &str
     assert!(rt; is_json != (fault == Some("syntax")), "{line}: {answer}");
     match fault {
         Some("syntax") => counts.syntax = counts.syntax.saturating_add(1),
-        Some("field" | "op" | "group" | "long") => {
+        Some("field" | "op" | "group" | "command" | "long") => {
             counts.other_faults = counts.other_faults.saturating_add(1)
         }
         Some(_) => assert!(rt; false, "{line}: {answer}"),
@@ -198,9 +204,12 @@ fn assert_answered<R: Abort + AllocGlobal>(rt: &R, input: &[u8], output: &[u8]) 
     assert!(rt; counts.replies > 500);
 }
 
-/// Runs the input as a script of the group a, and asserts that no line ends it.
+/// The settings of a service of the group a, with the further command c.
+const ONE_GROUP: &str = "service.groups = [\"a\"]\nservice.command.c.group = \"a\"\n";
+
+/// Runs the input as a script of the service, and asserts that no line ends it.
 fn run_script<R: Abort + AllocGlobal>(rt: &R, input: &[u8]) -> Vec<u8> {
-    let settings = bh_props::read(rt.alloc(), "service.groups = [\"a\"]").expect(rt, "settings");
+    let settings = bh_props::read(rt.alloc(), ONE_GROUP).expect(rt, "settings");
     let mut rest = input;
     let mut output = Vec::new(rt.alloc());
     let ended = script(
@@ -227,9 +236,9 @@ struct OneGroup {
 }
 
 impl Control for OneGroup {
-    ghost names = { λ control. control.names };
+    ghost names = { λ control. record { groups = control.names; commands = [] } };
 
-    ghost may_show = { λ _ _. Unit {0} };
+    ghost may_show = { λ _ _ _. Unit {0} };
 
     ghost may_answer = { λ _ _ _. Unit {0} };
 
@@ -239,7 +248,11 @@ impl Control for OneGroup {
         &self.names
     }
 
-    fn metrics(&mut self, _group: GroupId) -> Reply {
+    fn command(&self, group: GroupId, name: &str) -> Option<u8> {
+        own_command(&self.names, group, name)
+    }
+
+    fn metrics(&mut self, _group: GroupId, _command: u8) -> Reply {
         Reply::Worn
     }
 

@@ -1,6 +1,8 @@
 //! Sessions over readers that give little at a time or fail, and writers that take little, fail or take none.
 
-use crate::samples::text;
+ghost use Rattle.std.specs.Prelude.{[]};
+
+use crate::samples::{own_command, text};
 use bh_base::{Answer, CallError, GroupId, Reply, Request, Text};
 use bh_control::{Control, converse};
 use bh_lines::PortError;
@@ -74,9 +76,9 @@ struct Full {
 }
 
 impl Control for Full {
-    ghost names = { λ control. control.names };
+    ghost names = { λ control. record { groups = control.names; commands = [] } };
 
-    ghost may_show = { λ _ _. Unit {0} };
+    ghost may_show = { λ _ _ _. Unit {0} };
 
     ghost may_answer = { λ _ _ _. Unit {0} };
 
@@ -86,7 +88,11 @@ impl Control for Full {
         &self.names
     }
 
-    fn metrics(&mut self, _group: GroupId) -> Reply {
+    fn command(&self, group: GroupId, name: &str) -> Option<u8> {
+        own_command(&self.names, group, name)
+    }
+
+    fn metrics(&mut self, _group: GroupId, _command: u8) -> Reply {
         Reply::Worn
     }
 

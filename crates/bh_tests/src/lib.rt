@@ -25,6 +25,8 @@ mod conversation_order;
 #[cfg(test)]
 mod conversations;
 #[cfg(test)]
+mod further_commands;
+#[cfg(test)]
 mod groups;
 #[cfg(test)]
 mod hostile_json;

@@ -1,10 +1,9 @@
-//! Random steps of three groups, two of which have two commands: each is told what a core tells it in which it stands
-//! alone.
+//! Random steps of three groups of two commands each: each group is told what a core tells it in which it stands alone.
 
 ghost use Rattle.std.specs.Prelude.{◌<◌, ◌≤◌};
 ghost use Rattle.bh_base.specs.Ranges.{IsCommandInRange, IsInRange};
 
-use crate::samples::{command, props_with, props_with_two, step, text};
+use crate::samples::{command, props_with_two, step, text};
 use bh_base::{
     CommandProps, FallbackEnd, GroupProps, Moment, Op, Reply, Request, Serial, Strategy,
 };
@@ -62,11 +61,11 @@ fn tightened(props: GroupProps, slots: u64) -> GroupProps
     }
 }
 
-/// A group of one slot, with its own command alone.
+/// A group of one slot, whose two commands are run by workers.
 fn one_slot<R: Abort + AllocGlobal>(rt: &R) -> GroupProps
     ensures { IsInRange result }
 {
-    tightened(props_with(rt, tight()), 1)
+    tightened(props_with_two(rt, tight(), tight()), 1)
 }
 
 /// A group of three slots, whose own command is run under permits, and a further one by workers.

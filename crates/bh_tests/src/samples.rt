@@ -1,8 +1,9 @@
 //! What the tests share.
 
-ghost use Rattle.std.specs.Prelude.{◌≡◌, ◌≤◌, length};
+ghost use Rattle.std.specs.Prelude.{◌≡◌, ◌≤◌, [], length};
 ghost use Rattle.std.specs.List.{AllByRecursion};
 ghost use Rattle.bh_base.specs.Ranges.{IsCommandInRange, IsInRange};
+ghost use Rattle.bh_lines.specs.Names.{command_number, is_own_name};
 
 use bh_base::{CommandProps, GroupId, GroupProps, Op, Request, Step, Strategy, Text};
 use std::process::Abort;
@@ -127,6 +128,27 @@ pub(crate) fn own_request(cache: Option<(u64, Text<32>)>, arg: Text<64>) -> Requ
         command: 0,
         cache,
         arg,
+    }
+}
+
+/// Whether the group, one of those with these names, has the name.
+pub(crate) fn is_own_name(groups: &[Text<32>], group: GroupId, name: &str) -> bool
+    ensures { result ≡ is_own_name (record { groups = groups.now; commands = [] }) group.0 name.now }
+{
+    match groups.get(group.0 as usize) {
+        Some(own) => own.as_str() == name,
+        None => false,
+    }
+}
+
+/// The number of the command of the name where groups of these names have their own commands alone.
+pub(crate) fn own_command(groups: &[Text<32>], group: GroupId, name: &str) -> Option<u8>
+    ensures { result ≡ command_number (record { groups = groups.now; commands = [] }) group.0 name.now }
+{
+    if is_own_name(groups, group, name) {
+        Some(0)
+    } else {
+        None
     }
 }
 

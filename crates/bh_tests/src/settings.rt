@@ -57,7 +57,7 @@ mail queueSizeRejectionThreshold 5
 ";
 
 // What is shown of a file: its lines, or why it is refused.
-fn shown(alloc: Global, file: &str) -> Result<String, AllocError> {
+pub(crate) fn shown(alloc: Global, file: &str) -> Result<String, AllocError> {
     match read(alloc, file) {
         Ok(settings) => format!(in alloc; "{settings}"),
         Err(error) => format!(in alloc; "{error}"),
@@ -145,6 +145,19 @@ service.slots = 1
 service.groups = ["a"]
 service.slots.b = 1
 
+5 unknown service property
+service.groups = ["a"]
+service.command = 1
+
+5 unknown service property
+service.groups = ["a"]
+service.command = [{ group = "a" }]
+
+5 unknown service property
+service.groups = ["a"]
+service.command.c.group = "b"
+service.x = 1
+
 6 wrong type: a coreSize
 service.groups = ["a"]
 hystrix.threadpool.a.coreSize = "4"
@@ -175,17 +188,176 @@ hystrix.threadpool.a.coreSize = 1
 service.groups = ["a", "b"]
 hystrix.command.b.metrics.rollingStats.numBuckets = 3"#;
 
+// The same of files that name further commands.
+const REFUSED_COMMANDS: &str = r#"10 bad command at 1
+service.groups = ["a"]
+service.command.default.group = "a"
+
+10 bad command at 1
+service.groups = ["a"]
+service.command."".group = "a"
+
+10 bad command at 1
+service.groups = ["a"]
+service.command."c d".group = "a"
+
+10 bad command at 1
+service.groups = ["a"]
+service.command.0123456789012345678901234567890-_.group = "a"
+
+10 bad command at 2
+service.groups = ["a", "b"]
+service.command.b.group = "a"
+service.command.Z.group = "a"
+
+10 bad command at 1
+service.groups = ["a"]
+service.command.c = "a"
+
+10 bad command at 1
+service.groups = ["a"]
+service.command.c = ["a"]
+
+10 bad command at 1
+service.groups = ["a"]
+service.command.c = {}
+
+10 bad command at 2
+service.groups = ["a"]
+service.command.c.group = "a"
+service.command.d.name = "a"
+
+10 bad command at 1
+service.groups = ["a"]
+service.command.c.group = 1
+
+10 bad command at 1
+service.groups = ["a"]
+service.command.c.group = ["a"]
+
+10 bad command at 1
+service.groups = ["a"]
+service.command.c.group = "b"
+
+10 bad command at 1
+service.groups = ["a"]
+service.command.c.group = "default"
+
+10 bad command at 2
+service.groups = ["a"]
+service.command.c.group = "a"
+service.command.d.group = "c"
+
+10 bad command at 1
+service.groups = ["a"]
+service.command.c.group = "a"
+service.command.c.slots = 1
+
+10 bad command at 16
+service.groups = ["a"]
+service.command.q.group = "a"
+service.command.p.group = "a"
+service.command.o.group = "a"
+service.command.n.group = "a"
+service.command.m.group = "a"
+service.command.l.group = "a"
+service.command.k.group = "a"
+service.command.j.group = "a"
+service.command.i.group = "a"
+service.command.h.group = "a"
+service.command.g.group = "a"
+service.command.f.group = "a"
+service.command.e.group = "a"
+service.command.d.group = "a"
+service.command.c.group = "a"
+service.command.b.group = "a"
+
+10 bad command at 2
+service.groups = ["a"]
+service.command.d.group = 1
+service.command.c.group = "a"
+service.command.e = 1
+
+10 bad command at 2
+service.groups = ["a"]
+service.command.c2.group = 1
+service.command.c10.group = "a"
+
+10 bad command at 1
+service.groups = ["a"]
+service.command.c.group = "b"
+hystrix.threadpool.a.coreSize = "4"
+
+6 wrong type: c fallback.enabled
+service.groups = ["a"]
+service.command.c.group = "a"
+hystrix.command.c.fallback.enabled = 1
+
+6 wrong type: c fallback.enabled
+service.groups = ["a"]
+service.command.c.group = "a"
+hystrix.command.default.fallback.enabled = 1
+hystrix.command.a.fallback.enabled = true
+
+6 wrong type: c fallback.enabled
+service.groups = ["a", "b"]
+service.command.d.group = "b"
+service.command.c.group = "a"
+hystrix.threadpool.a.coreSize = 0
+hystrix.command.b.fallback.enabled = 1
+hystrix.command.c.fallback.enabled = 1
+
+6 wrong type: d fallback.enabled
+service.groups = ["a", "b"]
+service.command.d.group = "a"
+service.command.c.group = "b"
+hystrix.command.c.fallback.enabled = 1
+hystrix.command.d.fallback.enabled = 1
+
+6 wrong type: a queueSizeRejectionThreshold
+service.groups = ["a"]
+service.command.Z.group = "a"
+hystrix.command.Z.execution.isolation.strategy = 1
+hystrix.threadpool.a.queueSizeRejectionThreshold = "5"
+
+7 out of range: c execution.isolation.strategy
+service.groups = ["a", "b"]
+service.command.c.group = "a"
+hystrix.command.c.execution.isolation.strategy = "POOL"
+hystrix.threadpool.b.coreSize = 0
+
+7 out of range: c metrics.rollingStats.numBuckets
+service.groups = ["a"]
+service.command.c.group = "a"
+hystrix.command.a.metrics.rollingStats.numBuckets = 3
+hystrix.command.c.metrics.rollingStats.numBuckets = 0
+
+8 not a multiple: c
+service.groups = ["a", "b"]
+service.command.c.group = "a"
+hystrix.command.c.metrics.rollingStats.numBuckets = 3
+hystrix.command.b.metrics.rollingStats.numBuckets = 3"#;
+
 fn assert_refused(rt: &(impl Abort + AllocGlobal), file: &str, why: &str) {
     let want = format!(in rt.alloc(); "settings refused: {why}").expect(rt, "memory");
     assert_text(rt, shown(rt.alloc(), file), want.as_str(), file);
 }
 
+fn assert_refusals(rt: &(impl Abort + AllocGlobal), cases: &str) {
+    for case in cases.split("\n\n") {
+        let (why, file) = case.split_once('\n').unwrap_or((case, ""));
+        assert_refused(rt, file, why);
+    }
+}
+
 #[test]
 fn first_refusals(rt: HostRuntime) {
-    for case in REFUSALS.split("\n\n") {
-        let (why, file) = case.split_once('\n').unwrap_or((case, ""));
-        assert_refused(&rt, file, why);
-    }
+    assert_refusals(&rt, REFUSALS);
+}
+
+#[test]
+fn first_refusals_of_further_commands(rt: HostRuntime) {
+    assert_refusals(&rt, REFUSED_COMMANDS);
 }
 
 // With a blank line between two files.
@@ -206,7 +378,16 @@ hystrix.command = 1
 [service]
 groups = ["a"]
 [hystrix.command.a]
-metrics.rollingStats = 0"#;
+metrics.rollingStats = 0
+
+service.groups = ["a"]
+service.command = {}
+hystrix.command.c.fallback.enabled = 1
+
+service.groups = ["a"]
+service.command.c.group = "a"
+hystrix.threadpool.c.coreSize = 0
+hystrix.command.d.fallback.enabled = 1"#;
 
 fn assert_one_group(rt: &(impl Abort + AllocGlobal), file: &str) {
     match read(rt.alloc(), file) {

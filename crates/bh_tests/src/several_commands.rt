@@ -52,7 +52,8 @@ fn three_frail<R: Abort + AllocGlobal>(rt: &R) -> GroupProps
     }
 }
 
-const NO_EVENTS: Counts = Counts {
+/// No event of any kind.
+pub(crate) const NO_EVENTS: Counts = Counts {
     bad_request: 0,
     exception_thrown: 0,
     failure: 0,

@@ -12,8 +12,8 @@ use bh_streams::{WatchedWriter, write};
 use std::alloc::Global;
 use std::io::Write;
 
-/// Writes a line for each group and property, in listed order: the group, the property and the value in force.
-/// Answers the exit status.
+/// Writes a line for each group and property, in listed order: the group, the property and the value in force. Behind a
+/// group's lines stand those of its further commands, each with the command's name first. Answers the exit status.
 ///
 /// - 0: all lines were written.
 /// - 1: the settings are refused, and nothing was written.

@@ -5,6 +5,7 @@ mod faults;
 mod hostile_settings;
 mod hostile_streams;
 mod operations;
+mod scripts;
 mod serve;
 mod serve_acceptor;
 mod serve_clients;

@@ -55,7 +55,13 @@ field {"op":"start","group":"a","now":null}
 field {"op":"submit","group":"a","now":0}
 field {"op":"submit","group":"a","now":0,"arg":"x","context":1}
 field {"op":"submit","group":"a","now":0,"arg":"x","key":"k"}
+field {"op":"submit","group":"a","now":0,"arg":"x","command":1}
+field {"op":"submit","group":"z","now":0,"arg":"x","command":["a"]}
+field {"op":"submit","group":"a","now":0,"command":"c"}
+field {"op":"read","group":"a","now":0,"command":null}
+field {"op":"read","group":"z","now":0,"command":true}
 op {"op":"jump","group":"a","now":0}
+op {"op":"jump","group":"a","now":0,"command":1}
 op {"op":"jump"}
 field {"op":"fail","group":"a","now":0,"ticket":1,"bad":1}
 field {"op":"fallback","group":"a","now":0,"ticket":1}
@@ -66,6 +72,13 @@ field {"op":"close","group":"a","now":0,"ticket":1}
 field {"op":"close","group":"z","now":0}
 group {"op":"start","group":"z","now":0}
 group {"op":"start","group":"zzzzzzzzzzzzzzzzzzzzzzzzzzzzzzzzz","now":0}
+group {"op":"submit","group":"z","now":0,"arg":"x","command":"z"}
+group {"op":"read","group":"z","now":0,"command":"c"}
+command {"op":"submit","group":"a","now":0,"arg":"x","command":"c"}
+command {"op":"submit","group":"a","now":0,"arg":"x","command":""}
+command {"op":"submit","group":"a","now":0,"arg":"x","command":"a "}
+command {"op":"submit","group":"a","now":0,"arg":"x","command":"zzzzzzzzzzzzzzzzzzzzzzzzzzzzzzzzz"}
+command {"op":"read","group":"a","now":0,"command":"default"}
 "#;
 
 /// Runs the text between two steps, and asserts that it is answered by its fault and is no step.
@@ -99,12 +112,20 @@ const FAULTS_INPUT: &str = r#"{
 {"op":"submit","group":"a","now":0,"arg":"xxxxxxxxxxxxxxxxxxxxxxxxxxxxxxxxxxxxxxxxxxxxxxxxxxxxxxxxxxxxxxxxx"}
 {"op":"submit","group":"z","now":0,"arg":"xxxxxxxxxxxxxxxxxxxxxxxxxxxxxxxxxxxxxxxxxxxxxxxxxxxxxxxxxxxxxxxxx"}
 {"op":"submit","group":"z","arg":"xxxxxxxxxxxxxxxxxxxxxxxxxxxxxxxxxxxxxxxxxxxxxxxxxxxxxxxxxxxxxxxxx"}
+{"op":"submit","group":"a","now":0,"command":"c","arg":"xxxxxxxxxxxxxxxxxxxxxxxxxxxxxxxxxxxxxxxxxxxxxxxxxxxxxxxxxxxxxxxxx"}
+{"op":"submit","group":"a","now":0,"command":"a","arg":"xxxxxxxxxxxxxxxxxxxxxxxxxxxxxxxxxxxxxxxxxxxxxxxxxxxxxxxxxxxxxxxxx"}
+{"op":"submit","group":"z","now":0,"command":"c","arg":"xxxxxxxxxxxxxxxxxxxxxxxxxxxxxxxxxxxxxxxxxxxxxxxxxxxxxxxxxxxxxxxxx"}
+{"op":"submit","group":"z","now":0,"command":1,"arg":"xxxxxxxxxxxxxxxxxxxxxxxxxxxxxxxxxxxxxxxxxxxxxxxxxxxxxxxxxxxxxxxxx"}
 {"op":"start","group":"a","now":0}"#;
 
 const FAULTS_OUTPUT: &str = r#"{"error":"syntax"}
 {"error":"field"}
 {"error":"op"}
 {"error":"group"}
+{"error":"long"}
+{"error":"group"}
+{"error":"field"}
+{"error":"command"}
 {"error":"long"}
 {"error":"group"}
 {"error":"field"}

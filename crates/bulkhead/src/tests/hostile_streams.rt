@@ -1,7 +1,8 @@
 //! Runs in which one call of the reader or the writer goes wrong: the first, the second and so on, until a run makes
 //! fewer calls.
 
-use super::operations::{CACHE, Texts, script_of, texts_of};
+use super::operations::CACHE;
+use super::scripts::{Texts, script_of, texts_of};
 use super::streams::{PieceReader, PieceWriter, pieces, writer};
 use super::{assert_bytes, assert_end};
 use crate::run::run_file;

@@ -1,80 +1,6 @@
-//! Scripts of all operations, each under properties of its own, in which each line stands beside its answer.
-//!
-//! A script is what it shows, its settings, and behind an empty line its lines, each with its answer behind ` -> `. Two
-//! empty lines stand between scripts.
+//! Scripts of all operations, each under properties of its own.
 
-use super::{assert_bytes, assert_end};
-use crate::run::run_file;
-use std::process::Abort;
-
-/// A script, taken apart.
-#[derive(Clone, Copy)]
-pub struct Script<'a> {
-    pub shows: &'a str,
-    pub settings: &'a str,
-    pub lines: &'a str,
-}
-
-/// The script of a text.
-pub fn script_of(text: &str) -> Script<'_> {
-    let (head, lines) = text.split_once("\n\n").unwrap_or((text, ""));
-    let (shows, settings) = head.split_once('\n').unwrap_or((head, ""));
-    Script {
-        shows,
-        settings,
-        lines,
-    }
-}
-
-/// The lines of a script, and their answers.
-#[derive(Drop)]
-pub struct Texts {
-    pub input: String,
-    pub output: String,
-}
-
-/// The lines and the answers, each with a line feed.
-pub fn texts_of<R: Abort + AllocGlobal>(rt: &R, lines: &str) -> Texts {
-    let mut input = String::new(rt.alloc());
-    let mut output = String::new(rt.alloc());
-    for line in lines.lines() {
-        let (step, answer) = line.split_once(" -> ").unwrap_or((line, ""));
-        push_line(rt, &mut input, step);
-        push_line(rt, &mut output, answer);
-    }
-    Texts { input, output }
-}
-
-/// Puts a line behind a text.
-fn push_line<R: Abort>(rt: &R, text: &mut String, line: &str) {
-    text.push_str(line).expect(rt, "memory");
-    text.push_str("\n").expect(rt, "memory");
-}
-
-/// Runs the script, and asserts that its lines are answered as it says.
-fn assert_script<R: Abort + AllocGlobal>(rt: &R, script: Script<'_>) {
-    let texts = texts_of(rt, script.lines);
-    let mut reader: &[u8] = texts.input.as_str().as_bytes();
-    let mut written = Vec::new(rt.alloc());
-    let mut reported = Vec::new(rt.alloc());
-    let answered = run_file(
-        rt.alloc(),
-        script.settings.as_bytes(),
-        &mut reader,
-        &mut written,
-        &mut reported,
-    );
-    assert_bytes(rt, &reported, "", script.shows);
-    assert_bytes(rt, &written, texts.output.as_str(), script.shows);
-    assert_end(rt, answered, 0);
-}
-
-/// The same of each of some scripts.
-fn assert_scripts<R: Abort + AllocGlobal>(rt: &R, scripts: &str) {
-    for text in scripts.split("\n\n\n") {
-        assert_script(rt, script_of(text));
-    }
-}
+use super::scripts::assert_scripts;
 
 const GROUPS: &str = r#"an empty input
 service.groups = ["a"]
@@ -420,6 +346,100 @@ service.groups = ["a"]
 #[test]
 fn requests_of_one_key_share_a_ticket(rt: HostRuntime) {
     assert_scripts(&rt, CACHE);
+}
+
+/// Commands of a group, each with its own circuit and permits, over the one pool and the one cache.
+const COMMANDS: &str = r#"a failure opens the circuit of its own command
+service.groups = ["a"]
+service.command.c.group = "a"
+service.command.d.group = "a"
+hystrix.command.default.circuitBreaker.requestVolumeThreshold = 1
+hystrix.command.default.metrics.healthSnapshot.intervalInMilliseconds = 0
+hystrix.threadpool.default.coreSize = 1
+
+{"op":"submit","group":"a","now":0,"arg":"p","command":"c"} -> {"reply":"queued","ticket":1}
+{"op":"start","group":"a","now":0} -> {"arg":"p","command":"c","reply":"assigned","ticket":1}
+{"op":"fail","group":"a","now":1,"ticket":1,"bad":false} -> {"reply":"done"}
+{"op":"submit","group":"a","now":2,"arg":"r","command":"c"} -> {"cause":"short-circuited","reply":"fallback-due","ticket":2}
+{"op":"submit","group":"a","now":2,"arg":"q"} -> {"reply":"queued","ticket":3}
+{"op":"submit","group":"a","now":2,"arg":"s","command":"d"} -> {"cause":"thread-pool-rejected","reply":"fallback-due","ticket":4}
+{"op":"read","group":"a","now":3,"command":"c"} -> {"busy":0,"circuit":"open","errors":1,"events":{"FAILURE":1,"SHORT_CIRCUITED":1},"free":60,"percent":100,"queued":0,"reply":"metrics","total":1}
+{"op":"read","group":"a","now":3} -> {"busy":0,"circuit":"closed","errors":0,"events":{},"free":60,"percent":0,"queued":1,"reply":"metrics","total":0}
+{"op":"submit","group":"a","now":3,"arg":"t","command":"e"} -> {"error":"command"}
+
+
+runs by callers take no worker, and a name is that of one command
+service.groups = ["a"]
+service.command.c.group = "a"
+hystrix.command.c.execution.isolation.strategy = "SEMAPHORE"
+hystrix.command.c.execution.isolation.semaphore.maxConcurrentRequests = 1
+hystrix.threadpool.default.coreSize = 1
+
+{"op":"submit","group":"a","now":0,"arg":"p","command":"c"} -> {"reply":"inline","ticket":1}
+{"op":"submit","group":"a","now":0,"arg":"q"} -> {"reply":"queued","ticket":2}
+{"op":"start","group":"a","now":0} -> {"arg":"q","reply":"assigned","ticket":2}
+{"op":"submit","group":"a","now":0,"arg":"r","command":"c"} -> {"cause":"semaphore-rejected","reply":"fallback-due","ticket":3}
+{"op":"submit","group":"a","now":1,"arg":"x","context":7,"key":"k"} -> {"cause":"thread-pool-rejected","reply":"fallback-due","ticket":4}
+{"op":"submit","group":"a","now":1,"arg":"x","context":7,"key":"k","command":"c"} -> {"cause":"semaphore-rejected","reply":"fallback-due","ticket":5}
+{"op":"submit","group":"a","now":1,"arg":"x","context":7,"key":"k","command":"c"} -> {"reply":"joined","ticket":5}
+{"op":"close","group":"a","now":2,"context":7} -> {"released":2,"reply":"closed"}
+
+
+a command is that of its name and its group, in lines of any shape
+service.groups = ["a", "b"]
+service.command.d.group = "a"
+service.command.c.group = "b"
+service.command.b2.group = "a"
+
+{"op":"submit","group":"a","now":0,"arg":"p","command":"d"} -> {"reply":"queued","ticket":1}
+{"op":"submit","group":"a","now":0,"arg":"q","command":"b2"} -> {"reply":"queued","ticket":2}
+{"op":"submit","group":"a","now":0,"arg":"r","command":"a"} -> {"reply":"queued","ticket":3}
+{"op":"submit","group":"a","now":0,"arg":"s","command":"c"} -> {"error":"command"}
+{"op":"submit","group":"a","now":0,"arg":"s","command":"b"} -> {"error":"command"}
+{"op":"submit","group":"b","now":0,"arg":"s","command":"x","command":"c","n":{"m":[]}} -> {"reply":"queued","ticket":1}
+{"op":"start","group":"a","now":1,"command":1} -> {"arg":"p","command":"d","reply":"assigned","ticket":1}
+{"op":"start","group":"a","now":1,"command":"c"} -> {"arg":"q","command":"b2","reply":"assigned","ticket":2}
+{"op":"start","group":"a","now":1} -> {"arg":"r","reply":"assigned","ticket":3}
+{"op":"start","group":"b","now":1} -> {"arg":"s","command":"c","reply":"assigned","ticket":1}
+
+
+a command times out by its own settings
+service.groups = ["a"]
+service.command.c.group = "a"
+hystrix.command.c.execution.isolation.thread.timeoutInMilliseconds = 500
+
+{"op":"submit","group":"a","now":0,"arg":"x"} -> {"reply":"queued","ticket":1}
+{"op":"submit","group":"a","now":0,"arg":"y","command":"c"} -> {"reply":"queued","ticket":2}
+{"op":"expire","group":"a","now":499} -> {"count":0,"reply":"expired"}
+{"op":"expire","group":"a","now":500} -> {"count":1,"reply":"expired"}
+{"op":"start","group":"a","now":501} -> {"arg":"x","reply":"assigned","ticket":1}
+{"op":"start","group":"a","now":501} -> {"reply":"idle"}
+
+
+the one worker of a group is shared with a command that trips, a run of examples/shared-pool
+service.groups = ["catalog"]
+service.command.report.group = "catalog"
+hystrix.threadpool.catalog.coreSize = 1
+hystrix.command.report.circuitBreaker.requestVolumeThreshold = 1
+hystrix.command.report.metrics.healthSnapshot.intervalInMilliseconds = 0
+
+{"op":"submit","group":"catalog","command":"report","now":0,"arg":"monday"} -> {"reply":"queued","ticket":1}
+{"op":"submit","group":"catalog","now":1,"arg":"item 5"} -> {"cause":"thread-pool-rejected","reply":"fallback-due","ticket":2}
+{"op":"start","group":"catalog","now":2} -> {"arg":"monday","command":"report","reply":"assigned","ticket":1}
+{"op":"start","group":"catalog","now":3} -> {"reply":"idle"}
+{"op":"fail","group":"catalog","now":4,"ticket":1,"bad":false} -> {"reply":"done"}
+{"op":"submit","group":"catalog","command":"report","now":5,"arg":"tuesday"} -> {"cause":"short-circuited","reply":"fallback-due","ticket":3}
+{"op":"submit","group":"catalog","command":"catalog","now":6,"arg":"item 7"} -> {"reply":"queued","ticket":4}
+{"op":"start","group":"catalog","now":7} -> {"arg":"item 7","reply":"assigned","ticket":4}
+{"op":"finish","group":"catalog","now":8,"ticket":4,"body":"seven"} -> {"reply":"done"}
+{"op":"collect","group":"catalog","now":9,"ticket":4} -> {"body":"seven","reply":"value"}
+{"op":"read","group":"catalog","command":"report","now":10} -> {"busy":0,"circuit":"open","errors":1,"events":{"FAILURE":1,"SHORT_CIRCUITED":1},"free":61,"percent":100,"queued":0,"reply":"metrics","total":1}
+{"op":"read","group":"catalog","now":11} -> {"busy":0,"circuit":"closed","errors":1,"events":{"SUCCESS":1,"THREAD_POOL_REJECTED":1},"free":61,"percent":50,"queued":0,"reply":"metrics","total":2}
+{"op":"submit","group":"catalog","command":"invoice","now":12,"arg":"order 3"} -> {"error":"command"}"#;
+
+#[test]
+fn commands_of_a_group_share_its_pool(rt: HostRuntime) {
+    assert_scripts(&rt, COMMANDS);
 }
 
 /// The same name twice, a nested member, many members, numbers of other forms, and escapes.

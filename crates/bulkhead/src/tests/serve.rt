@@ -22,6 +22,17 @@ hystrix.command.timed.execution.timeout.enabled = true
 hystrix.command.timed.execution.isolation.thread.timeoutInMilliseconds = 100
 "#;
 
+/// The settings of a service of two groups, of which one has a further command that a single failure trips for good.
+const TWO_COMMANDS: &str = r#"
+service.groups = ["a", "b"]
+service.command.c.group = "a"
+hystrix.command.default.execution.timeout.enabled = false
+hystrix.command.default.metrics.rollingStats.timeInMilliseconds = 3600000
+hystrix.command.c.circuitBreaker.requestVolumeThreshold = 1
+hystrix.command.c.circuitBreaker.sleepWindowInMilliseconds = 3600000
+hystrix.command.c.metrics.healthSnapshot.intervalInMilliseconds = 0
+"#;
+
 /// The settings of a service of eight groups.
 const EIGHT_GROUPS: &str = r#"
 service.groups = ["g0", "g1", "g2", "g3", "g4", "g5", "g6", "g7"]
@@ -182,16 +193,45 @@ const ASKED: &str =
 {"op":"metrics","group":"b"} = {"busy":0,"circuit":"closed","errors":3,"events":{"BAD_REQUEST":1,"EXCEPTION_THROWN":2,"FAILURE":3,"FALLBACK_FAILURE":1,"FALLBACK_MISSING":1,"FALLBACK_SUCCESS":1,"RESPONSE_FROM_CACHE":1,"SUCCESS":6},"free":64,"percent":33,"queued":0,"reply":"metrics","total":9}
 "#;
 
+/// What is asked of two commands, and the replies.
+const ASKED_OF_COMMANDS: &str =
+    r#"{"op":"call","group":"a","command":"c","arg":"hi"} = {"body":"hi","reply":"value"}
+{"op":"call","group":"a","command":"c","arg":"fail"} = {"body":"fallback","cause":"failure","reply":"fallback-value"}
+{"op":"call","group":"a","command":"c","arg":"hi"} = {"body":"fallback","cause":"short-circuited","reply":"fallback-value"}
+{"op":"call","group":"a","arg":"hi"} = {"body":"hi","reply":"value"}
+{"op":"call","group":"a","command":"a","arg":"ho"} = {"body":"ho","reply":"value"}
+{"op":"call","group":"a","command":"d","arg":"hi"} = {"error":"command"}
+{"op":"call","group":"b","command":"c","arg":"hi"} = {"error":"command"}
+{"op":"call","group":"z","command":"c","arg":"hi"} = {"error":"group"}
+{"op":"call","group":"a","command":1,"arg":"hi"} = {"error":"field"}
+{"op":"metrics","group":"a","command":"c"} = {"busy":0,"circuit":"open","errors":1,"events":{"FAILURE":1,"FALLBACK_SUCCESS":2,"SHORT_CIRCUITED":1,"SUCCESS":1},"free":64,"percent":50,"queued":0,"reply":"metrics","total":2}
+{"op":"metrics","group":"a"} = {"busy":0,"circuit":"closed","errors":0,"events":{"SUCCESS":2},"free":64,"percent":0,"queued":0,"reply":"metrics","total":2}
+{"op":"metrics","group":"a","command":"a"} = {"busy":0,"circuit":"closed","errors":0,"events":{"SUCCESS":2},"free":64,"percent":0,"queued":0,"reply":"metrics","total":2}
+{"op":"metrics","group":"b","command":"c"} = {"error":"command"}
+"#;
+
+/// Sends each line over the stream, and asserts its reply.
+fn ask_lines(rt: &(impl Abort + AllocGlobal), stream: &TcpStream, lines: &str) {
+    for line in lines.lines() {
+        let (asked, reply) = split(line);
+        assert_reply(rt, stream, asked, reply);
+    }
+}
+
+fn ask_for_commands<R: Net<Listener = TcpListener, Stream = TcpStream> + Abort + AllocGlobal>(
+    rt: &R,
+    addr: SocketAddr,
+) {
+    ask_lines(rt, &connect(rt, addr), ASKED_OF_COMMANDS);
+}
+
 fn ask_for_everything<R: Net<Listener = TcpListener, Stream = TcpStream> + Abort + AllocGlobal>(
     rt: &R,
     addr: SocketAddr,
 ) {
     let stream = connect(rt, addr);
     ask_echo(rt, &stream);
-    for line in ASKED.lines() {
-        let (asked, reply) = split(line);
-        assert_reply(rt, &stream, asked, reply);
-    }
+    ask_lines(rt, &stream, ASKED);
 }
 
 /// Each connection calls, with an argument of its own.
@@ -274,6 +314,7 @@ fn break_off<R: Net<Listener = TcpListener, Stream = TcpStream> + Abort + AllocG
 enum Talk {
     Groups,
     Everything,
+    Commands,
     AtOnce,
     BrokenOff,
 }
@@ -286,6 +327,7 @@ fn speak<R: Net<Listener = TcpListener, Stream = TcpStream> + Abort + AllocGloba
     match what {
         Talk::Groups => ask_for_groups(rt, addr),
         Talk::Everything => ask_for_everything(rt, addr),
+        Talk::Commands => ask_for_commands(rt, addr),
         Talk::AtOnce => call_at_once(rt, addr),
         Talk::BrokenOff => break_off(rt, addr),
     }
@@ -321,6 +363,11 @@ fn groups_are_listed_and_a_call_is_answered(rt: HostRuntime) {
 #[test]
 fn the_echo_answers_as_its_table_says(rt: HostRuntime) {
     assert_served(&rt, THREE_GROUPS, 1, Talk::Everything, "");
+}
+
+#[test]
+fn a_command_that_trips_leaves_its_group_at_work(rt: HostRuntime) {
+    assert_served(&rt, TWO_COMMANDS, 1, Talk::Commands, "");
 }
 
 #[test]

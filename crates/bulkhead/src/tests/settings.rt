@@ -185,6 +185,58 @@ fn properties_are_refused_in_order(rt: HostRuntime) {
     assert_refusals(&rt, "service.groups = [\"a\"]\n", REFUSED_PROPERTIES);
 }
 
+const REFUSED_COMMANDS: &str = r#"5 unknown service property
+service.command = "c"
+
+5 unknown service property
+service.command.c.group = 1
+service.x = 1
+
+10 bad command at 1
+service.command."c d".group = "a"
+
+10 bad command at 2
+service.command.a.group = "a"
+service.command.Z.group = "a"
+
+10 bad command at 1
+service.command.c = "a"
+
+10 bad command at 1
+service.command.c = {}
+
+10 bad command at 1
+service.command.c.group = 1
+
+10 bad command at 2
+service.command.d.group = "z"
+service.command.c.group = "a"
+
+10 bad command at 1
+service.command.c.group = "a"
+service.command.c.more = 1
+
+10 bad command at 1
+service.command.c.group = "z"
+hystrix.threadpool.a.coreSize = "4"
+
+6 wrong type: c fallback.enabled
+service.command.c.group = "a"
+hystrix.command.c.fallback.enabled = 1
+
+7 out of range: c metrics.rollingStats.timeInMilliseconds
+service.command.c.group = "a"
+hystrix.command.c.metrics.rollingStats.timeInMilliseconds = 0
+
+8 not a multiple: c
+service.command.c.group = "a"
+hystrix.command.c.metrics.rollingStats.numBuckets = 7"#;
+
+#[test]
+fn further_commands_are_refused_in_order(rt: HostRuntime) {
+    assert_refusals(&rt, "service.groups = [\"a\"]\n", REFUSED_COMMANDS);
+}
+
 #[test]
 fn want_of_memory_is_a_fault(rt: HostRuntime) {
     let mut reported = Vec::new(rt.alloc());
@@ -231,6 +283,115 @@ a queueSizeRejectionThreshold 5
 #[test]
 fn a_groups_own_value_wins_and_other_names_are_passed_over(rt: HostRuntime) {
     assert_check(&rt, OWN_SETTINGS.as_bytes(), 0, OWN_LINES, "");
+}
+
+const COMMANDS: &str = r#"service.groups = ["b", "a"]
+service.command.c9.group = "b"
+service.command.Z.group = "a"
+service.command.c10.group = "b"
+hystrix.command.default.execution.isolation.thread.timeoutInMilliseconds = 500
+hystrix.command.a.execution.isolation.thread.timeoutInMilliseconds = 1
+hystrix.command.Z.execution.isolation.thread.timeoutInMilliseconds = 2
+hystrix.command.b.circuitBreaker.errorThresholdPercentage = 60
+hystrix.command.c9.circuitBreaker.errorThresholdPercentage = 70
+hystrix.threadpool.c9.coreSize = 0
+"#;
+
+const COMMAND_LINES: &str = "b service.auditSteps none
+b service.slots 64
+b execution.isolation.strategy THREAD
+b execution.isolation.thread.timeoutInMilliseconds 500
+b execution.timeout.enabled true
+b execution.isolation.semaphore.maxConcurrentRequests 10
+b fallback.isolation.semaphore.maxConcurrentRequests 10
+b fallback.enabled true
+b circuitBreaker.enabled true
+b circuitBreaker.requestVolumeThreshold 20
+b circuitBreaker.sleepWindowInMilliseconds 5000
+b circuitBreaker.errorThresholdPercentage 60
+b circuitBreaker.forceOpen false
+b circuitBreaker.forceClosed false
+b metrics.rollingStats.timeInMilliseconds 10000
+b metrics.rollingStats.numBuckets 10
+b metrics.healthSnapshot.intervalInMilliseconds 500
+b requestCache.enabled true
+b coreSize 10
+b maxQueueSize -1
+b queueSizeRejectionThreshold 5
+c10 execution.isolation.strategy THREAD
+c10 execution.isolation.thread.timeoutInMilliseconds 500
+c10 execution.timeout.enabled true
+c10 execution.isolation.semaphore.maxConcurrentRequests 10
+c10 fallback.isolation.semaphore.maxConcurrentRequests 10
+c10 fallback.enabled true
+c10 circuitBreaker.enabled true
+c10 circuitBreaker.requestVolumeThreshold 20
+c10 circuitBreaker.sleepWindowInMilliseconds 5000
+c10 circuitBreaker.errorThresholdPercentage 50
+c10 circuitBreaker.forceOpen false
+c10 circuitBreaker.forceClosed false
+c10 metrics.rollingStats.timeInMilliseconds 10000
+c10 metrics.rollingStats.numBuckets 10
+c10 metrics.healthSnapshot.intervalInMilliseconds 500
+c10 requestCache.enabled true
+c9 execution.isolation.strategy THREAD
+c9 execution.isolation.thread.timeoutInMilliseconds 500
+c9 execution.timeout.enabled true
+c9 execution.isolation.semaphore.maxConcurrentRequests 10
+c9 fallback.isolation.semaphore.maxConcurrentRequests 10
+c9 fallback.enabled true
+c9 circuitBreaker.enabled true
+c9 circuitBreaker.requestVolumeThreshold 20
+c9 circuitBreaker.sleepWindowInMilliseconds 5000
+c9 circuitBreaker.errorThresholdPercentage 70
+c9 circuitBreaker.forceOpen false
+c9 circuitBreaker.forceClosed false
+c9 metrics.rollingStats.timeInMilliseconds 10000
+c9 metrics.rollingStats.numBuckets 10
+c9 metrics.healthSnapshot.intervalInMilliseconds 500
+c9 requestCache.enabled true
+a service.auditSteps none
+a service.slots 64
+a execution.isolation.strategy THREAD
+a execution.isolation.thread.timeoutInMilliseconds 1
+a execution.timeout.enabled true
+a execution.isolation.semaphore.maxConcurrentRequests 10
+a fallback.isolation.semaphore.maxConcurrentRequests 10
+a fallback.enabled true
+a circuitBreaker.enabled true
+a circuitBreaker.requestVolumeThreshold 20
+a circuitBreaker.sleepWindowInMilliseconds 5000
+a circuitBreaker.errorThresholdPercentage 50
+a circuitBreaker.forceOpen false
+a circuitBreaker.forceClosed false
+a metrics.rollingStats.timeInMilliseconds 10000
+a metrics.rollingStats.numBuckets 10
+a metrics.healthSnapshot.intervalInMilliseconds 500
+a requestCache.enabled true
+a coreSize 10
+a maxQueueSize -1
+a queueSizeRejectionThreshold 5
+Z execution.isolation.strategy THREAD
+Z execution.isolation.thread.timeoutInMilliseconds 2
+Z execution.timeout.enabled true
+Z execution.isolation.semaphore.maxConcurrentRequests 10
+Z fallback.isolation.semaphore.maxConcurrentRequests 10
+Z fallback.enabled true
+Z circuitBreaker.enabled true
+Z circuitBreaker.requestVolumeThreshold 20
+Z circuitBreaker.sleepWindowInMilliseconds 5000
+Z circuitBreaker.errorThresholdPercentage 50
+Z circuitBreaker.forceOpen false
+Z circuitBreaker.forceClosed false
+Z metrics.rollingStats.timeInMilliseconds 10000
+Z metrics.rollingStats.numBuckets 10
+Z metrics.healthSnapshot.intervalInMilliseconds 500
+Z requestCache.enabled true
+";
+
+#[test]
+fn further_commands_are_shown_behind_their_group(rt: HostRuntime) {
+    assert_check(&rt, COMMANDS.as_bytes(), 0, COMMAND_LINES, "");
 }
 
 /// Asserts that a check ends in a fault with a writer that takes so many bytes.

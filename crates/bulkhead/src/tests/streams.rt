@@ -1,6 +1,7 @@
 //! Readers that give little at a time or fail, and writers that take little, fail or take none.
 
-use super::operations::{CACHE, Texts, script_of, texts_of};
+use super::operations::CACHE;
+use super::scripts::{Texts, script_of, texts_of};
 use super::{assert_bytes, assert_end};
 use crate::run::run_file;
 use std::io;

@@ -1,6 +1,8 @@
+use Rattle.bh_props.specs.Settings.{command_in_force}
 use Rattle.bh_props.proofs.settings.command_in_force.Goals as goal
 
 pub returns : goal.returns
+unfolding command_in_force
 returns c = λ i. record {
   strategy = c.strategy_in_force.ensures i;
   timeout_ms = c.number_in_force.ensures i;

@@ -1,13 +1,24 @@
-use Rattle.std.proofs.Common.{◌∙◌, ap, List, ℕ}
+use Rattle.std.proofs.Common.{◌≡◌, ◌∙◌, ap, List, ℕ}
+use Rattle.toml.specs.Data.{Data}
 use Rattle.toml.specs.View.{view}
 use Rattle.bh_base.specs.Props.{GroupProps}
+use Rattle.bh_base.specs.declared.props.CommandProps.{CommandProps}
+use Rattle.bh_props.specs.Commands.{Commands}
 use Rattle.bh_props.specs.InForce.{in_force}
-use Rattle.bh_props.specs.Settings.{props_of}
+use Rattle.bh_props.specs.Settings.{props_in_force, props_of, commands_in_force}
 use Rattle.bh_props.proofs.Groups.{insert_entry-next}
 use Rattle.bh_props.proofs.settings.groups_in_force.Goals as goal
 
-pub loop-name-preserved : goal.loop-name-preserved
-loop-name-preserved c =
-    let value : List ℕ → GroupProps = λ name. props_of (λ p. in_force p name (view c.args.root.now)) in
-    insert_entry-next value _ _ _ _ _ _ c.requires c.loop-name-test.true c.name-item.is c.loop-name.invariant
-    (c.in_ok-props_in_force.ensures ∙ ap value c.as_str.ensures.text) c.in_ok-insert.ensures.entries
+props-made : (d : Data) (cs : Commands) (place : ℕ) (name s t : List ℕ) (own : List CommandProps) (made : GroupProps) → s ≡ name → t ≡ name → own ≡ commands_in_force d cs place s
+    → made ≡ props_of own (λ p. in_force p t d) → made ≡ props_in_force d cs place name
+props-made d cs place name s t own made same_s same_t are is =
+    is ∙ ap (λ n. props_of own (λ p. in_force p n d)) same_t
+    ∙ ap (λ some. props_of some (λ p. in_force p name d)) (are ∙ ap (commands_in_force d cs place) same_s)
+
+pub loop-place-preserved : goal.loop-place-preserved
+loop-place-preserved c =
+    let d : Data = view c.args.root.now in
+    insert_entry-next (props_in_force d c.args.commands.now.entries) _ _ _ _ _ _ c.requires.distinct c.loop-place-test.true c.index-names-place.is
+    c.loop-place.invariant
+    (props-made d c.args.commands.now.entries c.loop-place.place _ _ _ _ _ c.as_str.ensures.text c.as_str-in-loop-place.ensures.text c.in_ok-own.ensures c.props_in_force.ensures)
+    c.in_ok-insert.ensures.entries

@@ -1,0 +1,6 @@
+use Rattle.std.proofs.Common.{◌≡◌, take}
+use Rattle.bh_props.specs.Subjects.{subjects}
+use Rattle.bh_props.proofs.subject.subjects.Given as goal
+
+abbrev pub invariant-loop-place : goal.invariant-loop-place
+invariant-loop-place l = l.subjects.items ≡ subjects (take l.place l.names) l.commands.entries

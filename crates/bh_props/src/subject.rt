@@ -1,0 +1,80 @@
+//! Whose properties are checked and shown: each group, and behind it its further commands.
+
+ghost use Rattle.std.specs.Prelude.{◌≡◌, ◌≤◌, ◌^◌, ◌++◌, length, map, IfOk, OnOk};
+ghost use Rattle.bh_props.specs.Commands.{commands_in};
+ghost use Rattle.bh_props.specs.Subjects.{properties_of, a_group, a_command, subjects};
+
+use crate::commands::Commands;
+use crate::property::Property;
+use bh_base::Text;
+use std::alloc::{AllocError, Global};
+
+/// Which properties a subject has.
+#[derive(Clone, Copy, Debug, PartialEq, Eq)]
+pub(crate) enum Scope {
+    /// All of them: a group has its own and those of its own command.
+    Group,
+    /// Those of a command.
+    Command,
+}
+
+impl Scope {
+    /// The properties in the order of the table.
+    pub(crate) fn properties(self) -> &'static [Property]
+        ensures { result.now ≡ properties_of self }
+    {
+        match self {
+            Scope::Group => &Property::ALL,
+            Scope::Command => &Property::ALL[2..18],
+        }
+    }
+}
+
+/// A group or a further command.
+#[derive(Clone, Copy, Debug)]
+pub(crate) struct Subject {
+    /// Its name.
+    pub(crate) name: Text<32>,
+    /// Which properties it has.
+    pub(crate) scope: Scope,
+}
+
+/// The groups in listed order, each with its further commands behind it.
+pub(crate) fn subjects(
+    alloc: Global,
+    names: &[Text<32>],
+    commands: &Commands,
+) -> Result<Vec<Subject>, AllocError>
+    requires { length names.now ≤ 1000 }
+    ensures { IfOk result (λ made. made.items ≡ subjects names.now commands.now.entries) }
+{
+    let mut subjects = Vec::new(alloc);
+    for (place, name) in names.iter().enumerate() {
+        subjects.push(Subject {
+            name: *name,
+            scope: Scope::Group,
+        })?;
+        push_further(&mut subjects, commands, place as u32)?;
+    }
+    Ok(subjects)
+}
+
+/// Adds the further commands of the group at the place.
+fn push_further(
+    subjects: &mut Vec<Subject>,
+    commands: &Commands,
+    place: u32,
+) -> Result<(), AllocError>
+    ensures { OnOk result (subjects.new.items
+        ≡ subjects.old.items ++ map (λ c. a_command c.0) (commands_in place commands.now.entries)) }
+{
+    for (name, command) in commands.iter() {
+        if command.0 == place {
+            subjects.push(Subject {
+                name: *name,
+                scope: Scope::Command,
+            })?;
+        }
+    }
+    Ok(())
+}
