@@ -1,7 +1,8 @@
 #!/bin/bash
 # Gives scripts of lines to the program, to the program in C over the library (c/run.c) and to the one in Python
 # (python/run.py), and compares what each writes, byte for byte, and its exit status: the scripts of examples/ and of
-# crates/bulkhead/data, if any, a script of every operation, and inputs that end a script early.
+# crates/bulkhead/data, if any, a script of every operation, one of several commands, and inputs that end a script early.
+# Runs the two examples too, which fail where a step of theirs does not go as it should.
 #
 #   bindings/rows.sh [PROGRAM LIBRARY]     both are proved and built where none are given
 set -euo pipefail
@@ -93,6 +94,42 @@ nothing
 END
 cp "$work/every" "$work/input"
 compare "every operation" run "$work/settings.toml"
+
+cat >"$work/commands.toml" <<'END'
+service.groups = ["catalog", "payment"]
+service.command.search.group = "catalog"
+service.command.offer.group = "catalog"
+service.command.refund.group = "payment"
+hystrix.threadpool.default.coreSize = 1
+hystrix.command.search.circuitBreaker.requestVolumeThreshold = 1
+hystrix.command.search.metrics.healthSnapshot.intervalInMilliseconds = 0
+hystrix.command.refund.execution.isolation.strategy = "SEMAPHORE"
+END
+cat >"$work/input" <<'END'
+{"op":"submit","group":"catalog","command":"search","now":0,"arg":"lamp"}
+{"op":"start","group":"catalog","now":0}
+{"op":"fail","group":"catalog","now":1,"ticket":1,"bad":false}
+{"op":"submit","group":"catalog","command":"search","now":2,"arg":"lamp","context":1,"key":"k"}
+{"op":"submit","group":"catalog","command":"offer","now":2,"arg":"lamp","context":1,"key":"k"}
+{"op":"start","group":"catalog","now":3}
+{"op":"submit","group":"catalog","command":"catalog","now":3,"arg":"lamp"}
+{"op":"submit","group":"payment","command":"refund","now":3,"arg":"order 2"}
+{"op":"submit","group":"payment","now":3,"arg":"order 3"}
+{"op":"start","group":"payment","now":4}
+{"op":"read","group":"catalog","command":"search","now":5}
+{"op":"read","group":"catalog","command":"offer","now":5}
+{"op":"read","group":"catalog","command":"catalog","now":5}
+{"op":"read","group":"payment","command":"refund","now":5}
+{"op":"read","group":"payment","command":"search","now":5}
+{"op":"read","group":"payment","command":7,"now":5}
+{"op":"read","group":"nobody","command":"search","now":5}
+{"op":"submit","group":"catalog","command":"","now":5,"arg":"lamp"}
+{"op":"start","group":"catalog","command":7,"now":5}
+END
+printf '{"op":"submit","group":"catalog","command":"nobody","now":6,"arg":"%065d"}\n' 0 >>"$work/input"
+printf '{"op":"submit","group":"catalog","command":"offer","now":6,"arg":"%065d"}\n' 0 >>"$work/input"
+compare "several commands" run "$work/commands.toml"
+compare "check of several commands" check "$work/commands.toml"
 sed 's/$/\r/' "$work/every" >"$work/input"
 compare "carriage returns" run "$work/settings.toml"
 printf '%s' "$(head -n 3 "$work/every")" >"$work/input"
@@ -105,7 +142,11 @@ compare "a line that is not UTF-8" run "$work/settings.toml"
 compare "no line" run "$work/settings.toml"
 compare "no file" run "$work/nowhere.toml"
 for refused in '' 'service.groups = []' 'service.groups = ["a", "a"]' 'service.groups = ["a"]
-service.slots.a = 5000' '= ='; do
+service.slots.a = 5000' 'service.groups = ["a"]
+service.command = "b"' 'service.groups = ["a"]
+service.command.b.group = "b"' 'service.groups = ["a"]
+service.command.b.group = "a"
+hystrix.command.b.execution.isolation.strategy = "NONE"' '= ='; do
     printf '%s' "$refused" >"$work/refused.toml"
     compare "refused settings" run "$work/refused.toml"
     compare "refused settings, checked" check "$work/refused.toml"
@@ -113,5 +154,7 @@ done
 printf '\xff' >"$work/refused.toml"
 compare "settings that are not UTF-8" check "$work/refused.toml"
 
+"$here/out/example" >"$work/example"
+python3 "$here/python/example.py" >>"$work/example"
 echo "$same agree, $differ differ"
 [ "$differ" -eq 0 ]

@@ -1,4 +1,4 @@
-/* A service of two groups: steps as structs, and a line.
+/* A service of two groups, one of which has two commands: steps as structs, and a line.
  *
  *   bindings/build.sh && bindings/out/example */
 #include <stdio.h>
@@ -7,33 +7,39 @@
 #include "bulkhead.h"
 
 static const char settings[] = "service.groups = [\"catalog\", \"payment\"]\n"
+                               "service.command.refund.group = \"payment\"\n"
                                "hystrix.threadpool.payment.coreSize = 1\n";
 
-/* Makes a step of the group with a text, and writes what came of it. */
-static uint32_t make_step(bulkhead_service *service, uint32_t operation, uint64_t group, uint64_t now, uint64_t ticket,
-                          const char *text, bulkhead_reply *reply) {
-    bulkhead_step step = {.group = group, .moment = now, .ticket = ticket, .operation = operation};
-    step.text_length = (uint32_t)strlen(text);
-    if (step.text_length > sizeof step.text)
+/* Makes the step with a text, and writes what came of it. */
+static uint32_t make_step(bulkhead_service *service, bulkhead_step step, const char *text, bulkhead_reply *reply) {
+    size_t length = strlen(text);
+    if (length > sizeof step.text)
         return BULKHEAD_TOO_LONG;
-    memcpy(step.text, text, step.text_length);
+    step.text_length = (uint32_t)length;
+    memcpy(step.text, text, length);
     return bulkhead_make_step(service, &step, reply);
 }
 
-/* One request from its submit to its answer. */
-static int request(bulkhead_service *service, uint64_t group) {
+/* One request to a command of the group, from its submit at a moment to its answer. */
+static int request(bulkhead_service *service, uint64_t group, uint8_t command, uint64_t now, const char *order) {
     bulkhead_reply reply = {0};
-    if (make_step(service, BULKHEAD_SUBMIT, group, 0, 0, "order 3", &reply) || reply.kind != BULKHEAD_QUEUED)
+    bulkhead_step step = {.group = group, .moment = now, .command = command};
+    step.operation = BULKHEAD_SUBMIT;
+    if (make_step(service, step, order, &reply) || reply.kind != BULKHEAD_QUEUED)
         return 1;
-    uint64_t ticket = reply.number;
-    if (make_step(service, BULKHEAD_START, group, 1, 0, "", &reply) || reply.kind != BULKHEAD_ASSIGNED)
+    step.ticket = reply.number;
+    step.operation = BULKHEAD_START;
+    if (make_step(service, step, "", &reply) || reply.kind != BULKHEAD_ASSIGNED || reply.command != command)
         return 1;
-    printf("ticket %llu runs with %.*s\n", (unsigned long long)reply.number, (int)reply.text_length, reply.text);
-    if (make_step(service, BULKHEAD_FINISH, group, 20, ticket, "paid", &reply) || reply.kind != BULKHEAD_OK)
+    printf("ticket %llu of command %llu runs with %.*s\n", (unsigned long long)reply.number,
+           (unsigned long long)reply.command, (int)reply.text_length, reply.text);
+    step.operation = BULKHEAD_FINISH;
+    if (make_step(service, step, "done", &reply) || reply.kind != BULKHEAD_OK)
         return 1;
-    if (make_step(service, BULKHEAD_COLLECT, group, 20, ticket, "", &reply) || reply.kind != BULKHEAD_VALUE)
+    step.operation = BULKHEAD_COLLECT;
+    if (make_step(service, step, "", &reply) || reply.kind != BULKHEAD_VALUE)
         return 1;
-    printf("ticket %llu is answered %.*s\n", (unsigned long long)ticket, (int)reply.text_length, reply.text);
+    printf("ticket %llu is answered %.*s\n", (unsigned long long)step.ticket, (int)reply.text_length, reply.text);
     return 0;
 }
 
@@ -49,6 +55,17 @@ static int line(bulkhead_service *service) {
     return 0;
 }
 
+/* A request to each command of the group `payment`, its own one and `refund`, and a line. */
+static int requests(bulkhead_service *service) {
+    uint64_t payment = 0;
+    uint8_t refund = 0;
+    if (bulkhead_group(service, (const uint8_t *)"payment", 7, &payment) != BULKHEAD_DONE)
+        return 1;
+    if (bulkhead_command(service, payment, (const uint8_t *)"refund", 6, &refund) != BULKHEAD_DONE)
+        return 1;
+    return request(service, payment, 0, 0, "order 3") || request(service, payment, refund, 20, "order 2") || line(service);
+}
+
 int main(void) {
     bulkhead_service service = {0};
     uint8_t why[256] = {0};
@@ -60,9 +77,7 @@ int main(void) {
         fprintf(stderr, "%.*s\n", (int)(why_length < sizeof why ? why_length : sizeof why), why);
     if (code != BULKHEAD_DONE)
         return 1;
-    uint64_t payment = 0;
-    int failed = bulkhead_group(&service, (const uint8_t *)"payment", 7, &payment) != BULKHEAD_DONE;
-    failed = failed || request(&service, payment) || line(&service);
+    int failed = requests(&service);
     bulkhead_close(&service);
     return failed;
 }

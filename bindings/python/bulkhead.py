@@ -88,7 +88,7 @@ class NoSuchCommand(Error):
 
 
 class BadStep(Error):
-    """No operation has the name, or a text is not UTF-8 or too long."""
+    """No operation has the name, no command can have the number, or a text is not UTF-8 or too long."""
 
 
 ERRORS = {
@@ -260,7 +260,8 @@ class Service:
         return number.value
 
     def command(self, group, name):
-        """The number of the command of the name in the group of the number."""
+        """The number of the command of the name in a group, which is named or given by its number."""
+        group = self.group(group) if isinstance(group, str) else group
         number, name = c_uint8(), name.encode()
         _raise_unless_done(_library.bulkhead_command(self._open(), group, name, len(name), byref(number)))
         return number.value
@@ -271,8 +272,11 @@ class Service:
         if operation not in NUMBERED:
             raise BadStep(f"no operation is called {operation}")
         number = self.group(group) if isinstance(group, str) else group
-        given = _Step(number, now, ticket, context, NUMBERED[operation])
-        given.command = self.command(number, command) if isinstance(command, str) else command
+        command = self.command(number, command) if isinstance(command, str) else command
+        # ctypes would cut a number that is too great to one of another command
+        if not 0 <= command < 256:
+            raise BadStep("no command can have the number")
+        given = _Step(number, now, ticket, context, NUMBERED[operation], command=command)
         key, text = key.encode(), text.encode()
         if len(key) > 32 or len(text) > 256:
             raise BadStep("a text is too long")
