@@ -1,6 +1,6 @@
 -- A step ends no other wait than those that it is said to end.
 use Rattle.std.proofs.Common.{◌≡◌, ℕ, ◌+◌, ◌<◌, Bool, true, false, not, cond, List, [], ◌∷◌, ◌++◌, map, filter, Option, Some, None, refl, arith, sym, ap, ◌∙◌, subst}
-use Rattle.std.specs.Prelude.{◌==◌, ◌&&◌, ◌||◌, nat_lt, nat_le, find, slice_get, if◌then◌else◌}
+use Rattle.std.specs.Prelude.{◌==◌, ◌&&◌, ◌||◌, nat_lt, nat_le, find, if◌then◌else◌}
 use Rattle.std.proofs.lemmas.Bool.Decides.{nat_tests}
 use Rattle.bh_base.specs.declared.props.Strategy.{Strategy}
 use Rattle.bh_base.specs.declared.props.Strategy.TheVariants as strategy
@@ -27,7 +27,7 @@ use Rattle.bh_base.specs.Tickets.{changed_first, in_state, is_busy_at, is_cached
 use Rattle.bh_core.specs.Looks.{is_assigned, is_pending, is_worn_out}
 use Rattle.bh_core.proofs.Looks.{collect_seen, unheld_not_pending}
 use Rattle.bh_audit.specs.declared.freed.Freed.{Freed}
-use Rattle.bh_core.specs.CoreView.{CoreView}
+use Rattle.bh_core.specs.CoreView.{CoreView, view_at}
 use Rattle.bh_core.specs.Step.{IsStep}
 use Rattle.bh_base.specs.declared.step.Step.{Step}
 use Rattle.bh_base.specs.declared.reply.Reply.{Reply}
@@ -334,13 +334,13 @@ loses_none v o now f was look worker next_worker worn fresh = record {
     at serial next m m' rise before after false is = ap (λ c. frees_caller c serial) (fresh is) ∙ frees_enough v o now serial next m m' is rise before after
 
 -- so no wake-up is lost in the group of the step
-pub keeps_wake_ups : (old new : CoreView) (x : Step) (r : Reply) (f : Freed) (was : Bool) → IsStep old x r new → ((v : View) (m : ℕ) → slice_get old.views x.group.0 ≡ Some v → was ≡ is_assigned (view_reply v op.Start m))
-    → ((w : View) (m : ℕ) → slice_get new.views x.group.0 ≡ Some w → was ≡ false → is_assigned (view_reply w op.Start m) ≡ true → frees_one f.workers ≡ true)
-    → ((w : View) (m : ℕ) → slice_get new.views x.group.0 ≡ Some w → is_told_again x.op ≡ true → is_assigned (view_reply w op.Start m) ≡ true → frees_one f.workers ≡ true)
-    → ((w : View) → slice_get new.views x.group.0 ≡ Some w → is_worn w.present ≡ true → IsEverybody f) → ((w : View) → slice_get new.views x.group.0 ≡ Some w → is_worn w.present ≡ false → f.callers ≡ frees_by x.op)
+pub keeps_wake_ups : (old new : CoreView) (x : Step) (r : Reply) (f : Freed) (was : Bool) → IsStep old x r new → ((v : View) (m : ℕ) → view_at old x.group.0 ≡ Some v → was ≡ is_assigned (view_reply v op.Start m))
+    → ((w : View) (m : ℕ) → view_at new x.group.0 ≡ Some w → was ≡ false → is_assigned (view_reply w op.Start m) ≡ true → frees_one f.workers ≡ true)
+    → ((w : View) (m : ℕ) → view_at new x.group.0 ≡ Some w → is_told_again x.op ≡ true → is_assigned (view_reply w op.Start m) ≡ true → frees_one f.workers ≡ true)
+    → ((w : View) → view_at new x.group.0 ≡ Some w → is_worn w.present ≡ true → IsEverybody f) → ((w : View) → view_at new x.group.0 ≡ Some w → is_worn w.present ≡ false → f.callers ≡ frees_by x.op)
     → KeepsWakeUps old x.group x.op new f
 keeps_wake_ups old new x r f was made look worker next_worker worn fresh v w at after =
     let there = (made.seen v at).1 in
-    let same : view_after v x.op x.now ≡ w = one_item (slice_get new.views x.group.0) (view_after v x.op x.now) w there after in
+    let same : view_after v x.op x.now ≡ w = one_item (view_at new x.group.0) (view_after v x.op x.now) w there after in
     let P : View → Type 0 = λ u. LosesNoWakeUp v x.op u f in
     subst P same (loses_none v x.op x.now f was (λ m. look v m at) (λ m. worker _ m there) (λ m. next_worker _ m there) (worn _ there) (fresh _ there))

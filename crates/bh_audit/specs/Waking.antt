@@ -1,12 +1,12 @@
 -- Whom a step lets go on, of those that wait in its group.
-use Rattle.std.specs.Prelude.{◌≡◌, ℕ, ◌==◌, Bool, Some, true, false, slice_get}
+use Rattle.std.specs.Prelude.{◌≡◌, ℕ, ◌==◌, Bool, Some, true, false}
 use Rattle.bh_base.specs.declared.step.GroupId.{GroupId}
 use Rattle.bh_base.specs.declared.step.Op.{Op}
 use Rattle.bh_base.specs.declared.step.Op.TheVariants as op
 use Rattle.bh_base.specs.Order.{Rise}
 use Rattle.bh_base.specs.Runs.{View, is_worn}
 use Rattle.bh_base.specs.Seen.{view_reply}
-use Rattle.bh_core.specs.CoreView.{CoreView}
+use Rattle.bh_core.specs.CoreView.{CoreView, view_at}
 use Rattle.bh_core.specs.Looks.{is_assigned, is_pending}
 use Rattle.bh_audit.specs.declared.freed.Freed.{Freed}
 use Rattle.bh_audit.specs.declared.freed.FreedCallers.{FreedCallers}
@@ -60,4 +60,4 @@ pub record LosesNoWakeUp (before : View) (o : Op) (after : View) (freed : Freed)
 -- no wake-up is lost in the group by a step of the operation that took all groups from old to new
 abbrev pub KeepsWakeUps : CoreView → GroupId → Op → CoreView → Freed → Type 0
 KeepsWakeUps old group o new freed =
-    (before after : View) → slice_get old.views group.0 ≡ Some before → slice_get new.views group.0 ≡ Some after → LosesNoWakeUp before o after freed
+    (before after : View) → view_at old group.0 ≡ Some before → view_at new group.0 ≡ Some after → LosesNoWakeUp before o after freed

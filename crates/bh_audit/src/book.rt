@@ -1,18 +1,21 @@
 //! All groups, and in an audited book a journal of each.
 
-ghost use Rattle.std.specs.Prelude.{◌≡◌, ◌<◌, ℕ, List, length, nat_lt, replicate, slice_get, is_some, IfOk, IfErr, IfSome, None, Some, true, false};
+ghost use Rattle.std.specs.Prelude.{◌≡◌, ◌↔◌, ◌+◌, ◌<◌, ◌≤◌, ◌^◌, ℕ, List, [], ◌∷◌, ◌++◌, length, replicate, is_some, vec_len, vec_capacity, Err, IfOk, IfErr, IfSome, OnErr, OnOk, None, Some, true, false, if◌then◌else◌};
 ghost use Rattle.bh_base.specs.Replies.{is_refusal};
 ghost use Rattle.bh_base.specs.Runs.{View};
 ghost use Rattle.bh_base.specs.declared.step.Op.TheVariants as op;
 ghost use Rattle.bh_base.specs.Seen.{view_reply};
-ghost use Rattle.bh_core.specs.Looks.{is_assigned};
+ghost use Rattle.bh_base.specs.Ranges.{IsInRange};
+ghost use Rattle.bh_core.specs.Acts.{with_opened};
+ghost use Rattle.bh_core.specs.CoreView.{most_groups, slots_in, view_at, with_retired};
+ghost use Rattle.bh_core.specs.Looks.{is_assigned, is_in_use};
 ghost use Rattle.bh_core.specs.Step.{IsStep};
 ghost use Rattle.bh_journal.specs.Replay.{written};
 ghost use Rattle.bh_audit.specs.Calls.{NeedsNoWait};
 ghost use Rattle.bh_audit.specs.Books.{AreEmpty, AreNew, BookView, IsAudited, IsWritten, empty_journal};
 
-use bh_base::{GroupId, Reply, Step};
-use bh_core::Core;
+use bh_base::{GroupId, GroupProps, Reply, Step};
+use bh_core::{Core, RegisterError, RetireError};
 use bh_journal::Journal;
 use std::alloc::{AllocError, Global};
 use std::marker::Model;
@@ -44,7 +47,7 @@ impl Book {
     /// With an audit no group may have done a step, and each may do just as many as the audit has room for. Where
     /// memory for the journals was refused, the core is handed back.
     pub fn new(alloc: Global, core: Core, audit: Option<u64>) -> Result<Book, (Core, AllocError)>
-        requires { IfSome audit (λ limit. AreNew limit core.views) }
+        requires { IfSome audit (λ limit. AreNew limit core) }
         ensures groups { IfOk result (λ b. b.groups ≡ core) }
         ensures audited { IfOk result (λ b. b.audited ≡ is_some audit) }
         ensures journals { IfOk result (λ b. AreEmpty b.journals) }
@@ -75,7 +78,7 @@ impl Book {
         ensures refused { is_refusal result.1 ≡ true → (result.0 ≡ None) × (self.new ≡ self.old) }
 
         // Else the place is the new step number, and an audited book has the step and its reply at the end of the group's journal.
-        ensures place { is_refusal result.1 ≡ false → (v : View) × (slice_get self.new.groups.views step.group.0 ≡ Some v) × (result.0 ≡ Some v.present.steps) }
+        ensures place { is_refusal result.1 ≡ false → (v : View) × (view_at self.new.groups step.group.0 ≡ Some v) × (result.0 ≡ Some v.present.steps) }
         ensures written { self.old.audited ≡ true → is_refusal result.1 ≡ false → IsWritten self.old.journals step.group.0 step result.1 self.new.journals }
         ensures unwritten { self.old.audited ≡ false → self.new.journals ≡ self.old.journals }
         ensures audited { self.new.audited ≡ self.old.audited }
@@ -92,6 +95,56 @@ impl Book {
         let journal = &mut self.journals[group.0 as usize];
         write(journal, &step, &reply);
         (Some(place), reply)
+    }
+
+    /// Registers a group, as the core does. An audited book takes the memory for the group's journal too, with room for as
+    /// many entries as the group may do steps.
+    ///
+    /// It is refused with `TooManyGroups`, `TooManySlots` or `Memory`, in this order, as by the core; nothing has changed
+    /// then.
+    pub fn register(
+        &mut self,
+        alloc: Global,
+        props: &GroupProps,
+        step_limit: u64,
+    ) -> Result<GroupId, RegisterError>
+        requires props { IsInRange props.now }
+        requires some_steps { 1 ≤ step_limit }
+        requires few_steps { step_limit ≤ 2 ^ 40 }
+        ensures number { IfOk result (λ id. id.0 ≡ length self.old.groups.lives) }
+        ensures added { OnOk result (self.new.groups ≡ with_opened props.now step_limit self.old.groups) }
+        ensures many { (result ≡ Err RegisterError.TooManyGroups) ↔ (most_groups ≤ length self.old.groups.lives) }
+        ensures room { (result ≡ Err RegisterError.TooManySlots) ↔ ((length self.old.groups.lives < most_groups) × (self.old.groups.slot_limit < slots_in self.old.groups.lives + props.now.slots)) }
+        ensures journals { OnOk result (self.new.journals ≡ (if self.old.audited then self.old.journals ++ empty_journal step_limit ∷ [] else self.old.journals)) }
+        ensures audited { self.new.audited ≡ self.old.audited }
+        ensures err { OnErr result (self.new ≡ self.old) }
+    {
+        if let Some(error) = self.core.refusal(props) {
+            return Err(error);
+        }
+        if !self.audited {
+            return self.core.register(props, step_limit);
+        }
+        let Ok(journal) = journal_behind(&mut self.journals, alloc, step_limit) else {
+            return Err(RegisterError::Memory);
+        };
+        let id = self.core.register(props, step_limit)?;
+        self.journals.push_reserved(journal);
+        Ok(id)
+    }
+
+    /// Retires a group that nobody uses, as the core does. Its journal stays for the account. It takes no memory.
+    ///
+    /// It is refused with `NoGroup` or `Busy`, as by the core; nothing has changed then.
+    pub fn retire(&mut self, group: GroupId) -> Result<(), RetireError>
+        ensures ended { OnOk result ((v : View) × (view_at self.old.groups group.0 ≡ Some v) × (self.new.groups ≡ with_retired group.0 v self.old.groups)) }
+        ensures no_group { (result ≡ Err RetireError.NoGroup) ↔ (view_at self.old.groups group.0 ≡ None) }
+        ensures busy { (v : View) → view_at self.old.groups group.0 ≡ Some v → ((result ≡ Err RetireError.Busy) ↔ (is_in_use v ≡ true)) }
+        ensures journals { self.new.journals ≡ self.old.journals }
+        ensures audited { self.new.audited ≡ self.old.audited }
+        ensures err { OnErr result (self.new ≡ self.old) }
+    {
+        self.core.retire(group)
     }
 
     /// In an audited book the journal of each group agrees with what the group shows.
@@ -117,15 +170,15 @@ impl Book {
 
     /// Whether the group is registered.
     pub(crate) fn is_registered(&self, group: GroupId) -> bool
-        ensures { result ≡ nat_lt group.0 (length self.now.groups.views) }
+        ensures { result ≡ is_some (view_at self.now.groups group.0) }
     {
-        group.0 < self.core.groups()
+        self.core.is_registered(group)
     }
 
     /// Whether a worker of the group has to wait: else a Start would be answered with a run, or refused.
     pub(crate) fn must_wait(&self, group: GroupId) -> bool
-        ensures goes_on { result ≡ false → (v : View) → slice_get self.now.groups.views group.0 ≡ Some v → NeedsNoWait v }
-        ensures waits { result ≡ true → (v : View) (moment : ℕ) → slice_get self.now.groups.views group.0 ≡ Some v → is_assigned (view_reply v op.Start moment) ≡ false }
+        ensures goes_on { result ≡ false → (v : View) → view_at self.now.groups group.0 ≡ Some v → NeedsNoWait v }
+        ensures waits { result ≡ true → (v : View) (moment : ℕ) → view_at self.now.groups group.0 ≡ Some v → is_assigned (view_reply v op.Start moment) ≡ false }
     {
         if !self.is_registered(group) {
             return false;
@@ -164,6 +217,20 @@ fn write(journal: &mut Journal, step: &Step, reply: &Reply)
     ensures { journal.new ≡ written journal.old step.entry.now reply.now }
 {
     journal.write(*step, *reply);
+}
+
+/// A journal with room for so many entries, for which there is a place behind the others.
+fn journal_behind(
+    journals: &mut Vec<Journal>,
+    alloc: Global,
+    steps: u64,
+) -> Result<Journal, AllocError>
+    ensures made { IfOk result (λ journal. journal ≡ empty_journal steps) }
+    ensures place { OnOk result (vec_len journals.new < vec_capacity journals.new) }
+    ensures same { journals.new.items ≡ journals.old.items }
+{
+    journals.reserve(1)?;
+    Journal::new(alloc, steps)
 }
 
 /// A book without an audit.

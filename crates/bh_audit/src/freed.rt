@@ -1,7 +1,7 @@
 //! Whom a step lets go on, of those that wait in its group.
 
 ghost use Rattle.std.specs.Prelude.{◌≡◌, ℕ, ◌%◌, true};
-ghost use Rattle.bh_audit.specs.Waking.{IsEverybody, frees_by, frees_caller, is_told_again};
+ghost use Rattle.bh_audit.specs.Waking.{IsEverybody, frees_by, frees_caller, frees_one, is_told_again};
 
 use crate::waiting::Waiting;
 use bh_base::{Op, Serial};
@@ -57,20 +57,33 @@ impl Freed {
         }
     }
 
-    /// Notifies them where the calls of their group wait. In a group that is not registered nobody does.
-    pub(crate) fn tell(self, waiting: Option<&Waiting>) {
+    /// The same where the workers of several groups wait at one place: all of them are notified instead of one. That one
+    /// may be of another group: it would wait again, and the notification would be lost.
+    pub(crate) fn among_several_groups(self) -> Freed
+        ensures workers { frees_one self.workers ≡ true → result.workers ≡ Notice.All }
+        ensures callers { result.callers ≡ self.callers }
+    {
         let Freed { workers, callers } = self;
-        if let Some(waiting) = waiting {
-            waiting.notify(workers, callers);
-        }
+        let workers = match workers {
+            Notice::Nobody => Notice::Nobody,
+            Notice::One | Notice::All => Notice::All,
+        };
+        Freed { workers, callers }
     }
 
-    /// Notifies them in each of these groups.
-    pub(crate) fn tell_all(self, groups: &[Waiting]) {
+    /// Notifies them where the calls of their group wait.
+    pub(crate) fn tell(self, waiting: &Waiting) {
+        let Freed { workers, callers } = self;
+        waiting.notify(workers, callers);
+    }
+
+    /// Notifies them in each of these groups, and at the place of all others.
+    pub(crate) fn tell_all(self, groups: &[Waiting], later: &Waiting) {
         let Freed { workers, callers } = self;
         for waiting in groups {
             waiting.notify(workers, callers);
         }
+        later.notify(workers, callers);
     }
 }
 

@@ -9,6 +9,7 @@ mod freed;
 mod locked;
 pub mod next;
 pub mod pass;
+mod registering;
 pub mod shared;
 mod waiting;
 

@@ -1,12 +1,13 @@
 //! What the lock guards, and what a thread that has it does there.
 
-ghost use Rattle.std.specs.Prelude.{◌≡◌, ◌≢◌, ◌==◌, ◌<◌, ◌||◌, ℕ, Bool, IfSome, IsNone, OnSome, None, Some, true, false, length, slice_get};
+ghost use Rattle.std.specs.Prelude.{◌≡◌, ◌≢◌, ◌==◌, ◌<◌, ◌||◌, ℕ, Bool, IfSome, IsNone, OnSome, None, Some, true, false, is_some, length};
 ghost use Rattle.bh_base.specs.declared.reply.Reply.TheVariants as reply;
 ghost use Rattle.bh_base.specs.declared.step.Op.TheVariants as op;
 ghost use Rattle.bh_base.specs.declared.step.Step.{Step};
 ghost use Rattle.bh_base.specs.Replies.{can_reply, is_refusal};
 ghost use Rattle.bh_base.specs.Runs.{View, is_worn};
 ghost use Rattle.bh_base.specs.Seen.{view_reply};
+ghost use Rattle.bh_core.specs.CoreView.{view_at};
 ghost use Rattle.bh_core.specs.Looks.{is_assigned, is_pending};
 ghost use Rattle.bh_core.specs.Step.{IsStep};
 ghost use Rattle.std.specs.List.{position_from};
@@ -23,7 +24,7 @@ use crate::pass::Pass;
 use crate::waiting::Place;
 use bh_base::{GroupId, GroupProps, Moment, Op, Reply, Serial, Step, Strategy};
 use bh_journal::Receipt;
-use std::sync::{Mutex, MutexGuard, Wait};
+use std::sync::{Mutex, Wait};
 
 /// What the lock guards. The book is audited where `A` is 1.
 #[derive(Drop)]
@@ -48,7 +49,7 @@ impl<const A: u32> Locked<A> {
         ensures groups { IsStep self.old.book.groups step result.0 self.new.book.groups }
         ensures refused { is_refusal result.0 ≡ true → self.new.book ≡ self.old.book }
         ensures written { (A == 1) ≡ true → is_refusal result.0 ≡ false → IsWritten self.old.book.journals step.group.0 step result.0 self.new.book.journals }
-        ensures place { (A == 1) ≡ true → is_refusal result.0 ≡ false → (v : View) × (slice_get self.new.book.groups.views step.group.0 ≡ Some v) × (pass.new ≡ added pass.old (receipt_of v.present.steps step result.0)) }
+        ensures place { (A == 1) ≡ true → is_refusal result.0 ≡ false → (v : View) × (view_at self.new.book.groups step.group.0 ≡ Some v) × (pass.new ≡ added pass.old (receipt_of v.present.steps step result.0)) }
         ensures stopped { self.new.stopped ≡ self.old.stopped }
         ensures told { KeepsWakeUps self.old.book.groups step.group step.op self.new.book.groups result.1 }
     {
@@ -68,10 +69,10 @@ impl<const A: u32> Locked<A> {
     /// Whom the step that was just made lets go on. `was_startable` says whether a Start would have been answered with
     /// a run before it.
     fn freed(&self, step: &Step, was_startable: bool) -> Freed
-        ensures worker { (v : View) (moment : ℕ) → slice_get self.now.book.groups.views step.entry.now.group.0 ≡ Some v → was_startable ≡ false → is_assigned (view_reply v op.Start moment) ≡ true → frees_one result.workers ≡ true }
-        ensures next_worker { (v : View) (moment : ℕ) → slice_get self.now.book.groups.views step.entry.now.group.0 ≡ Some v → is_told_again step.entry.now.op ≡ true → is_assigned (view_reply v op.Start moment) ≡ true → frees_one result.workers ≡ true }
-        ensures worn { (v : View) → slice_get self.now.book.groups.views step.entry.now.group.0 ≡ Some v → is_worn v.present ≡ true → IsEverybody result }
-        ensures fresh { (v : View) → slice_get self.now.book.groups.views step.entry.now.group.0 ≡ Some v → is_worn v.present ≡ false → result.callers ≡ frees_by step.entry.now.op }
+        ensures worker { (v : View) (moment : ℕ) → view_at self.now.book.groups step.entry.now.group.0 ≡ Some v → was_startable ≡ false → is_assigned (view_reply v op.Start moment) ≡ true → frees_one result.workers ≡ true }
+        ensures next_worker { (v : View) (moment : ℕ) → view_at self.now.book.groups step.entry.now.group.0 ≡ Some v → is_told_again step.entry.now.op ≡ true → is_assigned (view_reply v op.Start moment) ≡ true → frees_one result.workers ≡ true }
+        ensures worn { (v : View) → view_at self.now.book.groups step.entry.now.group.0 ≡ Some v → is_worn v.present ≡ true → IsEverybody result }
+        ensures fresh { (v : View) → view_at self.now.book.groups step.entry.now.group.0 ≡ Some v → is_worn v.present ≡ false → result.callers ≡ frees_by step.entry.now.op }
     {
         if self.book.core().worn(step.group) {
             return Freed::everybody();
@@ -93,8 +94,8 @@ impl<const A: u32> Locked<A> {
         requires { (A == 1) ≡ true → 0 < pass.old.room }
         ensures adds { IfSome result (λ n. AddsNext C.moments (A == 1) pass.old n.0 pass.new) }
         ensures told { IfSome result (λ n. n.0 ≡ Next.Stopped → self.old.stopped ≡ true) }
-        ensures registered { IfSome result (λ n. n.0 ≡ Next.Stopped → pass.old.group.0 < length self.old.book.groups.views) }
-        ensures waits { IsNone result → (v : View) (moment : ℕ) → slice_get self.old.book.groups.views pass.old.group.0 ≡ Some v → is_assigned (view_reply v op.Start moment) ≡ false }
+        ensures registered { IfSome result (λ n. n.0 ≡ Next.Stopped → is_some (view_at self.old.book.groups pass.old.group.0) ≡ true) }
+        ensures waits { IsNone result → (v : View) (moment : ℕ) → view_at self.old.book.groups pass.old.group.0 ≡ Some v → is_assigned (view_reply v op.Start moment) ≡ false }
         ensures wakes { IfSome result (λ n. n.0 ≢ Next.Stopped → KeepsWakeUps self.old.book.groups pass.old.group op.Start self.new.book.groups n.1) }
         ensures pass { IsNone result → pass.new ≡ pass.old }
         ensures book { IsNone result → self.new.book ≡ self.old.book }
@@ -114,7 +115,7 @@ impl<const A: u32> Locked<A> {
     /// Makes a Start that is answered with a run, or refused.
     fn start<C: Clock>(&mut self, pass: &mut Pass, clock: &C) -> (Next, Freed)
         requires room { (A == 1) ≡ true → 0 < pass.old.room }
-        requires ready { (v : View) → slice_get self.old.book.groups.views pass.old.group.0 ≡ Some v → NeedsNoWait v }
+        requires ready { (v : View) → view_at self.old.book.groups pass.old.group.0 ≡ Some v → NeedsNoWait v }
         ensures adds { AddsNext C.moments (A == 1) pass.old result.0 pass.new }
         ensures told { result.0 ≢ Next.Stopped }
         ensures wakes { KeepsWakeUps self.old.book.groups pass.old.group op.Start self.new.book.groups result.1 }
@@ -154,7 +155,7 @@ impl<const A: u32> Locked<A> {
         ensures kinds { IfSome result (λ r. can_reply (op.Collect serial) r.0 ≡ true) }
         ensures known { IfSome result (λ r. r.0 ≢ reply.NoCommand) }
         ensures told { IfSome result (λ r. r.0 ≡ reply.Pending → self.old.stopped ≡ true) }
-        ensures waits { IsNone result → (v : View) (moment : ℕ) → slice_get self.old.book.groups.views pass.old.group.0 ≡ Some v → is_pending (view_reply v (op.Collect serial) moment) ≡ true }
+        ensures waits { IsNone result → (v : View) (moment : ℕ) → view_at self.old.book.groups pass.old.group.0 ≡ Some v → is_pending (view_reply v (op.Collect serial) moment) ≡ true }
         ensures waits_on { IsNone result → self.old.stopped ≡ false }
         ensures wakes { IfSome result (λ r. KeepsWakeUps self.old.book.groups pass.old.group (op.Collect serial) self.new.book.groups r.1) }
         ensures pass { IsNone result → pass.new ≡ pass.old }
@@ -215,9 +216,12 @@ impl<const A: u32> Locked<A> {
 
     /// How many workers the group wants; 0 where it is not registered.
     pub(crate) fn workers(&self, group: GroupId) -> u64
-        ensures known { (v : View) → slice_get self.now.book.groups.views group.0 ≡ Some v → result ≡ workers_of v.present.props }
-        ensures unknown { slice_get self.now.book.groups.views group.0 ≡ None → result ≡ 0 }
+        ensures known { (v : View) → view_at self.now.book.groups group.0 ≡ Some v → result ≡ workers_of v.present.props }
+        ensures unknown { view_at self.now.book.groups group.0 ≡ None → result ≡ 0 }
     {
+        if !self.book.is_registered(group) {
+            return 0;
+        }
         match self.book.core().props(group) {
             Some((props, _)) => workers_of(props),
             None => 0,
@@ -229,7 +233,7 @@ impl<const A: u32> Locked<A> {
 pub(crate) fn next_in<const A: u32, R: Wait, C: Clock>(
     rt: &R,
     lock: &Mutex<Locked<A>>,
-    place: Option<&Place>,
+    place: &Place,
     pass: &mut Pass,
     clock: &C,
 ) -> (Next, Freed)
@@ -240,7 +244,7 @@ pub(crate) fn next_in<const A: u32, R: Wait, C: Clock>(
     for _ in rt.forever() {
         match guard.try_next(pass, clock) {
             Some(next) => return next,
-            None => guard = wait_at(rt, place, guard),
+            None => guard = place.wait(rt, guard),
         }
     }
     unreachable!()
@@ -250,7 +254,7 @@ pub(crate) fn next_in<const A: u32, R: Wait, C: Clock>(
 pub(crate) fn await_in<const A: u32, R: Wait, C: Clock>(
     rt: &R,
     lock: &Mutex<Locked<A>>,
-    place: Option<&Place>,
+    place: &Place,
     pass: &mut Pass,
     serial: Serial,
     clock: &C,
@@ -264,22 +268,10 @@ pub(crate) fn await_in<const A: u32, R: Wait, C: Clock>(
     for _ in rt.forever() {
         match guard.try_collect(pass, serial, clock) {
             Some(reply) => return reply,
-            None => guard = wait_at(rt, place, guard),
+            None => guard = place.wait(rt, guard),
         }
     }
     unreachable!()
-}
-
-/// Waits at the place. A group that is not registered has none, and no call waits in it.
-fn wait_at<'a, const A: u32, R: Wait>(
-    rt: &R,
-    place: Option<&Place>,
-    guard: MutexGuard<'a, Locked<A>>,
-) -> MutexGuard<'a, Locked<A>> {
-    match place {
-        Some(place) => place.wait(rt, guard),
-        None => guard,
-    }
 }
 
 /// Makes one step under the lock.

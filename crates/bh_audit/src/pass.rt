@@ -97,7 +97,7 @@ impl Pass {
         self.marks.worn = true;
     }
 
-    /// Notes that the service lacked the group.
+    /// Notes that the group was not registered in the service, or was retired.
     pub(crate) fn mark_no_group(&mut self)
         ensures { self.new ≡ marked_no_group self.old }
     {

@@ -1,12 +1,13 @@
 //! One service, which threads share.
 
-ghost use Rattle.std.specs.Prelude.{◌≡◌, ◌≢◌, ◌↔◌, ◌<◌, ◌≤◌, ◌&&◌, length, nat_lt, vec_len, IfOk, IfErr, IfSome, OnErr, Err, true, false, if◌then◌else◌};
+ghost use Rattle.std.specs.Prelude.{◌≡◌, ◌≢◌, ◌↔◌, ◌<◌, ◌≤◌, ◌^◌, ◌&&◌, length, nat_lt, vec_len, IfOk, IfErr, IfSome, OnErr, Err, true, false, if◌then◌else◌};
 ghost use Rattle.bh_base.specs.declared.reply.Reply.TheVariants as reply;
 ghost use Rattle.bh_base.specs.declared.step.Op.TheVariants as op;
+ghost use Rattle.bh_base.specs.Ranges.{IsInRange};
 ghost use Rattle.bh_base.specs.Replies.{can_reply};
 ghost use Rattle.bh_journal.specs.Passes.{Adds, blank};
 ghost use Rattle.bh_audit.specs.declared.error.AuditError.TheVariants.{NotAudited};
-ghost use Rattle.bh_audit.specs.declared.next.PassError.TheVariants.{Memory, NoGroup};
+ghost use Rattle.bh_audit.specs.declared.next.PassError.TheVariants.{Memory};
 ghost use Rattle.bh_audit.specs.declared.next.StepError.TheVariants.{OtherGroup, PassFull};
 ghost use Rattle.bh_audit.specs.Calls.{AddsCollect, AddsExpire, AddsNext, CanBeMissing};
 ghost use Rattle.bh_audit.specs.Finish.{FinishSays};
@@ -22,8 +23,10 @@ use crate::locked::{
 };
 use crate::next::{Next, PassError, StepError};
 use crate::pass::Pass;
+use crate::registering::{groups_in, is_registered_in, register_in, retire_in};
 use crate::waiting::Waiting;
-use bh_base::{GroupId, Reply, Serial, Step};
+use bh_base::{GroupId, GroupProps, Reply, Serial, Step};
+use bh_core::{RegisterError, RetireError};
 use bh_journal::AuditReport;
 use std::alloc::{AllocError, Global};
 use std::marker::Model;
@@ -36,41 +39,44 @@ enum Lock {
     Plain(Mutex<Locked<0>>),
 }
 
-/// One service, which threads share: a book under one lock. Contracts see whether it is audited, and how many groups
-/// it has.
+/// One service, which threads share: a book under one lock. Contracts see whether it is audited, and nothing of its
+/// groups, which come and go under the lock.
 ///
 /// In an audited service every step is in its group's journal, and a receipt of it in the pass of the call that made
-/// it. A call that may wait takes the runtime, and its contract holds if it returns. No call that takes the lock
-/// takes memory.
+/// it. A call that may wait takes the runtime, and its contract holds if it returns. No call but `register` takes
+/// memory while it has the lock.
 ///
-/// A pass of another service may be handed in. Where its group is not registered here, the calls answer `NoGroup`.
+/// A group is registered from its registration until it is retired; its number is never given again. A pass of another
+/// service may be handed in. Where the group of a pass is not registered here, or not any more, the calls answer
+/// `NoGroup`.
 #[derive(Drop)]
 pub struct Shared {
     lock: Lock,
-    /// One for each group.
+    /// One for each group of the book that the service was made of.
     waiting: Vec<Waiting>,
+    /// One for all groups that are registered later: places that were made later could be found under the lock alone.
+    later: Waiting,
 }
 
 impl Model for Shared {
-    ghost use Rattle.std.specs.Prelude.{vec_len};
     ghost use Rattle.bh_audit.specs.Service.{ServiceView, is_audited};
 
     ghost Value = { ServiceView };
 
-    ghost view = { λ s. record { audited = is_audited s.lock; groups = vec_len s.waiting } };
+    ghost view = { λ s. record { audited = is_audited s.lock } };
 }
 
 impl Shared {
     /// A service over a book, which is handed back where memory was refused.
     pub fn new(alloc: Global, book: Book) -> Result<Shared, (Book, AllocError)>
         ensures audited { IfOk result (λ s. s.audited ≡ book.audited) }
-        ensures groups { IfOk result (λ s. s.groups ≡ length book.groups.views) }
         ensures err { IfErr result (λ e. e.0 ≡ book) }
     {
         match all_waiting(alloc, book.core().groups()) {
             Ok(waiting) => Ok(Shared {
                 lock: lock_of(book),
                 waiting,
+                later: Waiting::new(),
             }),
             Err(error) => Err((book, error)),
         }
@@ -88,18 +94,63 @@ impl Shared {
 
     /// A pass of a group, with room for so many receipts in an audited service, and with none in another.
     ///
-    /// The errors are, in this order, `NoGroup` where the group is not registered and `Memory` where memory for the
-    /// receipts of an audited service was refused; nothing has changed then. It takes no lock.
-    pub fn pass(&self, alloc: Global, group: GroupId, room: u64) -> Result<Pass, PassError>
+    /// The errors are, in this order, `NoGroup` where the group is not registered, or was retired, and `Memory` where
+    /// memory for the receipts of an audited service was refused; nothing has changed then. It takes memory once it has
+    /// given back the lock. A group may be retired before its pass is used: the calls then answer `NoGroup`.
+    pub fn pass<R: Wait>(
+        &self,
+        rt: &R,
+        alloc: Global,
+        group: GroupId,
+        room: u64,
+    ) -> Result<Pass, PassError>
         ensures blank { IfOk result (λ p. p ≡ blank group (if self.now.audited then room else 0)) }
-        ensures unknown { (result ≡ Err NoGroup) ↔ (self.now.groups ≤ group.0) }
         ensures memory { result ≡ Err Memory → self.now.audited ≡ true }
     {
-        if group.0 >= self.waiting.len() as u64 {
+        if !self.is_registered(rt, group) {
             return Err(PassError::NoGroup);
         }
         let room = if self.audited() { room } else { 0 };
         Ok(Pass::new(alloc, group, room)?)
+    }
+
+    /// Registers a group, which may do so many steps, 1 to 2^40. The other groups go on meanwhile, save that the lock is
+    /// held while memory for the group is taken. The room of an audited group's journal is for as many entries. A
+    /// service that was stopped registers groups too.
+    ///
+    /// The errors are, in this order, `TooManyGroups` where 10,000 groups were registered in all, `TooManySlots` where
+    /// the slots of all groups that are not retired would be more than the core may have, and `Memory` where a growth was
+    /// refused; nothing has changed then.
+    pub fn register<R: Wait>(
+        &self,
+        rt: &R,
+        alloc: Global,
+        props: &GroupProps,
+        step_limit: u64,
+    ) -> Result<GroupId, RegisterError>
+        requires props { IsInRange props.now }
+        requires some_steps { 1 ≤ step_limit }
+        requires few_steps { step_limit ≤ 2 ^ 40 }
+    {
+        match &self.lock {
+            Lock::Audited(lock) => register_in(rt, lock, alloc, props, step_limit),
+            Lock::Plain(lock) => register_in(rt, lock, alloc, props, step_limit),
+        }
+    }
+
+    /// Retires a group that nobody uses: its slots are there for groups that come later, and its journal stays for the
+    /// account. Workers that wait in it go on, and are told `NoGroup`. It makes no step, and takes no memory. A group
+    /// that is worn, or whose service was stopped, can be retired too.
+    ///
+    /// The errors are, in this order, `NoGroup` where the group is not registered, or was retired before, and `Busy`
+    /// where a run of it has not ended, or someone has still to collect an answer; nothing has changed then.
+    pub fn retire<R: Wait>(&self, rt: &R, group: GroupId) -> Result<(), RetireError> {
+        let freed = match &self.lock {
+            Lock::Audited(lock) => retire_in(rt, lock, group)?,
+            Lock::Plain(lock) => retire_in(rt, lock, group)?,
+        };
+        self.tell(group, freed);
+        Ok(())
     }
 
     /// Makes one step. Its receipt is added to the pass in an audited service, save where it is refused: `Worn` and
@@ -125,7 +176,7 @@ impl Shared {
         }
         let group = pass.group();
         let (reply, freed) = self.make(rt, pass, step);
-        freed.tell(self.waiting_at(group));
+        self.tell(group, freed);
         Ok(reply)
     }
 
@@ -152,12 +203,12 @@ impl Shared {
             return Err(StepError::PassFull);
         }
         let group = pass.group();
-        let idle = self.waiting_at(group).map(|waiting| waiting.workers());
+        let idle = self.waiting_at(group).workers();
         let told = match &self.lock {
             Lock::Audited(lock) => next_in(rt, lock, idle, pass, clock),
             Lock::Plain(lock) => next_in(rt, lock, idle, pass, clock),
         };
-        told.1.tell(self.waiting_at(group));
+        self.tell(group, told.1);
         Ok(told.0)
     }
 
@@ -186,14 +237,12 @@ impl Shared {
             return Err(StepError::PassFull);
         }
         let group = pass.group();
-        let callers = self
-            .waiting_at(group)
-            .map(|waiting| waiting.callers_of(serial));
+        let callers = self.waiting_at(group).callers_of(serial);
         let told = match &self.lock {
             Lock::Audited(lock) => await_in(rt, lock, callers, pass, serial, clock),
             Lock::Plain(lock) => await_in(rt, lock, callers, pass, serial, clock),
         };
-        told.1.tell(self.waiting_at(group));
+        self.tell(group, told.1);
         Ok(told.0)
     }
 
@@ -222,7 +271,7 @@ impl Shared {
             Lock::Audited(lock) => expire_in(rt, lock, pass, clock),
             Lock::Plain(lock) => expire_in(rt, lock, pass, clock),
         };
-        expiry.1.tell(self.waiting_at(group));
+        self.tell(group, expiry.1);
         Ok(expiry.0)
     }
 
@@ -239,14 +288,13 @@ impl Shared {
         }
     }
 
-    /// How many calls wait in the group: idle workers, and callers whose ticket has no answer; 0 where it is not
-    /// registered. It takes no lock. A call that is counted has looked in vain, and a step that is made after it was
-    /// seen here finds it waiting.
+    /// How many calls wait in the group: idle workers, and callers whose ticket has no answer. It takes no lock. A call
+    /// that is counted has looked in vain, and a step that is made after it was seen here finds it waiting.
+    ///
+    /// Groups that were registered after the service was made share one place, and the calls that wait in any of them
+    /// are counted for each, and for a number that was not given.
     pub fn waiting(&self, group: GroupId) -> u64 {
-        match self.waiting_at(group) {
-            Some(waiting) => waiting.count(),
-            None => 0,
-        }
+        self.waiting_at(group).count()
     }
 
     /// Stops the service: workers and callers that wait go on at once, and later ones do not wait.
@@ -255,7 +303,7 @@ impl Shared {
             Lock::Audited(lock) => stop_in(rt, lock),
             Lock::Plain(lock) => stop_in(rt, lock),
         };
-        freed.tell_all(self.waiting.as_slice());
+        freed.tell_all(self.waiting.as_slice(), &self.later);
     }
 
     /// Whether the service was stopped.
@@ -266,15 +314,16 @@ impl Shared {
         }
     }
 
-    /// How many groups are registered in all. It takes no lock, since no group comes or goes.
-    pub fn groups<R: Wait>(&self, _rt: &R) -> u64
-        ensures { result ≡ self.now.groups }
-    {
-        self.waiting.len() as u64
+    /// How many groups were registered in all, retired ones included. The next one gets that number.
+    pub fn groups<R: Wait>(&self, rt: &R) -> u64 {
+        match &self.lock {
+            Lock::Audited(lock) => groups_in(rt, lock),
+            Lock::Plain(lock) => groups_in(rt, lock),
+        }
     }
 
     /// How many workers the group wants: as many as its pool has where a command of the group runs in that pool, else
-    /// 0; 0 where it is not registered.
+    /// 0; 0 where it is not registered, or was retired.
     pub fn workers<R: Wait>(&self, rt: &R, group: GroupId) -> u64 {
         match &self.lock {
             Lock::Audited(lock) => workers_in(rt, lock, group),
@@ -283,7 +332,7 @@ impl Shared {
     }
 
     /// The account of the service, where the passes agree with it. It takes no lock, and gives up the service and the
-    /// passes whatever it answers.
+    /// passes whatever it answers. It holds retired groups too, by number.
     ///
     /// The errors are, in this order, `NotAudited`, `Memory` where a growth was refused, and then, by group and
     /// rising place, the first `PassMissing` or `Mismatch`.
@@ -291,7 +340,11 @@ impl Shared {
         ensures not_audited { (result ≡ Err NotAudited) ↔ (self.audited ≡ false) }
         ensures says { FinishSays passes.items result }
     {
-        let Shared { lock, waiting: _ } = self;
+        let Shared {
+            lock,
+            waiting: _,
+            later: _,
+        } = self;
         match lock {
             Lock::Audited(lock) => audit(alloc, lock.into_inner(), &passes),
             Lock::Plain(_) => Err(AuditError::NotAudited),
@@ -320,9 +373,25 @@ impl Shared {
         }
     }
 
-    /// Where calls of the group wait, where it is registered.
-    fn waiting_at(&self, group: GroupId) -> Option<&Waiting> {
-        self.waiting.get(group.0 as usize)
+    /// Whether the group is registered, and not retired.
+    fn is_registered<R: Wait>(&self, rt: &R, group: GroupId) -> bool {
+        match &self.lock {
+            Lock::Audited(lock) => is_registered_in(rt, lock, group),
+            Lock::Plain(lock) => is_registered_in(rt, lock, group),
+        }
+    }
+
+    /// Where calls of the group wait.
+    fn waiting_at(&self, group: GroupId) -> &Waiting {
+        self.waiting.get(group.0 as usize).unwrap_or(&self.later)
+    }
+
+    /// Notifies those of the group whom a step lets go on, where they wait.
+    fn tell(&self, group: GroupId, freed: Freed) {
+        match self.waiting.get(group.0 as usize) {
+            Some(waiting) => freed.tell(waiting),
+            None => freed.among_several_groups().tell(&self.later),
+        }
     }
 }
 

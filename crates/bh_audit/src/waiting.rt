@@ -1,4 +1,4 @@
-//! Where the calls of one group wait.
+//! Where the calls of a group wait.
 
 ghost use Rattle.std.specs.Prelude.{◌≡◌, ◌%◌};
 
@@ -51,7 +51,7 @@ impl Place {
     }
 }
 
-/// The places of one group: one for its idle workers, and eight for its callers, by serial.
+/// The places of one group, or of several: one for idle workers, and eight for callers, by serial.
 #[derive(Drop)]
 pub(crate) struct Waiting {
     workers: Place,
@@ -59,7 +59,7 @@ pub(crate) struct Waiting {
 }
 
 impl Waiting {
-    /// The places of a group in which nobody waits.
+    /// Places where nobody waits.
     pub(crate) fn new() -> Waiting {
         Waiting {
             workers: Place::new(),
@@ -86,7 +86,7 @@ impl Waiting {
         &self.callers[place_of(serial) as usize]
     }
 
-    /// How many calls wait in the group.
+    /// How many calls wait here.
     pub(crate) fn count(&self) -> u64 {
         let mut count = self.workers.count();
         for place in self.callers.iter() {

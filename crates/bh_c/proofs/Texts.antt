@@ -3,8 +3,10 @@ use Rattle.std.proofs.Common.{◌≡◌, ℕ, List, ◌≤◌, length, take, nat
 use Rattle.std.proofs.lemmas.Bool.{le-leb}
 use Rattle.std.proofs.lemmas.Str.{is_utf8-from_IsUtf8, IsUtf8-from_is_utf8}
 use Rattle.std.specs.Str.{is_utf8}
-use Rattle.bh_lines.specs.Names.{Names, command_number}
-use Rattle.bh_lines.specs.StepLine.{group_number}
+use Rattle.bh_port.specs.declared.groups.Entry.{Entry}
+use Rattle.bh_port.specs.Course.{command_at}
+use Rattle.bh_port.specs.Entries.{number_of}
+use Rattle.bh_props.specs.SettingsView.{SettingsView}
 use Rattle.bh_c.specs.declared.outcome.Outcome.TheVariants.{NotText, TooLong}
 use Rattle.bh_c.specs.Given.{or_not_text, text_in}
 use Rattle.bh_c.specs.Lines.{if_text, line_text}
@@ -27,26 +29,26 @@ if-text : {A : Type 0} (bytes : List ℕ) (x y : A) → IsUtf8 bytes → (if is_
 if-text bytes x y valid = ap (λ b. if b then x else y) (is_utf8-from_IsUtf8 bytes valid)
 
 -- a name that is no text is that of no group
-pub group-none : (names : Names) (name : List ℕ) → ¬ (IsUtf8 name) → Err NotText ≡ group_in names name
+pub group-none : (entries : List Entry) (name : List ℕ) → ¬ (IsUtf8 name) → Err NotText ≡ group_in entries name
 unfolding group_in
-group-none names name none = sym (if-none name (or_no_group (group_number names.groups name)) (Err NotText) none)
+group-none entries name none = sym (if-none name (or_no_group (number_of entries name)) (Err NotText) none)
 
 -- else the text is looked up
-pub group-text : (names : Names) (name text : List ℕ) → (text ≡ name) × IsUtf8 name → or_no_group (group_number names.groups text) ≡ group_in names name
+pub group-text : (entries : List Entry) (name text : List ℕ) → (text ≡ name) × IsUtf8 name → or_no_group (number_of entries text) ≡ group_in entries name
 unfolding group_in
-group-text names name text valid =
-    ap (λ s. or_no_group (group_number names.groups s)) valid.0 ∙ sym (if-text name (or_no_group (group_number names.groups name)) (Err NotText) valid.1)
+group-text entries name text valid =
+    ap (λ s. or_no_group (number_of entries s)) valid.0 ∙ sym (if-text name (or_no_group (number_of entries name)) (Err NotText) valid.1)
 
 -- a name that is no text is that of no command
-pub command-none : (names : Names) (group : ℕ) (name : List ℕ) → ¬ (IsUtf8 name) → Err NotText ≡ command_in names group name
+pub command-none : (service : SettingsView) (entries : List Entry) (group : ℕ) (name : List ℕ) → ¬ (IsUtf8 name) → Err NotText ≡ command_in service entries group name
 unfolding command_in
-command-none names group name none = sym (if-none name (or_no_command (command_number names group name)) (Err NotText) none)
+command-none service entries group name none = sym (if-none name (or_no_command (command_at service entries group name)) (Err NotText) none)
 
 -- else the text is looked up
-pub command-text : (names : Names) (group : ℕ) (name text : List ℕ) → (text ≡ name) × IsUtf8 name → or_no_command (command_number names group text) ≡ command_in names group name
+pub command-text : (service : SettingsView) (entries : List Entry) (group : ℕ) (name text : List ℕ) → (text ≡ name) × IsUtf8 name → or_no_command (command_at service entries group text) ≡ command_in service entries group name
 unfolding command_in
-command-text names group name text valid =
-    ap (λ s. or_no_command (command_number names group s)) valid.0 ∙ sym (if-text name (or_no_command (command_number names group name)) (Err NotText) valid.1)
+command-text service entries group name text valid =
+    ap (λ s. or_no_command (command_at service entries group s)) valid.0 ∙ sym (if-text name (or_no_command (command_at service entries group name)) (Err NotText) valid.1)
 
 -- a line that is no text
 pub line-none : (bytes : List ℕ) → ¬ (IsUtf8 bytes) → None ≡ if_text bytes

@@ -1,5 +1,6 @@
 -- What the calls that C makes do.
-use Rattle.std.specs.Prelude.{◌≡◌, ℕ, [], Option, Some, None, Result, Ok, IsErr, IsSomeAnd}
+use Rattle.std.specs.Prelude.{◌≡◌, ℕ, Option, Some, None, Result, Ok, IsErr, IsSomeAnd}
+use Rattle.bh_port.specs.Course.{new_course}
 use Rattle.bh_port.specs.Script.{GroupsShow}
 use Rattle.bh_props.specs.SettingsView.{SettingsView}
 use Rattle.bh_props.specs.Shown.{settings_view}
@@ -27,7 +28,7 @@ Keeps None is Tells = ⊥
 -- the settings that were read are those of a service of new groups
 pub record IsOpened (said : Result SettingsView SettingsError) (service : Service) : Type 0 where
   pub settings : said ≡ Ok (settings_view service.settings)
-  pub groups : GroupsShow (settings_view service.settings) service.core []
+  pub groups : GroupsShow (settings_view service.settings) service.groups (new_course (settings_view service.settings))
 
 -- a service of the settings was opened; or they are refused or memory was, and what was held is as it was
 abbrev pub OpenTold : Result SettingsView SettingsError → Option Service → Option Service → Outcome → Type 0

@@ -1,7 +1,6 @@
 //! What C calls. `include/bulkhead.h` has these functions for people who write C.
 
 ghost use Rattle.std.specs.Prelude.{◌≡◌, ◌≢◌, ◌⊎◌, IsSome, IfErr, IfOk, None, Some, Err};
-ghost use Rattle.bh_port.specs.Text.{names_in};
 ghost use Rattle.bh_props.specs.Printed.{lines_of};
 ghost use Rattle.bh_props.specs.Shown.{settings_view};
 ghost use Rattle.bh_c.specs.Calls.{CheckTold, LineTold, NumberTold, StepTold};
@@ -60,7 +59,7 @@ pub extern "C" fn bulkhead_close(alloc: Global, service: &mut Handle)
     let _service = take(service, alloc);
 }
 
-/// The number of the group of a name.
+/// The number of the group of a name: of those that had it, the last, where that was not retired.
 #[unsafe(no_mangle)]
 pub extern "C" fn bulkhead_group(
     alloc: Global,
@@ -70,7 +69,7 @@ pub extern "C" fn bulkhead_group(
 ) -> u32
     requires { IsSome service.old.held }
     ensures { Answers result (λ outcome. Keeps service.old.held service.new.held (λ held.
-        NumberTold (group_in (names_in (settings_view held.settings)) name.now) number.old number.new outcome)) }
+        NumberTold (group_in held.groups.entries name.now) number.old number.new outcome)) }
 {
     let held = take(service, alloc);
     let outcome = held.group(name, number);
@@ -78,7 +77,7 @@ pub extern "C" fn bulkhead_group(
     outcome.code()
 }
 
-/// The number of the command of a name in a group.
+/// The number of the command of a name in a group that was not retired.
 #[unsafe(no_mangle)]
 pub extern "C" fn bulkhead_command(
     alloc: Global,
@@ -89,7 +88,7 @@ pub extern "C" fn bulkhead_command(
 ) -> u32
     requires { IsSome service.old.held }
     ensures { Answers result (λ outcome. Keeps service.old.held service.new.held (λ held.
-        NumberTold (command_in (names_in (settings_view held.settings)) group name.now) number.old number.new outcome)) }
+        NumberTold (command_in (settings_view held.settings) held.groups.entries group name.now) number.old number.new outcome)) }
 {
     let held = take(service, alloc);
     let outcome = held.command(group, name, number);
@@ -107,7 +106,7 @@ pub extern "C" fn bulkhead_make_step(
 ) -> u32
     requires { IsSome service.old.held }
     ensures { Answers result (λ outcome. Works service.old.held service.new.held (λ was is.
-        StepTold (step_in step.now) was.core is.core reply.old reply.new outcome)) }
+        StepTold (step_in step.now) was.groups is.groups reply.old reply.new outcome)) }
 {
     let mut held = take(service, alloc);
     let outcome = held.step(step, reply);
@@ -115,7 +114,7 @@ pub extern "C" fn bulkhead_make_step(
     outcome.code()
 }
 
-/// Answers a line, which has no line feed, in front of the buffer.
+/// Answers a line, which has no line feed, in front of the buffer. The line may also register or retire a group.
 #[unsafe(no_mangle)]
 pub extern "C" fn bulkhead_line(
     alloc: Global,
@@ -126,7 +125,7 @@ pub extern "C" fn bulkhead_line(
 ) -> u32
     requires { IsSome service.old.held }
     ensures { Answers result (λ outcome. Works service.old.held service.new.held (λ was is.
-        LineTold (settings_view was.settings) line.now was.core is.core answer.old answer.new length.new outcome)) }
+        LineTold (settings_view was.settings) line.now was.groups is.groups answer.old answer.new length.new outcome)) }
 {
     let mut held = take(service, alloc);
     let outcome = held.line(line, answer, length);

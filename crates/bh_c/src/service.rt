@@ -1,13 +1,11 @@
 //! A service with all that its calls take in memory.
 
 ghost use Rattle.std.specs.Prelude.{◌≡◌, ◌≢◌, ◌+◌, ◌≤◌, [], length, option_map, vec_capacity, vec_len, Ok, Err, IfOk, IfErr};
-ghost use Rattle.bh_lines.specs.FaultLine.{fault_line};
-ghost use Rattle.bh_lines.specs.StepLine.{line_step};
+ghost use Rattle.bh_port.specs.Course.{IsActOf, new_course};
 ghost use Rattle.bh_port.specs.Script.{GroupsShow};
-ghost use Rattle.bh_port.specs.Text.{names_in};
 ghost use Rattle.bh_props.specs.Printed.{lines_of};
 ghost use Rattle.bh_props.specs.Shown.{settings_view};
-ghost use Rattle.bh_c.specs.Calls.{CheckTold, NumberTold, DoesStep, LineTold, StepTold, WritesReply, FaultWritten};
+ghost use Rattle.bh_c.specs.Calls.{ActTold, CheckTold, NumberTold, LineTold, StepTold, FaultWritten};
 ghost use Rattle.bh_c.specs.Given.{step_in};
 ghost use Rattle.bh_c.specs.Lines.{line_text};
 ghost use Rattle.bh_c.specs.Names.{command_in, group_in};
@@ -18,13 +16,12 @@ use crate::given::GivenStep;
 use crate::outcome::Outcome;
 use crate::steps::make_given;
 use crate::told::ToldReply;
-use bh_base::{GroupId, Step};
-use bh_core::Core;
+use bh_base::GroupId;
 use bh_lines::lines::LINE_LIMIT;
-use bh_lines::{Fault, put_fault, put_reply_within};
-use bh_port::commands::{command_number, told_command};
-use bh_port::script;
-use bh_port::steps::{group_number, line_step};
+use bh_lines::{Fault, put_fault, put_told_within};
+use bh_port::act::{LineAct, line_act};
+use bh_port::commands::command_at;
+use bh_port::groups::Groups;
 use bh_props::{Settings, SettingsError, settings_in};
 use json::Scratch;
 use std::alloc::Global;
@@ -38,7 +35,7 @@ pub const ANSWER_ROOM: usize = 2_048;
 pub struct Service {
     pub alloc: Global,
     pub settings: Settings,
-    pub core: Core,
+    pub groups: Groups,
     pub scratch: Scratch,
     pub answer: Vec<u8>,
 }
@@ -48,25 +45,25 @@ impl Service {
     /// of any answer.
     pub fn open(alloc: Global, bytes: &[u8]) -> Result<Service, SettingsError>
         ensures settings { IfOk result (λ s. settings_in bytes.now ≡ Ok (settings_view s.settings)) }
-        ensures groups { IfOk result (λ s. GroupsShow (settings_view s.settings) s.core []) }
+        ensures groups { IfOk result (λ s. GroupsShow (settings_view s.settings) s.groups (new_course (settings_view s.settings))) }
         ensures refused { IfErr result (λ e. e ≢ SettingsError.Memory → settings_in bytes.now ≡ Err e) }
     {
         let settings = settings_in(alloc, bytes)?;
-        let Ok(core) = script::open(alloc, &settings) else {
+        let Ok(groups) = Groups::open(alloc, &settings) else {
             return Err(SettingsError::Memory);
         };
         Ok(Service {
             alloc,
             settings,
-            core,
+            groups,
             scratch: Scratch::new(alloc),
             answer: Vec::new(alloc),
         })
     }
 
-    /// Tells the number of the group of the name, or says why there is none.
+    /// Tells the number of the group of the name that is there, or says why there is none.
     pub fn group(&self, name: &[u8], number: &mut u64) -> Outcome
-        ensures { NumberTold (group_in (names_in (settings_view self.now.settings)) name.now) number.old number.new result }
+        ensures { NumberTold (group_in self.now.groups.entries name.now) number.old number.new result }
     {
         match self.group_number(name) {
             Ok(of_name) => {
@@ -79,12 +76,12 @@ impl Service {
 
     /// The number of the group of the name, or why there is none.
     fn group_number(&self, name: &[u8]) -> Result<u64, Outcome>
-        ensures { result ≡ group_in (names_in (settings_view self.now.settings)) name.now }
+        ensures { result ≡ group_in self.now.groups.entries name.now }
     {
         let Ok(text) = str::from_utf8(name) else {
             return Err(Outcome::NotText);
         };
-        match group_number(&self.settings.groups, text) {
+        match self.groups.number(text) {
             Some(number) => Ok(number),
             None => Err(Outcome::NoSuchGroup),
         }
@@ -92,7 +89,7 @@ impl Service {
 
     /// Tells the number of the group's command of the name, or says why there is none.
     pub fn command(&self, group: u64, name: &[u8], number: &mut u8) -> Outcome
-        ensures { NumberTold (command_in (names_in (settings_view self.now.settings)) group name.now) number.old number.new result }
+        ensures { NumberTold (command_in (settings_view self.now.settings) self.now.groups.entries group name.now) number.old number.new result }
     {
         match self.command_number(group, name) {
             Ok(of_command) => {
@@ -105,12 +102,12 @@ impl Service {
 
     /// The number of the group's command of the name, or why there is none.
     fn command_number(&self, group: u64, name: &[u8]) -> Result<u8, Outcome>
-        ensures { result ≡ command_in (names_in (settings_view self.now.settings)) group name.now }
+        ensures { result ≡ command_in (settings_view self.now.settings) self.now.groups.entries group name.now }
     {
         let Ok(text) = str::from_utf8(name) else {
             return Err(Outcome::NotText);
         };
-        match command_number(&self.settings, GroupId(group), text) {
+        match command_at(&self.settings, &self.groups, GroupId(group), text) {
             Some(number) => Ok(number),
             None => Err(Outcome::NoSuchCommand),
         }
@@ -118,16 +115,16 @@ impl Service {
 
     /// Makes the step that is given, and tells its reply; or says why none is given, and does nothing.
     pub fn step(&mut self, given: &GivenStep, told: &mut ToldReply) -> Outcome
-        ensures told { StepTold (step_in given.now) self.old.core self.new.core told.old told.new result }
+        ensures told { StepTold (step_in given.now) self.old.groups self.new.groups told.old told.new result }
         ensures settings { self.new.settings ≡ self.old.settings }
     {
-        make_given(&mut self.core, given, told)
+        make_given(&mut self.groups, given, told)
     }
 
     /// Answers a line, which has no line feed, in front of the buffer, and tells the length of the answer or, where the
-    /// buffer is too short, the length that suffices.
+    /// buffer is too short, the length that suffices. The line may ask for a step, or for a group to come or go.
     pub fn line(&mut self, line: &[u8], buffer: &mut [u8], needed: &mut usize) -> Outcome
-        ensures told { LineTold (settings_view self.old.settings) line.now self.old.core self.new.core buffer.old buffer.new needed.new result }
+        ensures told { LineTold (settings_view self.old.settings) line.now self.old.groups self.new.groups buffer.old buffer.new needed.new result }
         ensures settings { self.new.settings ≡ self.old.settings }
     {
         let Some(text) = line_text(line) else {
@@ -141,30 +138,34 @@ impl Service {
         if self.answer.reserve(ANSWER_ROOM).is_err() {
             return Outcome::NoMemory;
         }
-        match line_step(self.alloc, &self.settings, &mut self.scratch, text) {
-            Ok(Ok(step)) => {
-                self.line_of_step(step, buffer, needed);
-                Outcome::Done
-            }
+        match line_act(
+            self.alloc,
+            &self.settings,
+            &self.groups,
+            &mut self.scratch,
+            text,
+        ) {
+            Ok(Ok(act)) => self.line_of_act(act, buffer, needed),
             Ok(Err(fault)) => self.line_of_fault(fault, buffer, needed),
             Err(_) => Outcome::NoMemory,
         }
     }
 
-    /// Makes a step, and writes the line of its reply in front of the buffer.
-    fn line_of_step(&mut self, step: Step, buffer: &mut [u8], needed: &mut usize)
+    /// Does what a line asks for, and writes the line of what is told in front of the buffer.
+    fn line_of_act(&mut self, act: LineAct, buffer: &mut [u8], needed: &mut usize) -> Outcome
+        requires act { IsActOf (settings_view self.old.settings) self.old.groups.entries act }
         requires empty { self.old.answer.items ≡ [] }
         requires room { vec_len self.old.answer + 2048 ≤ vec_capacity self.old.answer }
         requires buffer { 2048 ≤ length buffer.old }
-        ensures step { DoesStep (settings_view self.old.settings) step self.old.core self.new.core }
-        ensures line { WritesReply (settings_view self.old.settings) step self.old.core buffer.old buffer.new needed.new }
+        ensures told { ActTold (settings_view self.old.settings) act self.old.groups self.new.groups buffer.old buffer.new needed.new result }
         ensures settings { self.new.settings ≡ self.old.settings }
     {
-        let group = step.group;
-        let reply = self.core.apply(step);
-        let command = told_command(&self.settings, group, &reply);
-        put_reply_within(self.alloc, &mut self.answer, &reply, command);
+        let Ok(told) = self.groups.act(&self.settings, act) else {
+            return Outcome::NoMemory;
+        };
+        put_told_within(self.alloc, &mut self.answer, &told);
         put_line(self.answer.as_slice(), buffer, needed);
+        Outcome::Done
     }
 
     /// Writes the line of a fault in front of the buffer.
@@ -172,7 +173,7 @@ impl Service {
         requires { self.old.answer.items ≡ [] }
         ensures told { FaultWritten fault buffer.old buffer.new needed.new result }
         ensures settings { self.new.settings ≡ self.old.settings }
-        ensures core { self.new.core ≡ self.old.core }
+        ensures groups { self.new.groups ≡ self.old.groups }
     {
         match put_fault(self.alloc, &mut self.answer, fault) {
             Ok(()) if self.answer.len() <= buffer.len() => {

@@ -10,117 +10,117 @@ use crate::given::{GivenStep, OpNumber, op_number, text_in};
 use crate::outcome::Outcome;
 use crate::told::ToldReply;
 use bh_base::{FallbackEnd, GroupId, Op, Request, Step};
-use bh_core::Core;
+use bh_port::groups::Groups;
 
 /// Makes the step that is given, and tells its reply; or says why none is given, and does nothing: the operation is
 /// looked at before the texts, and a key before an argument.
-pub fn make_given(core: &mut Core, given: &GivenStep, told: &mut ToldReply) -> Outcome
-    ensures { StepTold (step_in given.now) core.old core.new told.old told.new result }
+pub fn make_given(groups: &mut Groups, given: &GivenStep, told: &mut ToldReply) -> Outcome
+    ensures { StepTold (step_in given.now) groups.old groups.new told.old told.new result }
 {
     match op_number(given.operation) {
-        Some(number) => make_numbered(core, given, number, told),
+        Some(number) => make_numbered(groups, given, number, told),
         None => Outcome::NoSuchOperation,
     }
 }
 
 /// Makes a step of the operation.
 fn make_numbered(
-    core: &mut Core,
+    groups: &mut Groups,
     given: &GivenStep,
     number: OpNumber,
     told: &mut ToldReply,
 ) -> Outcome
-    ensures { StepTold (made_in number given.now) core.old core.new told.old told.new result }
+    ensures { StepTold (made_in number given.now) groups.old groups.new told.old told.new result }
 {
     match number {
-        OpNumber::Submit => submit(core, given, told),
-        OpNumber::SubmitShared => submit_shared(core, given, told),
-        OpNumber::Start => start(core, given, told),
-        OpNumber::Finish => finish(core, given, told),
-        OpNumber::Fail => fail(core, given, false, told),
-        OpNumber::BadRequest => fail(core, given, true, told),
-        OpNumber::Expire => expire(core, given, told),
-        OpNumber::Collect => collect(core, given, told),
-        OpNumber::FallbackValue => fallback_value(core, given, told),
-        OpNumber::FallbackFailed => fallback_failed(core, given, told),
-        OpNumber::FallbackMissing => fallback_missing(core, given, told),
-        OpNumber::Close => close(core, given, told),
-        OpNumber::Read => read(core, given, told),
+        OpNumber::Submit => submit(groups, given, told),
+        OpNumber::SubmitShared => submit_shared(groups, given, told),
+        OpNumber::Start => start(groups, given, told),
+        OpNumber::Finish => finish(groups, given, told),
+        OpNumber::Fail => fail(groups, given, false, told),
+        OpNumber::BadRequest => fail(groups, given, true, told),
+        OpNumber::Expire => expire(groups, given, told),
+        OpNumber::Collect => collect(groups, given, told),
+        OpNumber::FallbackValue => fallback_value(groups, given, told),
+        OpNumber::FallbackFailed => fallback_failed(groups, given, told),
+        OpNumber::FallbackMissing => fallback_missing(groups, given, told),
+        OpNumber::Close => close(groups, given, told),
+        OpNumber::Read => read(groups, given, told),
     }
 }
 
 /// A worker asks for a run.
 #[inline(never)]
-fn start(core: &mut Core, given: &GivenStep, told: &mut ToldReply) -> Outcome
-    ensures { StepTold (made_in OpNumber.Start given.now) core.old core.new told.old told.new result }
+fn start(groups: &mut Groups, given: &GivenStep, told: &mut ToldReply) -> Outcome
+    ensures { StepTold (made_in OpNumber.Start given.now) groups.old groups.new told.old told.new result }
 {
-    make(core, given, Op::Start, told)
+    make(groups, given, Op::Start, told)
 }
 
 /// The end of a run without a body.
 #[inline(never)]
-fn fail(core: &mut Core, given: &GivenStep, bad: bool, told: &mut ToldReply) -> Outcome
-    ensures { StepTold (Ok (step_of given.now (Op.Fail given.now.ticket bad))) core.old core.new told.old told.new result }
+fn fail(groups: &mut Groups, given: &GivenStep, bad: bool, told: &mut ToldReply) -> Outcome
+    ensures { StepTold (Ok (step_of given.now (Op.Fail given.now.ticket bad))) groups.old groups.new told.old told.new result }
 {
     let serial = given.ticket;
-    make(core, given, Op::Fail { serial, bad }, told)
+    make(groups, given, Op::Fail { serial, bad }, told)
 }
 
 /// Times out what is due.
 #[inline(never)]
-fn expire(core: &mut Core, given: &GivenStep, told: &mut ToldReply) -> Outcome
-    ensures { StepTold (made_in OpNumber.Expire given.now) core.old core.new told.old told.new result }
+fn expire(groups: &mut Groups, given: &GivenStep, told: &mut ToldReply) -> Outcome
+    ensures { StepTold (made_in OpNumber.Expire given.now) groups.old groups.new told.old told.new result }
 {
-    make(core, given, Op::Expire, told)
+    make(groups, given, Op::Expire, told)
 }
 
 /// A holder asks for the answer.
 #[inline(never)]
-fn collect(core: &mut Core, given: &GivenStep, told: &mut ToldReply) -> Outcome
-    ensures { StepTold (made_in OpNumber.Collect given.now) core.old core.new told.old told.new result }
+fn collect(groups: &mut Groups, given: &GivenStep, told: &mut ToldReply) -> Outcome
+    ensures { StepTold (made_in OpNumber.Collect given.now) groups.old groups.new told.old told.new result }
 {
     let serial = given.ticket;
-    make(core, given, Op::Collect { serial }, told)
+    make(groups, given, Op::Collect { serial }, told)
 }
 
 /// A fallback that failed.
 #[inline(never)]
-fn fallback_failed(core: &mut Core, given: &GivenStep, told: &mut ToldReply) -> Outcome
-    ensures { StepTold (made_in OpNumber.FallbackFailed given.now) core.old core.new told.old told.new result }
+fn fallback_failed(groups: &mut Groups, given: &GivenStep, told: &mut ToldReply) -> Outcome
+    ensures { StepTold (made_in OpNumber.FallbackFailed given.now) groups.old groups.new told.old told.new result }
 {
-    end_fallback(core, given, FallbackEnd::Failure, told)
+    end_fallback(groups, given, FallbackEnd::Failure, told)
 }
 
 /// A fallback that there is not.
 #[inline(never)]
-fn fallback_missing(core: &mut Core, given: &GivenStep, told: &mut ToldReply) -> Outcome
-    ensures { StepTold (made_in OpNumber.FallbackMissing given.now) core.old core.new told.old told.new result }
+fn fallback_missing(groups: &mut Groups, given: &GivenStep, told: &mut ToldReply) -> Outcome
+    ensures { StepTold (made_in OpNumber.FallbackMissing given.now) groups.old groups.new told.old told.new result }
 {
-    end_fallback(core, given, FallbackEnd::Missing, told)
+    end_fallback(groups, given, FallbackEnd::Missing, told)
 }
 
 /// Ends a request context.
 #[inline(never)]
-fn close(core: &mut Core, given: &GivenStep, told: &mut ToldReply) -> Outcome
-    ensures { StepTold (made_in OpNumber.Close given.now) core.old core.new told.old told.new result }
+fn close(groups: &mut Groups, given: &GivenStep, told: &mut ToldReply) -> Outcome
+    ensures { StepTold (made_in OpNumber.Close given.now) groups.old groups.new told.old told.new result }
 {
     let context = given.context;
-    make(core, given, Op::Close { context }, told)
+    make(groups, given, Op::Close { context }, told)
 }
 
 /// Asks for the metrics.
 #[inline(never)]
-fn read(core: &mut Core, given: &GivenStep, told: &mut ToldReply) -> Outcome
-    ensures { StepTold (made_in OpNumber.Read given.now) core.old core.new told.old told.new result }
+fn read(groups: &mut Groups, given: &GivenStep, told: &mut ToldReply) -> Outcome
+    ensures { StepTold (made_in OpNumber.Read given.now) groups.old groups.new told.old told.new result }
 {
     let command = given.command;
-    make(core, given, Op::Read { command }, told)
+    make(groups, given, Op::Read { command }, told)
 }
 
 /// A submit that shares nothing.
 #[inline(never)]
-fn submit(core: &mut Core, given: &GivenStep, told: &mut ToldReply) -> Outcome
-    ensures { StepTold (made_in OpNumber.Submit given.now) core.old core.new told.old told.new result }
+fn submit(groups: &mut Groups, given: &GivenStep, told: &mut ToldReply) -> Outcome
+    ensures { StepTold (made_in OpNumber.Submit given.now) groups.old groups.new told.old told.new result }
 {
     match text_in::<64>(&given.text, given.text_length) {
         Ok(arg) => {
@@ -129,7 +129,7 @@ fn submit(core: &mut Core, given: &GivenStep, told: &mut ToldReply) -> Outcome
                 cache: None,
                 arg,
             };
-            make(core, given, Op::Submit(request), told)
+            make(groups, given, Op::Submit(request), told)
         }
         Err(outcome) => outcome,
     }
@@ -137,8 +137,8 @@ fn submit(core: &mut Core, given: &GivenStep, told: &mut ToldReply) -> Outcome
 
 /// A submit that may share its answer.
 #[inline(never)]
-fn submit_shared(core: &mut Core, given: &GivenStep, told: &mut ToldReply) -> Outcome
-    ensures { StepTold (made_in OpNumber.SubmitShared given.now) core.old core.new told.old told.new result }
+fn submit_shared(groups: &mut Groups, given: &GivenStep, told: &mut ToldReply) -> Outcome
+    ensures { StepTold (made_in OpNumber.SubmitShared given.now) groups.old groups.new told.old told.new result }
 {
     let key = match text_in::<32>(&given.key, given.key_length) {
         Ok(key) => key,
@@ -151,7 +151,7 @@ fn submit_shared(core: &mut Core, given: &GivenStep, told: &mut ToldReply) -> Ou
                 cache: Some((given.context, key)),
                 arg,
             };
-            make(core, given, Op::Submit(request), told)
+            make(groups, given, Op::Submit(request), told)
         }
         Err(outcome) => outcome,
     }
@@ -159,23 +159,23 @@ fn submit_shared(core: &mut Core, given: &GivenStep, told: &mut ToldReply) -> Ou
 
 /// The end of a run with a body.
 #[inline(never)]
-fn finish(core: &mut Core, given: &GivenStep, told: &mut ToldReply) -> Outcome
-    ensures { StepTold (made_in OpNumber.Finish given.now) core.old core.new told.old told.new result }
+fn finish(groups: &mut Groups, given: &GivenStep, told: &mut ToldReply) -> Outcome
+    ensures { StepTold (made_in OpNumber.Finish given.now) groups.old groups.new told.old told.new result }
 {
     let serial = given.ticket;
     match text_in::<256>(&given.text, given.text_length) {
-        Ok(body) => make(core, given, Op::Finish { serial, body }, told),
+        Ok(body) => make(groups, given, Op::Finish { serial, body }, told),
         Err(outcome) => outcome,
     }
 }
 
 /// The end of a fallback with a body.
 #[inline(never)]
-fn fallback_value(core: &mut Core, given: &GivenStep, told: &mut ToldReply) -> Outcome
-    ensures { StepTold (made_in OpNumber.FallbackValue given.now) core.old core.new told.old told.new result }
+fn fallback_value(groups: &mut Groups, given: &GivenStep, told: &mut ToldReply) -> Outcome
+    ensures { StepTold (made_in OpNumber.FallbackValue given.now) groups.old groups.new told.old told.new result }
 {
     match text_in::<256>(&given.text, given.text_length) {
-        Ok(body) => end_fallback(core, given, FallbackEnd::Success(body), told),
+        Ok(body) => end_fallback(groups, given, FallbackEnd::Success(body), told),
         Err(outcome) => outcome,
     }
 }
@@ -183,23 +183,23 @@ fn fallback_value(core: &mut Core, given: &GivenStep, told: &mut ToldReply) -> O
 /// The end of a fallback.
 #[inline(never)]
 fn end_fallback(
-    core: &mut Core,
+    groups: &mut Groups,
     given: &GivenStep,
     end: FallbackEnd,
     told: &mut ToldReply,
 ) -> Outcome
-    ensures { StepTold (Ok (step_of given.now (Op.FallbackDone given.now.ticket end))) core.old core.new told.old told.new result }
+    ensures { StepTold (Ok (step_of given.now (Op.FallbackDone given.now.ticket end))) groups.old groups.new told.old told.new result }
 {
     let serial = given.ticket;
-    make(core, given, Op::FallbackDone { serial, end }, told)
+    make(groups, given, Op::FallbackDone { serial, end }, told)
 }
 
 /// Makes a step, and tells its reply.
 #[inline(never)]
-fn make(core: &mut Core, given: &GivenStep, op: Op, told: &mut ToldReply) -> Outcome
-    ensures { StepTold (Ok (step_of given.now op)) core.old core.new told.old told.new result }
+fn make(groups: &mut Groups, given: &GivenStep, op: Op, told: &mut ToldReply) -> Outcome
+    ensures { StepTold (Ok (step_of given.now op)) groups.old groups.new told.old told.new result }
 {
-    let reply = core.apply(Step {
+    let reply = groups.apply(Step {
         group: GroupId(given.group),
         now: given.moment,
         op,

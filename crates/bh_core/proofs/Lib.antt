@@ -14,6 +14,9 @@ pub mod Refused
 pub mod OneStep
 pub mod AllGroups
 pub mod Registered
+pub mod Retired
+pub mod Lives
+pub mod Acting
 pub mod Whole
 pub mod TwoWorlds
 pub mod Looks

@@ -127,3 +127,11 @@ any_filtered p (t ∷ ts) = at (p t) (any_filtered p ts)
 -- tickets time out where one is due at the step's moment
 pub expire_seen : (v : View) (now : ℕ) → is_worn v.present ≡ false → list_any (is_due (begun now v.present)) v.present.tickets ≡ expires_some (view_reply v op.Expire now)
 expire_seen v now fresh = any_filtered (is_due (begun now v.present)) v.present.tickets ∙ sym (reply_fresh expires_some v op.Expire now refl fresh)
+
+-- in a group without tickets none times out
+pub empty_not_due : (v : View) (now : ℕ) → v.present.tickets ≡ [] → expires_some (view_reply v op.Expire now) ≡ false
+empty_not_due v now none = at (is_worn v.present)
+  where
+    at : (worn : Bool) → expires_some (if worn then reply.Worn else reply.Expired (length (filter (is_due (begun now v.present)) v.present.tickets))) ≡ false
+    at true = refl
+    at false = ap (λ ts. expires_some (reply.Expired (length (filter (is_due (begun now v.present)) ts)))) none

@@ -1,7 +1,8 @@
 -- A group together with its tickets.
-use Rattle.std.proofs.Common.{◌≡◌, ℕ, ◌+◌, ◌<◌, ◌≤◌, Bool, true, false, cond, List, [], ◌∷◌, filter, length, Option, Some, None, zero, suc, refl, ◌∙◌, sym, ap, subst, arith}
+use Rattle.std.proofs.Common.{◌≡◌, ℕ, ◌+◌, ◌<◌, ◌≤◌, Bool, true, false, cond, List, [], ◌∷◌, filter, length, Option, Some, None, zero, suc, inl, inr, refl, ◌∙◌, sym, ap, subst, arith}
 use Rattle.std.specs.Prelude.{◌&&◌, ◌==◌, nat_lt, slice_get, find}
 use Rattle.std.proofs.lemmas.Bool.Decides.{nat_tests}
+use Rattle.std.proofs.lemmas.Option.{slice_get_cases}
 use Rattle.bh_base.specs.declared.ticket.Ticket.{Ticket}
 use Rattle.std.specs.List.{AllByRecursion}
 use Rattle.bh_base.specs.Props.{GroupProps}
@@ -88,6 +89,23 @@ tickets_same ts us g count e has =
     let same = group_alike ts us g.number e in
     record {
       there = omega (arith, count, has.there);
+      room = ap (λ (x : GroupTickets). x.room) same ∙ has.room;
+      few = subst (λ (x : GroupTickets). length x.items ≤ g.props.slots) (sym same) has.few;
+      serial = subst (λ (x : GroupTickets). x.next ≤ g.steps + 1) (sym same) has.serial;
+    }
+
+-- a group whose tickets are as they were has them still, however many groups there are
+pub tickets_there : (ts us : TicketsView) (g : GroupView) → slice_get us.groups g.number ≡ slice_get ts.groups g.number → HasTickets ts g → HasTickets us g
+tickets_there ts us g e has =
+    let same = group_alike ts us g.number e in
+    record {
+      there = elim ((slice_get_cases ts.groups g.number).1) [
+        | inl w ↦ (let at : slice_get us.groups g.number ≡ Some w.0 = e ∙ w.2 in elim ((slice_get_cases us.groups g.number).1) [
+          | inl k ↦ k.1
+          | inr k ↦ absurd (let both : Some w.0 ≡ None = sym at ∙ k.1 in cc)
+        ])
+        | inr w ↦ absurd (let past = w.0 in let there = has.there in omega arith)
+      ];
       room = ap (λ (x : GroupTickets). x.room) same ∙ has.room;
       few = subst (λ (x : GroupTickets). length x.items ≤ g.props.slots) (sym same) has.few;
       serial = subst (λ (x : GroupTickets). x.next ≤ g.steps + 1) (sym same) has.serial;

@@ -1,13 +1,13 @@
 -- A run goes on by one step.
 use Rattle.std.proofs.Common.{◌≡◌, ◌≢◌, ℕ, ◌+◌, Bool, true, false, List, [], ◌∷◌, ◌++◌, length, map, take, None, refl, ◌∙◌, sym, ap, subst, arith, append-nil}
-use Rattle.std.specs.Prelude.{◌==◌, slice_get, if◌then◌else◌}
+use Rattle.std.specs.Prelude.{◌==◌, if◌then◌else◌}
 use Rattle.std.proofs.lemmas.Bool.Decides.{nat_tests}
 use Rattle.bh_base.specs.declared.step.Step.{Step}
 use Rattle.bh_base.specs.declared.reply.Reply.{Reply}
 use Rattle.bh_base.specs.declared.reply.Reply.TheVariants.{NoGroup}
 use Rattle.bh_base.specs.Runs.{State, step, replies, state_after, own}
 use Rattle.bh_base.proofs.OneMore.{replies-push, state_after-push, own-push_same, own-push_other}
-use Rattle.bh_core.specs.CoreView.{CoreView, Shows, own_replies}
+use Rattle.bh_core.specs.CoreView.{CoreView, Shows, own_replies, shown_by, view_at}
 use Rattle.bh_core.specs.Step.{IsStep}
 
 -- what a step adds to the own replies of a group
@@ -60,7 +60,7 @@ not_its_own group s xs x rs r old new same differ test so applied =
           ∙ ap (replies s) (sym mine);
       shown = subst (λ ys. Shows new group (state_after s ys)) (sym mine) (record {
         sound = so.shown.sound;
-        view_is = applied.others group differ ∙ so.shown.view_is;
+        view_is = ap shown_by (applied.others group differ) ∙ so.shown.view_is;
       });
     }
 
@@ -82,7 +82,7 @@ no_groups-push (y ∷ ys) x = ap (λ rs. NoGroup ∷ rs) (no_groups-push ys x)
 -- so far a group that is not registered was told so, and is not registered still
 pub record IsUnknown (group : ℕ) (xs : List Step) (rs : List Reply) (now : CoreView) : Type 0 where
   pub told : own_replies group xs rs ≡ no_groups (own group xs)
-  pub none : slice_get now.views group ≡ None
+  pub none : view_at now group ≡ None
 
 -- with one more step, a group that is not registered was still told so, and is not registered
 pub stays_unknown : (group : ℕ) (xs : List Step) (x : Step) (rs : List Reply) (r : Reply) (old new : CoreView) → length xs ≡ length rs → IsUnknown group xs rs old → IsStep old x r new → IsUnknown group (xs ++ x ∷ []) (rs ++ r ∷ []) new
@@ -90,7 +90,7 @@ stays_unknown group xs x rs r old new same so applied = at (x.group.0 == group) 
   where
     mine : x.group.0 ≡ group → (x.group.0 == group) ≡ true → IsUnknown group (xs ++ x ∷ []) (rs ++ r ∷ []) new
     mine is test =
-        let none : slice_get old.views x.group.0 ≡ None = ap (slice_get old.views) is ∙ so.none in
+        let none : view_at old x.group.0 ≡ None = ap (view_at old) is ∙ so.none in
         record {
           told = own_replies-push group xs x rs r same
               ∙ ap (λ b. own_replies group xs rs ++ added b r) test
@@ -98,7 +98,7 @@ stays_unknown group xs x rs r old new same so applied = at (x.group.0 == group) 
               ∙ ap (λ q. no_groups (own group xs) ++ q ∷ []) (applied.unknown none)
               ∙ sym (no_groups-push (own group xs) x)
               ∙ ap no_groups (sym (own-push_same group xs x test));
-          none = ap (λ (gs : CoreView). slice_get gs.views group) (applied.unknown_same none) ∙ so.none;
+          none = ap (λ (gs : CoreView). view_at gs group) (applied.unknown_same none) ∙ so.none;
         }
 
     other : group ≢ x.group.0 → (x.group.0 == group) ≡ false → IsUnknown group (xs ++ x ∷ []) (rs ++ r ∷ []) new
@@ -108,7 +108,7 @@ stays_unknown group xs x rs r old new same so applied = at (x.group.0 == group) 
           ∙ append-nil (own_replies group xs rs)
           ∙ so.told
           ∙ ap no_groups (sym (own-push_other group xs x test));
-      none = applied.others group differ ∙ so.none;
+      none = ap shown_by (applied.others group differ) ∙ so.none;
     }
 
     at : (b : Bool) → (x.group.0 == group) ≡ b → IsUnknown group (xs ++ x ∷ []) (rs ++ r ∷ []) new

@@ -8,3 +8,5 @@ pub mod Stepping
 pub mod GroupView
 pub mod Runs
 pub mod Whole
+pub mod Acts
+pub mod Lives

@@ -1,5 +1,8 @@
--- What a reply says that a look at a group asks for beforehand.
+-- What a reply says that a look at a group asks for beforehand, and whether a group is in use.
 use Rattle.std.specs.Prelude.{Bool, true, false, nat_lt}
+use Rattle.std.specs.List.{list_any}
+use Rattle.bh_base.specs.Runs.{View}
+use Rattle.bh_tickets.specs.TicketsView.{is_used}
 use Rattle.bh_base.specs.declared.reply.Reply.{Reply}
 use Rattle.bh_base.specs.declared.reply.Reply.TheVariants as reply
 
@@ -22,3 +25,7 @@ is_pending _ = false
 abbrev pub expires_some : Reply → Bool
 expires_some (reply.Expired number) = nat_lt 0 number
 expires_some _ = false
+
+-- the group cannot be retired: a run has not ended, or someone has still to collect an answer
+abbrev pub is_in_use : View → Bool
+is_in_use v = list_any is_used v.present.tickets

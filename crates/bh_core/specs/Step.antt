@@ -8,7 +8,7 @@ use Rattle.bh_base.specs.Replies.{can_reply}
 use Rattle.bh_base.specs.Runs.{State, View, moved_on}
 use Rattle.bh_base.specs.Runs.{step as machine_step}
 use Rattle.bh_base.specs.Seen.{view_after, view_reply}
-use Rattle.bh_core.specs.CoreView.{CoreView, Shows}
+use Rattle.bh_core.specs.CoreView.{CoreView, Shows, view_at}
 
 -- the step took the groups from old to new, and was told the reply
 pub record IsStep (old : CoreView) (step : Step) (told : Reply) (new : CoreView) : Type 0 where
@@ -16,22 +16,22 @@ pub record IsStep (old : CoreView) (step : Step) (told : Reply) (new : CoreView)
   pub reply : (s : State) → Shows old step.group.0 s → told ≡ (machine_step s step.op step.now).reply
   pub own : (s : State) → Shows old step.group.0 s → Shows new step.group.0 (machine_step s step.op step.now).state
   -- every other group stays as it was
-  pub others : (group : ℕ) → group ≢ step.group.0 → slice_get new.views group ≡ slice_get old.views group
-  pub count : length new.views ≡ length old.views
+  pub others : (group : ℕ) → group ≢ step.group.0 → slice_get new.lives group ≡ slice_get old.lives group
+  pub count : length new.lives ≡ length old.lives
   pub limit : new.slot_limit ≡ old.slot_limit
-  -- a group that is not registered is told so, and nothing changes
-  pub unknown : slice_get old.views step.group.0 ≡ None → told ≡ NoGroup
-  pub unknown_same : slice_get old.views step.group.0 ≡ None → new ≡ old
+  -- of a group that is not registered, or is retired, that is told, and nothing changes
+  pub unknown : view_at old step.group.0 ≡ None → told ≡ NoGroup
+  pub unknown_same : view_at old step.group.0 ≡ None → new ≡ old
   -- so is a step of a registered group that lacks the command which the step names, whether the group is worn or not
-  pub missing : (v : View) → slice_get old.views step.group.0 ≡ Some v → is_known step.op v.present.props ≡ false → told ≡ NoCommand
-  pub has_command : (v : View) → slice_get old.views step.group.0 ≡ Some v → told ≡ NoCommand → is_known step.op v.present.props ≡ false
+  pub missing : (v : View) → view_at old step.group.0 ≡ Some v → is_known step.op v.present.props ≡ false → told ≡ NoCommand
+  pub has_command : (v : View) → view_at old step.group.0 ≡ Some v → told ≡ NoCommand → is_known step.op v.present.props ≡ false
   -- a registered group has its own command, so a step that names that one, or none, is never told so
-  pub own_command : (v : View) → slice_get old.views step.group.0 ≡ Some v → 0 < command_count v.present.props
+  pub own_command : (v : View) → view_at old step.group.0 ≡ Some v → 0 < command_count v.present.props
   -- what a refusal leaves: all as it was, or of a full group the step's number and moment alone
   pub worn : told ≡ Worn → new ≡ old
   pub no_group : told ≡ NoGroup → new ≡ old
   pub no_command : told ≡ NoCommand → new ≡ old
   pub full : told ≡ GroupFull → (s : State) → Shows old step.group.0 s → Shows new step.group.0 (moved_on s step.now)
   -- what can be said with no state at hand: the step by the view alone, and the kinds of replies
-  pub seen : (v : View) → slice_get old.views step.group.0 ≡ Some v → (told ≡ view_reply v step.op step.now) × (slice_get new.views step.group.0 ≡ Some (view_after v step.op step.now))
+  pub seen : (v : View) → view_at old step.group.0 ≡ Some v → (told ≡ view_reply v step.op step.now) × (view_at new step.group.0 ≡ Some (view_after v step.op step.now))
   pub kinds : can_reply step.op told ≡ true

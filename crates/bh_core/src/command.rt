@@ -1,10 +1,11 @@
 //! What a group keeps of each of its commands.
 
-ghost use Rattle.std.specs.Prelude.{◌≡◌, ◌/◌, ◌<◌, IfOk};
+ghost use Rattle.std.specs.Prelude.{◌≡◌, ◌/◌, ◌<◌, IfOk, map};
 ghost use Rattle.bh_core.specs.Command.{new_command};
+ghost use Rattle.bh_core.specs.Stepping.{IsServed};
 
 use crate::history::History;
-use bh_base::CommandProps;
+use bh_base::{CommandProps, GroupProps};
 use bh_circuit::Circuit;
 use std::alloc::{AllocError, Global};
 
@@ -28,4 +29,16 @@ impl Command {
             history,
         })
     }
+}
+
+/// The commands of a new group, by their numbers.
+pub fn new_commands(alloc: Global, props: &GroupProps) -> Result<Vec<Command>, AllocError>
+    requires { IsServed props.now }
+    ensures { IfOk result (λ commands. commands.items ≡ map new_command props.now.commands) }
+{
+    let mut commands = Vec::with_capacity(alloc, props.commands.len())?;
+    for own in &props.commands {
+        commands.push_reserved(Command::new(alloc, own)?);
+    }
+    Ok(commands)
 }

@@ -1,9 +1,10 @@
 //! One group: its operations change it together with its tickets.
 
-ghost use Rattle.std.specs.Prelude.{◌≡◌, ◌+◌, ◌<◌, ◌≤◌, ◌^◌, IfOk, length, true};
+ghost use Rattle.std.specs.Prelude.{◌≡◌, ◌+◌, ◌<◌, ◌≤◌, ◌^◌, length, map, true};
 ghost use Rattle.bh_base.specs.declared.step.Op.TheVariants as op;
 ghost use Rattle.bh_base.specs.Commands.{command_count, is_known};
 ghost use Rattle.bh_base.specs.Seen.{view_after, view_reply};
+ghost use Rattle.bh_core.specs.Command.{new_command};
 ghost use Rattle.bh_core.specs.GroupView.{HasTickets, Leaves, counted_of, new_group, view_in};
 ghost use Rattle.bh_core.specs.Stepping.{Begins, IsBounded, IsDone, IsServed, IsSteady, view_ended, with_event, released_view};
 ghost use Rattle.bh_tickets.specs.TicketsView.{TicketsView, group_at};
@@ -15,10 +16,10 @@ mod runs;
 mod submit;
 
 use crate::command::Command;
+use crate::service::entry::Registration;
 use bh_base::{End, EventKind, GroupProps, Metrics, Moment, Op, Reply, Serial};
 use bh_circuit::percent;
 use bh_tickets::Tickets;
-use std::alloc::{AllocError, Global};
 use std::marker::Model;
 
 /// A group beside its tickets, with storage for all that its steps can bring.
@@ -45,29 +46,36 @@ impl Model for Group {
 }
 
 impl Group {
-    /// A new group of the number, that may do so many steps.
-    pub fn new(
-        alloc: Global,
-        number: usize,
-        props: &GroupProps,
-        limit: u64,
-    ) -> Result<Self, AllocError>
-        requires props { IsServed props.now }
+    /// A new group with these commands, which have no past, that may do so many steps.
+    pub fn new(number: usize, props: GroupProps, limit: u64, commands: Vec<Command>) -> Self
+        requires props { IsServed props }
         requires limit { limit ≤ 2 ^ 40 }
-        ensures { IfOk result (λ group. group ≡ new_group number props.now limit) }
+        requires commands { commands.items ≡ map new_command props.commands }
+        ensures { result ≡ new_group number props limit }
     {
-        let mut commands = Vec::with_capacity(alloc, props.commands.len())?;
-        for own in &props.commands {
-            commands.push_reserved(Command::new(alloc, own)?);
-        }
-        Ok(Group {
+        Group {
             number,
-            props: props.copied()?,
+            props,
             limit,
             steps: 0,
             latest: 0,
             commands,
-        })
+        }
+    }
+
+    /// With what the group was registered. All else of it is given up.
+    pub fn into_registration(self) -> Registration
+        ensures { result ≡ record { props = self.props; limit = self.limit } }
+    {
+        let Group { props, limit, .. } = self;
+        Registration { props, limit }
+    }
+
+    /// The number by which its tickets are known.
+    pub fn number(&self) -> usize
+        ensures { result ≡ self.now.number }
+    {
+        self.number
     }
 
     /// One step at the moment, in place.

@@ -7,4 +7,5 @@ mod history;
 pub mod laws;
 pub mod service;
 
-pub use service::{Core, RegisterError};
+pub use service::acts::{Act, Outcome};
+pub use service::{Core, MOST_GROUPS, RegisterError, RetireError};

@@ -1,5 +1,5 @@
 -- When passes agree with the report of a service, and what is the first place at which they do not.
-use Rattle.std.specs.Prelude.{◌≡◌, ℕ, ◌+◌, ◌<◌, ◌≤◌, ◌==◌, ◌⊎◌, zero, suc, true, List, [], ◌∷◌, length, map, Option, Some, None, sum_by, count_by, slice_get, slice_index_or, vec_items, if◌then◌else◌}
+use Rattle.std.specs.Prelude.{◌≡◌, ℕ, ◌+◌, ◌<◌, ◌≤◌, ◌==◌, ◌⊎◌, zero, suc, Bool, false, true, List, [], ◌∷◌, length, map, Option, Some, None, sum_by, count_by, slice_get, slice_index_or, vec_items, if◌then◌else◌}
 use Rattle.std.specs.List.{AllByRecursion}
 use Rattle.std.specs.Option.{option_map}
 use Rattle.bh_base.specs.Props.{GroupProps}
@@ -28,6 +28,14 @@ entry_at journal (suc k) = slice_get journal k
 abbrev pub limit_of : AuditReport → ℕ → Option ℕ
 limit_of report group = option_map (λ (x : GroupProps × ℕ). x.1) (slice_get report.groups.items group)
 
+-- whether the group was retired; false where the report has nothing of it
+abbrev pub is_retired : AuditReport → ℕ → Bool
+is_retired report group = slice_index_or report.retired.items group false
+
+-- the service lacks the group: it was never registered, or is retired
+abbrev pub IsLacking : AuditReport → ℕ → Type 0
+IsLacking report group = (length report.journals.items ≤ group) ⊎ (is_retired report group ≡ true)
+
 -- the group has a journal, and it has as many entries as the group may do steps
 abbrev pub IsWornOut : AuditReport → ℕ → Type 0
 IsWornOut report group =
@@ -36,7 +44,7 @@ IsWornOut report group =
 -- each mark of a pass of the group is set only where it is so
 pub record AreTrue (report : AuditReport) (group : ℕ) (marks : Marks) : Type 0 where
   pub worn : marks.worn ≡ true → IsWornOut report group
-  pub no_group : marks.no_group ≡ true → length report.journals.items ≤ group
+  pub no_group : marks.no_group ≡ true → IsLacking report group
   pub stopped : marks.stopped ≡ true → report.stopped ≡ true
 
 -- receipts

@@ -19,8 +19,11 @@ use Rattle.bh_base.specs.declared.reply.Answer.TheVariants as answer
 use Rattle.bh_base.specs.declared.reply.Metrics.{Metrics}
 use Rattle.bh_base.specs.declared.reply.Reply.{Reply}
 use Rattle.bh_base.specs.declared.reply.Reply.TheVariants as reply
+use Rattle.bh_lines.specs.declared.told.Told.{Told}
+use Rattle.bh_lines.specs.declared.told.Told.TheVariants as told
+use Rattle.bh_lines.specs.ToldLine.{told_data}
 use Rattle.bh_lines.specs.ReplyLine.{cause_word, fallback_word, circuit_word, kind_names, counts_listed, assigned_data, answer_data, metrics_data, reply_data, json_line}
-use Rattle.bh_lines.specs.Bounded.{IsShortAnswer, IsShortName, IsShortReply}
+use Rattle.bh_lines.specs.Bounded.{IsShortAnswer, IsShortName, IsShortReply, IsShortTold}
 use Rattle.bh_lines.specs.Sent.{Sends, data_tokens, counts_tokens, most_room}
 use Rattle.bh_lines.proofs.Sending.{most_room-append, events-sent}
 
@@ -93,7 +96,7 @@ assigned-room ticket None arg short named = omega (arith, length-quoted arg, sho
 assigned-room ticket (Some name) arg short named = omega (arith, length-quoted arg, short, length-quoted name, named)
 
 -- the object of a reply whose texts are short
-pub reply-room : (command : Option (List ℕ)) (r : Reply) → IsShortReply command r → most_room (data_tokens (reply_data command r)) ≤ 2047
+reply-room : (command : Option (List ℕ)) (r : Reply) → IsShortReply command r → most_room (data_tokens (reply_data command r)) ≤ 2047
 unfolding escape_byte
 reply-room command (reply.Queued serial) short = omega arith
 reply-room command (reply.Inline serial) short = omega arith
@@ -116,6 +119,14 @@ reply-room command (reply.Metrics m) short = metrics-room m
 reply-room command reply.Worn short = omega arith
 reply-room command reply.NoCommand short = omega arith
 reply-room command reply.NoGroup short = omega arith
+
+-- the object of what is told, where its texts are short
+pub told-room : (t : Told) → IsShortTold t → most_room (data_tokens (told_data t)) ≤ 2047
+unfolding escape_byte
+told-room (told.Reply reply command) short = reply-room command reply short
+told-room (told.Registered name) short = omega (arith, length-quoted name, short)
+told-room told.Held short = omega arith
+told-room told.Retired short = omega arith
 
 length-comma : (b : Bool) → length {A = ℕ} (cond b (44 ∷ []) []) ≤ 1
 length-comma true = omega arith

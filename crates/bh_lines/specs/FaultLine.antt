@@ -13,6 +13,9 @@ fault_word faults.Op = codes "op"
 fault_word faults.Group = codes "group"
 fault_word faults.Command = codes "command"
 fault_word faults.Long = codes "long"
+fault_word faults.Name = codes "name"
+fault_word faults.Like = codes "like"
+fault_word faults.Groups = codes "groups"
 
 -- the object of a line that says why nothing was done
 abbrev pub error_data : List ℕ → Data

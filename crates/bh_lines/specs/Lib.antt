@@ -3,8 +3,10 @@ pub mod Lines
 pub mod Taken
 pub mod Names
 pub mod StepLine
+pub mod ScriptLine
 pub mod ReplyLine
 pub mod Sent
 pub mod FaultLine
+pub mod ToldLine
 pub mod Flat
 pub mod Front

@@ -1,16 +1,14 @@
--- The step that a line says, or its fault.
+-- The step that an object says, or the fault.
 use Rattle.std.specs.Prelude.{ℕ, List, length, codes, Option, Some, None, option_and_then, option_map, option_copied, Result, Ok, Err, Bool, true, ◌&&◌, nat_le, if◌then◌else◌}
 use Rattle.std.specs.List.{position_from}
 use Rattle.std.specs.Str.{bytes_eq}
 use Rattle.std.specs.Borrow.{Bor}
 use Rattle.serde_json.specs.Data.{Data}
 use Rattle.serde_json.specs.Find.{get, as_str, as_bool, as_number, as_u64}
-use Rattle.serde_json.specs.Read.{read}
 use Rattle.bh_base.specs.declared.step.FallbackEnd.{FallbackEnd}
 use Rattle.bh_base.specs.declared.step.FallbackEnd.TheVariants as ends
 use Rattle.bh_base.specs.declared.step.Op.{Op}
 use Rattle.bh_base.specs.declared.step.Op.TheVariants as op
-use Rattle.bh_base.specs.declared.step.Step.{Step}
 use Rattle.bh_lines.specs.declared.fault.Fault.{Fault}
 use Rattle.bh_lines.specs.declared.fault.Fault.TheVariants as faults
 use Rattle.bh_lines.specs.declared.step_line.OpWord.{OpWord}
@@ -168,33 +166,13 @@ pub record Said : Type 0 where
   pub command : Option (List ℕ)
   pub op : Op
 
--- what an object says, whatever groups there are
-abbrev pub said_at : Data → Result Said Fault
-said_at d = do
-  word ← or_fault faults.Field (text_at (codes "op") d)
-  kind ← or_fault faults.Op (op_word word)
+-- the step of the operation that an object says, whatever groups there are
+abbrev pub step_said : OpWord → Data → Result Said Fault
+step_said word d = do
   group ← or_fault faults.Field (text_at (codes "group") d)
   now ← or_fault faults.Field (number_at (codes "now") d)
-  said ← op_said kind d
+  said ← op_said word d
   Ok (record { group = group; now = now; command = said.0; op = said.1 })
-
--- the step that an object says: its group is looked up before its command, and both before its texts are measured
-abbrev pub step_at : Names → Data → Result Step Fault
-step_at names d = do
-  said ← said_at d
-  group ← or_fault faults.Group (group_number names.groups said.group)
-  command ← command_in names group said.command
-  o ← if_short command said.op
-  Ok (record { group = record { 0 = group }; now = said.now; op = o })
-
--- the step that a line says, if it is JSON at all
-abbrev pub step_in : Names → Option Data → Result Step Fault
-step_in names None = Err faults.Syntax
-step_in names (Some d) = step_at names d
-
--- the step that a line says to a service of groups and commands with these names
-unfoldable pub line_step : Names → List ℕ → Result Step Fault
-line_step names bytes = step_in names (read bytes)
 
 -- the context and the key that the code found
 abbrev pub cache_view : Option (ℕ × Bor (List ℕ)) → Option (ℕ × List ℕ)
@@ -245,7 +223,11 @@ abbrev pub found_end : Result EndLine Fault → Result FallbackEnd Fault
 found_end (Ok end) = Ok (end_view end)
 found_end (Err fault) = Err fault
 
--- what the code found that an object says, or the fault
+-- the step that the code found
+abbrev pub step_view : StepLine → Said
+step_view said = record { group = said.group.now; now = said.now; command = command_view said.op; op = op_view said.op }
+
+-- the step that the code found that an object says, or the fault
 abbrev pub found_said : Result StepLine Fault → Result Said Fault
-found_said (Ok said) = Ok (record { group = said.group.now; now = said.now; command = command_view said.op; op = op_view said.op })
+found_said (Ok said) = Ok (step_view said)
 found_said (Err fault) = Err fault

@@ -6,7 +6,7 @@ ghost use Rattle.bh_lines.specs.FaultLine.{fault_word, fault_line};
 use crate::replies::put_error;
 use std::alloc::{AllocError, Global};
 
-/// Why a line says no step: the first that holds.
+/// Why nothing is done for a line: the first that holds.
 #[derive(Clone, Copy, Debug, PartialEq, Eq)]
 pub enum Fault {
     /// The line is no JSON.
@@ -22,6 +22,13 @@ pub enum Fault {
     Command,
     /// An argument of over 64 bytes, a key of over 32 or a body of over 256.
     Long,
+    /// A group cannot be registered under this name: it breaks the rule for names, or is that of a group which is there
+    /// or of a further command of the settings.
+    Name,
+    /// The settings list no group of the name that a new group is to be like.
+    Like,
+    /// As many groups were registered as may be.
+    Groups,
 }
 
 /// Puts the line that answers a faulty line, with its line feed, behind the bytes: an object whose one member `error` has
@@ -45,5 +52,8 @@ fn fault_word(fault: Fault) -> &'static str
         Fault::Group => "group",
         Fault::Command => "command",
         Fault::Long => "long",
+        Fault::Name => "name",
+        Fault::Like => "like",
+        Fault::Groups => "groups",
     }
 }

@@ -1,4 +1,4 @@
-//! Lines: bytes cut into lines, the step that a line of JSON says or its fault, and the lines of replies and faults.
+//! Lines: bytes cut into lines, what a line of JSON asks for or its fault, and the lines of replies and faults.
 #![tactic(auto)]
 
 pub mod fault;
@@ -8,11 +8,14 @@ pub mod lines;
 pub mod members;
 pub mod port_error;
 pub mod replies;
+pub mod script_line;
 pub mod step_line;
+pub mod told;
 mod writing;
 
 pub use fault::{Fault, put_fault};
 pub use front::{FrontLine, end_line, front_line};
 pub use lines::{last_line, next_line};
 pub use port_error::PortError;
-pub use replies::{json_line, put_error, put_reply, put_reply_within};
+pub use replies::{json_line, put_error};
+pub use told::{Told, put_reply, put_told, put_told_within};

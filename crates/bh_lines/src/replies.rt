@@ -1,10 +1,10 @@
 //! Replies, each printed as a line of compact JSON with its members in the order of their names.
 
-ghost use Rattle.std.specs.Prelude.{◌≡◌, ◌+◌, ◌≤◌, ◌++◌, ◌∷◌, [], false, map, length, take, option_copied, IfOk, IsOk, OnErr, OnOk, string_bytes, vec_capacity, vec_len};
+ghost use Rattle.std.specs.Prelude.{◌≡◌, ◌≤◌, ◌++◌, ◌∷◌, [], false, map, length, take, option_copied, IfOk, IsOk, OnErr, OnOk, string_bytes};
 ghost use Rattle.json.specs.Print.{print};
 ghost use Rattle.serde_json.specs.View.{view};
 ghost use Rattle.serde_json.specs.Written.{has_float};
-ghost use Rattle.bh_lines.specs.ReplyLine.{cause_word, fallback_word, circuit_word, named, numbered, fallback_due_data, assigned_data, expired_data, run_fallback_data, closed_data, value_data, fallback_value_data, error_answer_data, events_data, metrics_data, answer_data, reply_data, json_line, reply_line};
+ghost use Rattle.bh_lines.specs.ReplyLine.{cause_word, fallback_word, circuit_word, named, numbered, fallback_due_data, assigned_data, expired_data, run_fallback_data, closed_data, value_data, fallback_value_data, error_answer_data, events_data, metrics_data, answer_data, reply_data, json_line};
 ghost use Rattle.bh_lines.specs.FaultLine.{error_data};
 ghost use Rattle.bh_lines.specs.Bounded.{IsShortAnswer, IsShortName, IsShortReply};
 ghost use Rattle.bh_lines.specs.Sent.{Sends, data_tokens, counts_tokens};
@@ -17,59 +17,6 @@ use json::Writer;
 use serde_json::Value;
 use std::alloc::{AllocError, Global};
 use std::mem;
-
-/// Puts the line of a reply, with its line feed, behind the bytes. It fails only for want of memory, and leaves the bytes
-/// as they were then.
-///
-/// `command` is the name of the further command whose run is assigned: it stands in the line of `Assigned`, and in no
-/// other. `None` is the group's own command, whose name does not stand there.
-pub fn put_reply(
-    alloc: Global,
-    bytes: &mut Vec<u8>,
-    reply: &Reply,
-    command: Option<&Text<32>>,
-) -> Result<(), AllocError>
-    ensures ok { OnOk result (bytes.new.items ≡ bytes.old.items ++ reply_line (option_copied command.entry) reply.now) }
-    ensures err { OnErr result (bytes.new.items ≡ bytes.old.items) }
-{
-    let start = bytes.len();
-    let written = put_object(alloc, bytes, reply, command);
-    end_line(bytes, start, written)
-}
-
-/// Puts the line of a reply, without its line feed, behind the bytes, within the room that is there: this takes no memory
-/// and cannot fail. `command` is as in `put_reply`.
-pub fn put_reply_within(
-    alloc: Global,
-    bytes: &mut Vec<u8>,
-    reply: &Reply,
-    command: Option<&Text<32>>,
-)
-    requires { vec_len bytes.old + 2047 ≤ vec_capacity bytes.old }
-    ensures line { bytes.new.items ++ 10 ∷ [] ≡ bytes.old.items ++ reply_line (option_copied command.entry) reply.now }
-    ensures length { length (reply_line (option_copied command.entry) reply.now) ≤ 2048 }
-{
-    put_object(alloc, bytes, reply, command).unwrap();
-}
-
-/// Puts the line of a reply, without its line feed, behind the bytes. It fails only for want of memory, and not where there
-/// is room for 2,047 bytes more; some of the line may be there then.
-fn put_object(
-    alloc: Global,
-    bytes: &mut Vec<u8>,
-    reply: &Reply,
-    command: Option<&Text<32>>,
-) -> Result<(), AllocError>
-    ensures line { OnOk result (bytes.new.items ++ 10 ∷ [] ≡ bytes.old.items ++ reply_line (option_copied command.entry) reply.now) }
-    ensures length { OnOk result (length (reply_line (option_copied command.entry) reply.now) ≤ 2048) }
-    ensures front { take (length bytes.old.items) bytes.new.items ≡ bytes.old.items }
-    ensures room { vec_len bytes.old + 2047 ≤ vec_capacity bytes.old → IsOk result }
-{
-    let mut writer = Writer::new(mem::replace(bytes, Vec::new(alloc)));
-    let written = write_reply(&mut writer, reply, command);
-    *bytes = writer.into_inner();
-    written
-}
 
 /// Puts the line that says why nothing was done, with its line feed, behind the bytes: an object whose one member `error`
 /// is the text. It fails only for want of memory, and leaves the bytes as they were then.
@@ -86,7 +33,7 @@ pub fn put_error(alloc: Global, bytes: &mut Vec<u8>, why: &str) -> Result<(), Al
 }
 
 /// Puts a line feed behind the bytes where the line was written, and takes what was written of it off them where not.
-fn end_line(
+pub(crate) fn end_line(
     bytes: &mut Vec<u8>,
     start: usize,
     written: Result<(), AllocError>,
@@ -117,7 +64,7 @@ pub fn json_line(alloc: Global, value: &Value) -> Result<String, AllocError>
 }
 
 /// The object of a reply, with the name of the further command that an `Assigned` is of.
-fn write_reply(
+pub(crate) fn write_reply(
     writer: &mut Writer,
     reply: &Reply,
     command: Option<&Text<32>>,
@@ -151,7 +98,7 @@ fn write_reply(
 }
 
 /// A reply that is its name alone.
-fn write_named(writer: &mut Writer, name: &str) -> Result<(), AllocError>
+pub(crate) fn write_named(writer: &mut Writer, name: &str) -> Result<(), AllocError>
     ensures { Sends result writer.old writer.new (data_tokens (named name.now)) }
 {
     let members = [Member::Text("reply", name)];

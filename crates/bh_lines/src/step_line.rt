@@ -1,9 +1,9 @@
-//! What the JSON of a line says.
+//! The step that the JSON of a line says.
 
 ghost use Rattle.std.specs.Prelude.{◌≡◌, Ok, if◌then◌else◌, Err, codes, option_copied};
 ghost use Rattle.serde_json.specs.Find.{get};
 ghost use Rattle.bh_lines.specs.Flat.{members_data};
-ghost use Rattle.bh_lines.specs.StepLine.{op_word, cache_of, command_of, op_said, if_short, said_at, op_view, cache_view, command_view, found_op, found_cache, found_command, found_said, is_short_name, fallback_end_of, end_view, found_end, is_short_end};
+ghost use Rattle.bh_lines.specs.StepLine.{op_word, cache_of, command_of, op_said, if_short, step_said, op_view, cache_view, command_view, found_op, found_cache, found_command, found_said, is_short_name, fallback_end_of, end_view, found_end, is_short_end};
 
 use crate::fault::Fault;
 use crate::members::Members;
@@ -84,21 +84,19 @@ pub struct StepLine<'a> {
     pub op: OpLine<'a>,
 }
 
-/// What the members say, whatever groups and commands there are, with its texts of any length. `Field` comes where there
-/// is no object or a member is missing or of another type, and `Op` where no operation has the name.
-pub fn said_at(members: Members<'_>) -> Result<StepLine<'_>, Fault>
-    ensures { found_said result ≡ said_at (members_data members.entry) }
+/// The step of the operation that the members say, whatever groups and commands there are, with its texts of any length.
+/// `Field` comes where a member is missing or of another type.
+pub(crate) fn step_said(word: OpWord, members: Members<'_>) -> Result<StepLine<'_>, Fault>
+    ensures { found_said result ≡ step_said word (members_data members.entry) }
 {
-    let word = members.text("op").ok_or(Fault::Field)?;
-    let kind = op_word(word).ok_or(Fault::Op)?;
     let group = members.text("group").ok_or(Fault::Field)?;
     let now = members.number("now").ok_or(Fault::Field)?;
-    let op = op_at(kind, members)?;
+    let op = op_at(word, members)?;
     Ok(StepLine { group, now, op })
 }
 
 /// The operation that a line names by this word.
-fn op_word(word: &str) -> Option<OpWord>
+pub(crate) fn op_word(word: &str) -> Option<OpWord>
     ensures { result ≡ op_word word.now }
 {
     match word {

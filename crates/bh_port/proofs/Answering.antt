@@ -3,16 +3,15 @@ use Rattle.std.proofs.Common.{◌≡◌, ℕ, min, List, [], take, ◌++◌, Opt
 use Rattle.std.proofs.KnownBytes.{Appends-trans, Appends-nil}
 use Rattle.std.specs.Io.KnownBytes.{Appends}
 use Rattle.std.specs.declared.alloc.Global.{Global}
-use Rattle.bh_base.specs.declared.step.Step.{Step}
-use Rattle.bh_core.specs.CoreView.{CoreView}
+use Rattle.bh_port.specs.GroupsView.{GroupsView}
 use Rattle.bh_lines.specs.declared.port_error.PortError.{PortError}
 use Rattle.bh_lines.specs.declared.port_error.PortError.TheVariants.{Read, Write, Line, Memory}
 use Rattle.bh_lines.specs.Lines.{Cut, line, ended, cut, stops}
-use Rattle.bh_lines.specs.StepLine.{line_step}
 use Rattle.bh_lines.specs.Taken.{TakesLine, IsLast, IsMemoryOrLine}
 use Rattle.bh_streams.specs.Watched.{WritesFront}
 use Rattle.bh_streams.proofs.Fronts.{front-of-more, whole-front, take-front}
-use Rattle.bh_port.specs.Text.{names_in, answer_to, steps_with, text}
+use Rattle.bh_port.specs.Course.{Course, line_act}
+use Rattle.bh_port.specs.Text.{answer_to, course_with, text}
 use Rattle.bh_port.specs.Script.{GroupsShow, AnswersLine, ScriptAnswered, ScriptOutcome}
 use Rattle.bh_port.proofs.TextLaws.{text-line, text-ended, text-stopped}
 use Rattle.bh_props.specs.SettingsView.{SettingsView}
@@ -21,8 +20,8 @@ kept-appends : (old new : List ℕ) → new ≡ old → Appends (Some old) (Some
 kept-appends old new kept = kept ∙ sym (append-nil old)
 
 -- nothing was answered yet
-pub answered-none : (a : Option (List ℕ)) (service : SettingsView) (before : List Step) (core : CoreView) (old : List ℕ) → GroupsShow service core before → ScriptAnswered a a service before core old old
-answered-none a service before core old agrees = record {
+pub answered-none : (a : Option (List ℕ)) (service : SettingsView) (before : Course) (groups : GroupsView) (old : List ℕ) → GroupsShow service groups before → ScriptAnswered a a service before groups old old
+answered-none a service before groups old agrees = record {
   out = [];
   later = before;
   agrees = agrees;
@@ -31,14 +30,14 @@ answered-none a service before core old agrees = record {
   stops_is = λ more. refl;
 }
 
-answered-one : (o m n : List ℕ) (service : SettingsView) (before : List Step) (was now : CoreView) (old mid new : List ℕ) (s : String Global)
+answered-one : (o m n : List ℕ) (service : SettingsView) (before : Course) (was now : GroupsView) (old mid new : List ℕ) (s : String Global)
     → (done : ScriptAnswered (Some o) (Some m) service before was old mid) → TakesLine mid (Ok (Some s)) new → AnswersLine service done.later (string_bytes s) now m n
     → ScriptAnswered (Some o) (Some n) service before now old new
 answered-one o m n service before was now old mid new s done taken answer =
-    let said = line_step (names_in service) (string_bytes s) in
+    let said = line_act service done.later.entries (string_bytes s) in
     let reply = answer_to service done.later said in record {
       out = done.out ++ reply;
-      later = steps_with done.later said;
+      later = course_with service done.later said;
       agrees = answer.agrees;
       wrote = Appends-trans (Some o) (Some m) (Some n) done.out reply done.wrote answer.wrote;
       text_is = λ more.
@@ -50,11 +49,11 @@ answered-one o m n service before was now old mid new s done taken answer =
     }
 
 -- what a line does, whatever came before
-abbrev pub DoesLine : SettingsView → CoreView → List ℕ → CoreView → List ℕ → List ℕ → Type 0
-DoesLine service was bytes now m n = (before : List Step) → GroupsShow service was before → AnswersLine service before bytes now m n
+abbrev pub DoesLine : SettingsView → GroupsView → List ℕ → GroupsView → List ℕ → List ℕ → Type 0
+DoesLine service was bytes now m n = (before : Course) → GroupsShow service was before → AnswersLine service before bytes now m n
 
 -- one line more was taken and answered
-pub answered-found : (o m n : List ℕ) (service : SettingsView) (before : List Step) (was now : CoreView) (old mid new bytes : List ℕ) (found : Option (String Global)) (s : String Global)
+pub answered-found : (o m n : List ℕ) (service : SettingsView) (before : Course) (was now : GroupsView) (old mid new bytes : List ℕ) (found : Option (String Global)) (s : String Global)
     → ScriptAnswered (Some o) (Some m) service before was old mid → found ≡ Some s → TakesLine mid (Ok found) new → bytes ≡ string_bytes s → DoesLine service was bytes now m n
     → ScriptAnswered (Some o) (Some n) service before now old new
 answered-found o m n service before was now old mid new bytes found s done is taken same does =
@@ -63,48 +62,48 @@ answered-found o m n service before was now old mid new bytes found s done is ta
     (subst (λ (ys : List ℕ). AnswersLine service done.later ys now m n) same (does done.later done.agrees))
 
 -- no line could be taken
-pub refused-next : (a b : Option (List ℕ)) (service : SettingsView) (before : List Step) (core : CoreView) (old mid new more : List ℕ) (e : PortError)
-    → ScriptAnswered a b service before core old mid → TakesLine mid (Err e) new → ScriptOutcome a b service before (cut (old ++ more)) (Err e)
-refused-next a b service before core old mid new more Line done taken =
+pub refused-next : (a b : Option (List ℕ)) (service : SettingsView) (before : Course) (groups : GroupsView) (old mid new more : List ℕ) (e : PortError)
+    → ScriptAnswered a b service before groups old mid → TakesLine mid (Err e) new → ScriptOutcome a b service before (cut (old ++ more)) (Err e)
+refused-next a b service before groups old mid new more Line done taken =
     let all : text service before (cut (old ++ more)) ≡ done.out =
     done.text_is more ∙ ap (λ k. done.out ++ text service done.later k) (taken more) ∙ ap (λ ys. done.out ++ ys) (text-stopped service done.later) ∙ append-nil done.out in
     (subst (λ (ys : List ℕ). Appends a b ys) (sym all) done.wrote, done.stops_is more ∙ ap stops (taken more))
-refused-next a b service before core old mid new more Memory done taken =
+refused-next a b service before groups old mid new more Memory done taken =
     subst (λ (ys : List ℕ). WritesFront a b ys) (sym (done.text_is more)) (whole-front a b done.out _ done.wrote)
-refused-next a b service before core old mid new more Read done taken = absurd taken
-refused-next a b service before core old mid new more Write done taken = absurd taken
+refused-next a b service before groups old mid new more Read done taken = absurd taken
+refused-next a b service before groups old mid new more Write done taken = absurd taken
 
 -- a line was taken, and there was no memory to answer it
-pub unanswered : (o m n : List ℕ) (service : SettingsView) (before : List Step) (core : CoreView) (old mid more : List ℕ)
-    → ScriptAnswered (Some o) (Some m) service before core old mid → n ≡ m → ScriptOutcome (Some o) (Some n) service before (cut (old ++ more)) (Err Memory)
-unanswered o m n service before core old mid more done kept =
+pub unanswered : (o m n : List ℕ) (service : SettingsView) (before : Course) (groups : GroupsView) (old mid more : List ℕ)
+    → ScriptAnswered (Some o) (Some m) service before groups old mid → n ≡ m → ScriptOutcome (Some o) (Some n) service before (cut (old ++ more)) (Err Memory)
+unanswered o m n service before groups old mid more done kept =
     let wrote : Appends (Some o) (Some n) done.out = subst (λ (ys : List ℕ). Appends (Some o) (Some ys) done.out) (sym kept) done.wrote in
     subst (λ (ys : List ℕ). WritesFront (Some o) (Some n) ys) (sym (done.text_is more)) (whole-front (Some o) (Some n) done.out _ wrote)
 
 -- the last line of an input
-pub last-found : (o n : List ℕ) (service : SettingsView) (before : List Step) (was now : CoreView) (rest bytes : List ℕ) (found : Option (String Global)) (s : String Global) (x : Unit {0})
+pub last-found : (o n : List ℕ) (service : SettingsView) (before : Course) (was now : GroupsView) (rest bytes : List ℕ) (found : Option (String Global)) (s : String Global) (x : Unit {0})
     → found ≡ Some s → IsLast rest (Ok found) → bytes ≡ string_bytes s → DoesLine service was bytes now o n → GroupsShow service was before
     → ScriptOutcome (Some o) (Some n) service before (cut rest) (Ok x)
 last-found o n service before was now rest bytes found s x is last same does agrees =
-    let said = line_step (names_in service) bytes in
+    let said = line_act service before.entries bytes in
     let is_line : cut rest ≡ line bytes ended = subst (λ (f : Option (String Global)). IsLast rest (Ok f)) is last ∙ ap (λ ys. line ys ended) (sym same) in
     let all : text service before (cut rest) ≡ answer_to service before said =
-    ap (text service before) is_line ∙ text-line service before bytes ended ∙ ap (λ ys. answer_to service before said ++ ys) (text-ended service (steps_with before said)) ∙ append-nil _ in
+    ap (text service before) is_line ∙ text-line service before bytes ended ∙ ap (λ ys. answer_to service before said ++ ys) (text-ended service (course_with service before said)) ∙ append-nil _ in
     (subst (λ (ys : List ℕ). Appends (Some o) (Some n) ys) (sym all) (does before agrees).wrote, ap stops is_line)
 
 -- there was no memory to answer the last line
-pub last-unanswered : (o n : List ℕ) (service : SettingsView) (before : List Step) (c : Cut) → n ≡ o → ScriptOutcome (Some o) (Some n) service before c (Err Memory)
+pub last-unanswered : (o n : List ℕ) (service : SettingsView) (before : Course) (c : Cut) → n ≡ o → ScriptOutcome (Some o) (Some n) service before c (Err Memory)
 last-unanswered o n service before c kept = (0, kept-appends o n kept)
 
 -- there is no last line
-pub last-none : (o : List ℕ) (service : SettingsView) (before : List Step) (rest : List ℕ) (found : Option (String Global)) (x : Unit {0})
+pub last-none : (o : List ℕ) (service : SettingsView) (before : Course) (rest : List ℕ) (found : Option (String Global)) (x : Unit {0})
     → found ≡ None → IsLast rest (Ok found) → ScriptOutcome (Some o) (Some o) service before (cut rest) (Ok x)
 last-none o service before rest found x is last =
     let is_end : cut rest ≡ ended = subst (λ (f : Option (String Global)). IsLast rest (Ok f)) is last in
     (subst (λ (ys : List ℕ). Appends (Some o) (Some o) ys) (sym (ap (text service before) is_end ∙ text-ended service before)) (Appends-nil (Some o)), ap stops is_end)
 
 -- the last line is refused, or memory was wanting
-pub last-refused : (o : List ℕ) (service : SettingsView) (before : List Step) (rest : List ℕ) (e : PortError) → IsLast rest (Err e) → ScriptOutcome (Some o) (Some o) service before (cut rest) (Err e)
+pub last-refused : (o : List ℕ) (service : SettingsView) (before : Course) (rest : List ℕ) (e : PortError) → IsLast rest (Err e) → ScriptOutcome (Some o) (Some o) service before (cut rest) (Err e)
 last-refused o service before rest Line last =
     (subst (λ (ys : List ℕ). Appends (Some o) (Some o) ys) (sym (ap (text service before) last ∙ text-stopped service before)) (Appends-nil (Some o)), ap stops last)
 last-refused o service before rest Memory last = (0, Appends-nil (Some o))
@@ -114,9 +113,9 @@ last-refused o service before rest Write last = absurd last
 -- What was answered from nothing on is then written, or a front of it.
 
 -- all of the answers to the lines that had ended
-pub written-answered : (items : List ℕ) (w0 w1 : Option (List ℕ)) (service : SettingsView) (before : List Step) (core : CoreView) (old new : List ℕ)
-    → ScriptAnswered (Some []) (Some items) service before core old new → Appends w0 w1 items → ScriptAnswered w0 w1 service before core old new
-written-answered items w0 w1 service before core old new done wrote = record {
+pub written-answered : (items : List ℕ) (w0 w1 : Option (List ℕ)) (service : SettingsView) (before : Course) (groups : GroupsView) (old new : List ℕ)
+    → ScriptAnswered (Some []) (Some items) service before groups old new → Appends w0 w1 items → ScriptAnswered w0 w1 service before groups old new
+written-answered items w0 w1 service before groups old new done wrote = record {
   out = done.out;
   later = done.later;
   agrees = done.agrees;
@@ -126,7 +125,7 @@ written-answered items w0 w1 service before core old new done wrote = record {
 }
 
 -- all that a run had answered
-pub written : (items : List ℕ) (w0 w1 : Option (List ℕ)) (service : SettingsView) (before : List Step) (c : Cut) (r : Result (Unit {0}) PortError)
+pub written : (items : List ℕ) (w0 w1 : Option (List ℕ)) (service : SettingsView) (before : Course) (c : Cut) (r : Result (Unit {0}) PortError)
     → ScriptOutcome (Some []) (Some items) service before c r → IfErr r IsMemoryOrLine → Appends w0 w1 items → ScriptOutcome w0 w1 service before c r
 written items w0 w1 service before c (Ok x) o kind wrote = (subst (λ (ys : List ℕ). Appends w0 w1 ys) o.0 wrote, o.1)
 written items w0 w1 service before c (Err Line) o kind wrote = (subst (λ (ys : List ℕ). Appends w0 w1 ys) o.0 wrote, o.1)
@@ -135,7 +134,7 @@ written items w0 w1 service before c (Err Read) o kind wrote = absurd kind
 written items w0 w1 service before c (Err Write) o kind wrote = absurd kind
 
 -- a front of what a run had answered
-pub unwritten : (items : List ℕ) (w0 w1 : Option (List ℕ)) (service : SettingsView) (before : List Step) (c : Cut) (r : Result (Unit {0}) PortError)
+pub unwritten : (items : List ℕ) (w0 w1 : Option (List ℕ)) (service : SettingsView) (before : Course) (c : Cut) (r : Result (Unit {0}) PortError)
     → ScriptOutcome (Some []) (Some items) service before c r → IfErr r IsMemoryOrLine → WritesFront w0 w1 items → WritesFront w0 w1 (text service before c)
 unwritten items w0 w1 service before c (Ok x) o kind front = subst (λ (ys : List ℕ). WritesFront w0 w1 ys) o.0 front
 unwritten items w0 w1 service before c (Err Line) o kind front = subst (λ (ys : List ℕ). WritesFront w0 w1 ys) o.0 front
@@ -146,7 +145,7 @@ unwritten items w0 w1 service before c (Err Read) o kind front = absurd kind
 unwritten items w0 w1 service before c (Err Write) o kind front = absurd kind
 
 -- a front of the answers to the lines that had ended
-pub unwritten-answered : (items : List ℕ) (w0 w1 : Option (List ℕ)) (service : SettingsView) (before : List Step) (core : CoreView) (old new more : List ℕ)
-    → ScriptAnswered (Some []) (Some items) service before core old new → WritesFront w0 w1 items → WritesFront w0 w1 (text service before (cut (old ++ more)))
-unwritten-answered items w0 w1 service before core old new more done front =
+pub unwritten-answered : (items : List ℕ) (w0 w1 : Option (List ℕ)) (service : SettingsView) (before : Course) (groups : GroupsView) (old new more : List ℕ)
+    → ScriptAnswered (Some []) (Some items) service before groups old new → WritesFront w0 w1 items → WritesFront w0 w1 (text service before (cut (old ++ more)))
+unwritten-answered items w0 w1 service before groups old new more done front =
     subst (λ (ys : List ℕ). WritesFront w0 w1 ys) (sym (done.text_is more)) (front-of-more w0 w1 done.out _ (subst (λ (ys : List ℕ). WritesFront w0 w1 ys) done.wrote front))

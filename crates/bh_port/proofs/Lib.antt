@@ -1,5 +1,9 @@
+pub mod Lists
+pub mod Naming
+pub mod Opening
+pub mod Keeping
+pub mod Showing
 pub mod TextLaws
-pub mod OwnSteps
 pub mod Answering
 pub mod AtOnce
 pub mod Running

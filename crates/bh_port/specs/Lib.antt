@@ -1,2 +1,6 @@
+pub mod GroupsView
+pub mod Entries
+pub mod Course
 pub mod Text
+pub mod Kept
 pub mod Script

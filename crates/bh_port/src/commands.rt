@@ -2,31 +2,60 @@
 
 ghost use Rattle.std.specs.Prelude.{◌≡◌, find, option_map, option_copied};
 ghost use Rattle.std.specs.Str.{bytes_eq};
-ghost use Rattle.bh_lines.specs.Names.{command_number, command_name, is_own_name};
+ghost use Rattle.bh_lines.specs.Names.{command_number, command_name, further_number, is_own_name};
 ghost use Rattle.bh_props.specs.Shown.{settings_view};
-ghost use Rattle.bh_port.specs.Text.{names_in, told_name};
+ghost use Rattle.bh_port.specs.Course.{command_at, command_of, names_in};
+ghost use Rattle.bh_port.specs.Text.{told_name};
 
+use crate::groups::{Entry, Groups};
 use bh_base::{GroupId, Reply, Text};
 use bh_props::Settings;
 use indexmap::IndexMap;
 
-/// The number of the group's command of the name, if it has one: 0 where the name is the group's own. A further command
-/// is looked up by the hash of its name.
+/// The number of the command of the name in the group of the settings, if it has one: 0 where the name is the group's own.
+/// A further command is looked up by the hash of its name.
 pub fn command_number(settings: &Settings, group: GroupId, name: &str) -> Option<u8>
     ensures { result ≡ command_number (names_in (settings_view settings.now)) group.0 name.now }
 {
     if is_own_name(settings, group, name) {
         return Some(0);
     }
+    further_number(settings, group.0, name)
+}
+
+/// The number of the command of the name in the group of a run, if that is there and has one: 0 where the name is the
+/// group's own.
+pub fn command_at(settings: &Settings, groups: &Groups, group: GroupId, name: &str) -> Option<u8>
+    ensures { result ≡ command_at (settings_view settings.now) groups.now.entries group.0 name.now }
+{
+    let entry = groups.entry(group)?;
+    command_of(settings, entry, name)
+}
+
+/// The number of the group's command of the name, if it has one: 0 where the name is the group's own.
+fn command_of(settings: &Settings, entry: &Entry, name: &str) -> Option<u8>
+    ensures { result ≡ command_of (settings_view settings.now) entry.now name.now }
+{
+    if entry.name.as_str() == name {
+        return Some(0);
+    }
+    further_number(settings, entry.like, name)
+}
+
+/// The number of the further command of the name, where it is one of the group at the place.
+fn further_number(settings: &Settings, group: u64, name: &str) -> Option<u8>
+    ensures { result ≡ further_number (names_in (settings_view settings.now)) group name.now }
+{
     let (place, number) = further_command(&settings.commands, name)?;
-    if u64::from(place) == group.0 {
+    if u64::from(place) == group {
         Some(number)
     } else {
         None
     }
 }
 
-/// The name of the group's further command of the number, if there is one: its own command, number 0, is none.
+/// The name of the further command of the number in the group of the settings, if there is one: its own command, number 0,
+/// is none.
 pub fn command_name(settings: &Settings, group: GroupId, command: u8) -> Option<&Text<32>>
     ensures { option_copied result ≡ command_name (names_in (settings_view settings.now)) group.0 command }
 {
@@ -41,16 +70,20 @@ pub fn command_name(settings: &Settings, group: GroupId, command: u8) -> Option<
     None
 }
 
-/// The name of the further command whose run the reply of the group assigns, if it does.
-pub fn told_command<'s>(
-    settings: &'s Settings,
+/// The name of the further command whose run the reply of the group of a run assigns, if it does.
+pub fn told_command(
+    settings: &Settings,
+    groups: &Groups,
     group: GroupId,
     reply: &Reply,
-) -> Option<&'s Text<32>>
-    ensures { option_copied result ≡ told_name (settings_view settings.now) group.0 reply.now }
+) -> Option<Text<32>>
+    ensures { result ≡ told_name (settings_view settings.now) groups.now.entries group.0 reply.now }
 {
     match reply {
-        Reply::Assigned { command, .. } => command_name(settings, group, *command),
+        Reply::Assigned { command, .. } => {
+            let entry = groups.entry(group)?;
+            command_name(settings, GroupId(entry.like), *command).copied()
+        }
         _ => None,
     }
 }
@@ -66,7 +99,10 @@ fn is_own_name(settings: &Settings, group: GroupId, name: &str) -> bool
 }
 
 /// The place of the group and the number of the further command of the name, if there is one.
-fn further_command(commands: &IndexMap<Text<32>, (u32, u8)>, name: &str) -> Option<(u32, u8)>
+pub(crate) fn further_command(
+    commands: &IndexMap<Text<32>, (u32, u8)>,
+    name: &str,
+) -> Option<(u32, u8)>
     ensures { result ≡ option_map (λ c. c.1) (find (λ c. bytes_eq c.0 name.now) commands.now.entries) }
 {
     match Text::new(name) {

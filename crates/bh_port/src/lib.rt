@@ -1,7 +1,10 @@
-//! A script over any reader and writer: each line is answered by a line, by the groups of a service.
+//! A script over any reader and writer: each line is answered by a line, by the groups of a service, which lines may
+//! register and retire.
 #![tactic(auto)]
 
+pub mod act;
 pub mod commands;
+pub mod groups;
 pub mod reader;
 mod run;
 pub mod script;

@@ -1,21 +1,19 @@
-//! A run of a script: lines are answered as they come, each by the line of the reply to its step or of its fault.
+//! A run of a script: lines are answered as they come, each by the line of what it is told or of its fault.
 
-ghost use Rattle.std.specs.Prelude.{◌≡◌, ◌<◌, ◌⊎◌, ◌++◌, ◌∷◌, ℕ, List, [], length, false, Some, Err, OnOk, OnErr, IfErr, option_copied};
-ghost use Rattle.bh_base.specs.declared.step.Step.{Step};
+ghost use Rattle.std.specs.Prelude.{◌≡◌, ◌⊎◌, ◌++◌, ℕ, List, false, Some, Err, OnOk, OnErr, IfErr};
 ghost use Rattle.bh_props.specs.Shown.{settings_view};
 ghost use Rattle.bh_lines.specs.Lines.{cut, has_line};
 ghost use Rattle.bh_lines.specs.Taken.{IsMemoryOrLine};
 ghost use Rattle.bh_lines.specs.FaultLine.{fault_line};
-ghost use Rattle.bh_lines.specs.ReplyLine.{reply_line};
+ghost use Rattle.bh_lines.specs.ToldLine.{told_line};
 ghost use Rattle.bh_streams.specs.Watched.{writer_of, bytes_held, OneRefused, NoneRefused};
-ghost use Rattle.bh_port.specs.Text.{reply_to, told_line};
+ghost use Rattle.bh_port.specs.Course.{Course, IsActOf};
+ghost use Rattle.bh_port.specs.Text.{told_by, with_act};
 ghost use Rattle.bh_port.specs.Script.{GroupsShow, AnswersLine, ScriptAnswered, ScriptOutcome, IsNotRead};
 
-use crate::commands::told_command;
-use crate::steps::line_step;
-use bh_base::{Reply, Step, Text};
-use bh_core::Core;
-use bh_lines::{Fault, PortError, last_line, next_line, put_fault, put_reply};
+use crate::act::{LineAct, line_act};
+use crate::groups::Groups;
+use bh_lines::{Fault, PortError, Told, last_line, next_line, put_fault, put_told};
 use bh_props::Settings;
 use bh_streams::{WatchedWriter, write};
 use bytes::BytesMut;
@@ -28,7 +26,7 @@ use std::io::Write;
 #[derive(Drop)]
 pub struct Run {
     pub alloc: Global,
-    pub core: Core,
+    pub groups: Groups,
     pub buffer: BytesMut,
     pub out: Vec<u8>,
     /// The library's writer clears as many bytes beyond its text as stand before it, so an answer is put here first.
@@ -43,14 +41,14 @@ impl Run {
         settings: &Settings,
         writer: &mut WatchedWriter<'_, W>,
     ) -> Result<(), PortError>
-        ensures answered { OnOk result ((before : List Step) → GroupsShow (settings_view settings.now) self.old.core before →
-            ScriptAnswered (bytes_held W.contents writer.old) (bytes_held W.contents writer.new) (settings_view settings.now) before self.new.core self.old.buffer.items self.new.buffer.items) }
+        ensures answered { OnOk result ((before : Course) → GroupsShow (settings_view settings.now) self.old.groups before →
+            ScriptAnswered (bytes_held W.contents writer.old) (bytes_held W.contents writer.new) (settings_view settings.now) before self.new.groups self.old.buffer.items self.new.buffer.items) }
         ensures none_left { OnOk result (has_line self.new.buffer.items ≡ false) }
         ensures no_read { IfErr result IsNotRead }
         ensures same_writer { (writer_of writer.new).ghost_name ≡ (writer_of writer.old).ghost_name }
         ensures refused { result ≡ Err PortError.Write → OneRefused writer.old writer.new }
         ensures not_refused { (result ≡ Err PortError.Write) ⊎ NoneRefused writer.old writer.new }
-        ensures stopped { IfErr result (λ e. (before : List Step) (more : List ℕ) → GroupsShow (settings_view settings.now) self.old.core before →
+        ensures stopped { IfErr result (λ e. (before : Course) (more : List ℕ) → GroupsShow (settings_view settings.now) self.old.groups before →
             ScriptOutcome (bytes_held W.contents writer.old) (bytes_held W.contents writer.new) (settings_view settings.now) before (cut (self.old.buffer.items ++ more)) (Err e)) }
     {
         self.out.clear();
@@ -70,7 +68,7 @@ impl Run {
         ensures same_writer { (writer_of writer.new).ghost_name ≡ (writer_of writer.old).ghost_name }
         ensures refused { result ≡ Err PortError.Write → OneRefused writer.old writer.new }
         ensures not_refused { (result ≡ Err PortError.Write) ⊎ NoneRefused writer.old writer.new }
-        ensures outcome { (before : List Step) → GroupsShow (settings_view settings.now) self.old.core before →
+        ensures outcome { (before : Course) → GroupsShow (settings_view settings.now) self.old.groups before →
             ScriptOutcome (bytes_held W.contents writer.old) (bytes_held W.contents writer.new) (settings_view settings.now) before (cut self.old.buffer.items) result }
     {
         self.out.clear();
@@ -81,11 +79,11 @@ impl Run {
 
     /// Answers each line that has ended, behind what is to be written, and keeps the bytes that follow the last of them.
     fn answer_lines(&mut self, settings: &Settings) -> Result<(), PortError>
-        ensures answered { OnOk result ((before : List Step) → GroupsShow (settings_view settings.now) self.old.core before →
-            ScriptAnswered (Some self.old.out.items) (Some self.new.out.items) (settings_view settings.now) before self.new.core self.old.buffer.items self.new.buffer.items) }
+        ensures answered { OnOk result ((before : Course) → GroupsShow (settings_view settings.now) self.old.groups before →
+            ScriptAnswered (Some self.old.out.items) (Some self.new.out.items) (settings_view settings.now) before self.new.groups self.old.buffer.items self.new.buffer.items) }
         ensures none_left { OnOk result (has_line self.new.buffer.items ≡ false) }
         ensures kinds { IfErr result IsMemoryOrLine }
-        ensures stopped { IfErr result (λ e. (before : List Step) (more : List ℕ) → GroupsShow (settings_view settings.now) self.old.core before →
+        ensures stopped { IfErr result (λ e. (before : Course) (more : List ℕ) → GroupsShow (settings_view settings.now) self.old.groups before →
             ScriptOutcome (Some self.old.out.items) (Some self.new.out.items) (settings_view settings.now) before (cut (self.old.buffer.items ++ more)) (Err e)) }
     {
         'lines: while let Some(line) = next_line(&mut self.buffer)? {
@@ -98,7 +96,7 @@ impl Run {
     fn answer_last(&mut self, settings: &Settings) -> Result<(), PortError>
         requires { has_line self.old.buffer.items ≡ false }
         ensures kinds { IfErr result IsMemoryOrLine }
-        ensures outcome { (before : List Step) → GroupsShow (settings_view settings.now) self.old.core before →
+        ensures outcome { (before : Course) → GroupsShow (settings_view settings.now) self.old.groups before →
             ScriptOutcome (Some self.old.out.items) (Some self.new.out.items) (settings_view settings.now) before (cut self.old.buffer.items) result }
     {
         let Some(line) = last_line(&mut self.buffer)? else {
@@ -110,37 +108,38 @@ impl Run {
 
     /// Answers a line, behind what is to be written.
     fn answer_line(&mut self, settings: &Settings, line: &str) -> Result<(), AllocError>
-        ensures answers { OnOk result ((before : List Step) → GroupsShow (settings_view settings.now) self.old.core before →
-            AnswersLine (settings_view settings.now) before line.now self.new.core self.old.out.items self.new.out.items) }
+        ensures answers { OnOk result ((before : Course) → GroupsShow (settings_view settings.now) self.old.groups before →
+            AnswersLine (settings_view settings.now) before line.now self.new.groups self.old.out.items self.new.out.items) }
         ensures kept { OnErr result (self.new.out.items ≡ self.old.out.items) }
         ensures left { self.new.buffer ≡ self.old.buffer }
     {
-        match line_step(self.alloc, settings, &mut self.scratch, line) {
-            Ok(Ok(step)) => self.answer_step(settings, step),
+        match line_act(self.alloc, settings, &self.groups, &mut self.scratch, line) {
+            Ok(Ok(act)) => self.answer_act(settings, act),
             Ok(Err(fault)) => self.answer_fault(fault),
             Err(error) => Err(error),
         }
     }
 
-    /// Does a step, and puts the line of its reply behind what is to be written.
-    fn answer_step(&mut self, settings: &Settings, step: Step) -> Result<(), AllocError>
-        ensures wrote { OnOk result ((before : List Step) → step.group.0 < length settings.now.groups.entries → GroupsShow (settings_view settings.now) self.old.core before →
-            self.new.out.items ≡ self.old.out.items ++ told_line (settings_view settings.now) step.group.0 (reply_to (settings_view settings.now) before step)) }
-        ensures agrees { OnOk result ((before : List Step) → GroupsShow (settings_view settings.now) self.old.core before →
-            GroupsShow (settings_view settings.now) self.new.core (before ++ step ∷ [])) }
+    /// Does what a line asks for, and puts the line of what is told behind what is to be written.
+    fn answer_act(&mut self, settings: &Settings, act: LineAct) -> Result<(), AllocError>
+        requires { IsActOf (settings_view settings.now) self.old.groups.entries act }
+        ensures wrote { OnOk result ((before : Course) → GroupsShow (settings_view settings.now) self.old.groups before →
+            self.new.out.items ≡ self.old.out.items ++ told_line (told_by (settings_view settings.now) before act)) }
+        ensures agrees { OnOk result ((before : Course) → GroupsShow (settings_view settings.now) self.old.groups before →
+            GroupsShow (settings_view settings.now) self.new.groups (with_act (settings_view settings.now) before act)) }
         ensures kept { OnErr result (self.new.out.items ≡ self.old.out.items) }
         ensures left { self.new.buffer ≡ self.old.buffer }
     {
-        let group = step.group;
-        let reply = self.core.apply(step);
-        let command = told_command(settings, group, &reply);
-        append_reply(self.alloc, &mut self.answer, &mut self.out, &reply, command)
+        let Ok(told) = self.groups.act(settings, act) else {
+            return Err(AllocError);
+        };
+        append_told(self.alloc, &mut self.answer, &mut self.out, &told)
     }
 
     /// Puts the line of a fault behind what is to be written.
     fn answer_fault(&mut self, fault: Fault) -> Result<(), AllocError>
         ensures wrote { OnOk result (self.new.out.items ≡ self.old.out.items ++ fault_line fault) }
-        ensures same { self.new.core ≡ self.old.core }
+        ensures same { self.new.groups ≡ self.old.groups }
         ensures kept { OnErr result (self.new.out.items ≡ self.old.out.items) }
         ensures left { self.new.buffer ≡ self.old.buffer }
     {
@@ -148,20 +147,18 @@ impl Run {
     }
 }
 
-/// Puts the line of the reply behind the bytes, by way of a buffer for one line. The name is that of the further command
-/// whose run is assigned.
-fn append_reply(
+/// Puts the line of what is told behind the bytes, by way of a buffer for one line.
+fn append_told(
     alloc: Global,
     line: &mut Vec<u8>,
     bytes: &mut Vec<u8>,
-    reply: &Reply,
-    command: Option<&Text<32>>,
+    told: &Told,
 ) -> Result<(), AllocError>
-    ensures ok { OnOk result (bytes.new.items ≡ bytes.old.items ++ reply_line (option_copied command.entry) reply.now) }
+    ensures ok { OnOk result (bytes.new.items ≡ bytes.old.items ++ told_line told.now) }
     ensures err { OnErr result (bytes.new.items ≡ bytes.old.items) }
 {
     line.clear();
-    put_reply(alloc, line, reply, command)?;
+    put_told(alloc, line, told)?;
     bytes.extend_from_slice(line.as_slice())
 }
 

@@ -1,12 +1,13 @@
 //! A script: each line of a reader is answered by a line to a writer, as the lines come.
 
-ghost use Rattle.std.specs.Prelude.{◌≡◌, ◌≤◌, ◌+◌, ◌^◌, ◌⊎◌, [], Err, IfErr, IfOk, IfSome};
+ghost use Rattle.std.specs.Prelude.{◌≡◌, ◌≤◌, ◌+◌, ◌^◌, ◌⊎◌, Err, IfErr, IfOk, IfSome};
 ghost use Rattle.bh_props.specs.Shown.{settings_view};
-ghost use Rattle.bh_port.specs.Text.{step_limit};
+ghost use Rattle.bh_port.specs.Course.{new_course, opened_core, step_limit};
 ghost use Rattle.bh_lines.specs.Lines.{cut};
 ghost use Rattle.bh_streams.specs.Watched.{reader_of, reads_of, bytes_left, HasRead, OneFailed, NoneFailed, writer_of, bytes_held, OneRefused, NoneRefused};
-ghost use Rattle.bh_port.specs.Script.{GroupsShow, ScriptHasAnswered, ScriptOutcome};
+ghost use Rattle.bh_port.specs.Script.{ScriptHasAnswered, ScriptOutcome};
 
+use crate::groups::Groups;
 use crate::reader::fill;
 use crate::run::Run;
 use bh_core::Core;
@@ -29,9 +30,11 @@ const MOST_READS: u64 = 1 << 40;
 
 /// Answers each line of the reader by one line to the writer, in order, for the groups of the settings, all new.
 ///
-/// A line that says a step is answered by the line of the step's reply. A faulty line is answered by the line of its
-/// fault; it is no step, and the run goes on. Each group has its own properties, and may do `MOST_STEPS` steps, or fewer
-/// where fewer may be audited.
+/// A line that says a step is answered by the line of the step's reply. One that registers or retires a group is answered
+/// by whether it did; a name then means the group that was registered last under it, as long as it was not retired. A
+/// faulty line is answered by the line of its fault; it changes nothing, and the run goes on. Each group has its own
+/// properties, or those of the group of the settings that it is like, and may do `MOST_STEPS` steps, or fewer where fewer
+/// may be audited.
 ///
 /// The lines that one read brought to an end are answered, and the answers written together, before the next read.
 ///
@@ -55,12 +58,12 @@ pub fn script<R: Read, W: Write>(
     ensures write { result ≡ Err PortError.Write → OneRefused writer.old writer.new }
     ensures not_refused { (result ≡ Err PortError.Write) ⊎ NoneRefused writer.old writer.new }
     ensures text { IfSome (bytes_left R.remaining reader.old) (λ input.
-        ScriptOutcome (bytes_held W.contents writer.old) (bytes_held W.contents writer.new) (settings_view settings.now) [] (cut input) result) }
+        ScriptOutcome (bytes_held W.contents writer.old) (bytes_held W.contents writer.new) (settings_view settings.now) (new_course (settings_view settings.now)) (cut input) result) }
 {
-    let core = open(alloc, settings)?;
+    let groups = Groups::open(alloc, settings)?;
     let mut run = Run {
         alloc,
-        core,
+        groups,
         buffer: BytesMut::new(alloc),
         out: Vec::new(alloc),
         answer: Vec::new(alloc),
@@ -80,7 +83,7 @@ pub fn script<R: Read, W: Write>(
 ///
 /// It fails only for want of memory, as `Memory`.
 pub fn open(alloc: Global, settings: &Settings) -> Result<Core, PortError>
-    ensures agrees { IfOk result (λ core. GroupsShow (settings_view settings.now) core []) }
+    ensures opened { IfOk result (λ core. core ≡ opened_core (settings_view settings.now)) }
     ensures err { IfErr result (λ e. e ≡ PortError.Memory) }
 {
     let limit = step_limit(settings.audit_steps);
@@ -95,7 +98,7 @@ pub fn open(alloc: Global, settings: &Settings) -> Result<Core, PortError>
 }
 
 /// The steps that each group may do, no more than may be audited.
-fn step_limit(audit_steps: Option<u64>) -> u64
+pub(crate) fn step_limit(audit_steps: Option<u64>) -> u64
     ensures { result ≡ step_limit audit_steps }
 {
     match audit_steps {

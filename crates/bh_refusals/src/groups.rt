@@ -3,7 +3,7 @@
 use crate::refusing::{MANY, assert_told, give_up, refuse};
 use crate::worked::{assert_new, props_of_two, replies, steps, two_groups};
 use bh_base::{CommandProps, GroupId};
-use bh_core::{Core, RegisterError};
+use bh_core::{Act, Core, Outcome, RegisterError};
 use bh_props::{SettingsError, read};
 use std::process::Abort;
 
@@ -65,6 +65,29 @@ fn a_group_of_two_commands_is_registered_or_not(rt: HostRuntime) {
         assert_new(&rt, &mut core);
         let again = core.register(&third, 100);
         assert_third(&rt, &core, again, third.commands.as_slice());
+    }
+    give_up(&rt);
+}
+
+/// Memory is refused for the outcomes, and then nothing has changed, or in the registration, which is an outcome of its
+/// own.
+#[test]
+fn all_acts_are_made_or_none(rt: HostRuntime) {
+    let kinds = [props_of_two(&rt)];
+    let acts = [Act::Register {
+        place: 0,
+        step_limit: 100,
+    }];
+    for nth in 1..MANY {
+        let mut core = two_groups(&rt, 100);
+        refuse(rt.alloc(), nth);
+        let told = core.run_acts(&kinds, &acts);
+        let told = told.map(|made| made.as_slice() == [Outcome::Registered(GroupId(2))].as_slice());
+        assert_told(&rt, nth, told == Ok(true));
+        if told == Ok(true) {
+            return;
+        }
+        assert_new(&rt, &mut core);
     }
     give_up(&rt);
 }

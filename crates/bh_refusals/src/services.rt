@@ -4,9 +4,10 @@ ghost use Rattle.std.specs.Prelude.{◌≡◌, ◌≤◌, ◌^◌, IfSome};
 ghost use Rattle.bh_audit.specs.Books.{AreNew};
 
 use crate::refusing::{MANY, assert_told, give_up, refuse};
-use crate::worked::{A, B, assert_new, replies, request, steps, two_groups};
+use crate::worked::{A, B, assert_new, props_of_two, replies, request, steps, two_groups};
 use bh_audit::{AuditError, AuditReport, Book, Clock, Pass, PassError, Shared};
 use bh_base::{Answer, Cause, FallbackEnd, GroupId, Moment, Request, RunEnd, Text};
+use bh_core::RegisterError;
 use bh_workers::{Dependency, DriveError, Driven, Pace, RequestList, drive};
 use std::process::Abort;
 use std::sync::Wait;
@@ -39,6 +40,29 @@ fn a_book_is_made_or_the_core_handed_back(rt: HostRuntime) {
             Ok(book) => return assert_new_book(&rt, book),
             Err((mut core, _)) => assert_new(&rt, &mut core),
         }
+    }
+    give_up(&rt);
+}
+
+/// The book has room for just the slots of three groups, so that slots counted for a refused one would be missed.
+#[test]
+fn a_group_of_a_book_is_registered_or_not(rt: HostRuntime) {
+    let third = props_of_two(&rt);
+    for nth in 1..MANY {
+        let mut book = book(&rt);
+        refuse(rt.alloc(), nth);
+        let told = book.register(rt.alloc(), &third, 100);
+        assert_told(&rt, nth, told.is_ok());
+        match told {
+            Ok(group) => {
+                assert!(rt; group == GroupId(2));
+                return assert_new_book(&rt, book);
+            }
+            Err(error) => assert_eq!(rt; error, RegisterError::Memory),
+        }
+        let again = book.register(rt.alloc(), &third, 100);
+        assert_eq!(rt; again, Ok(GroupId(2)));
+        assert_new_book(&rt, book);
     }
     give_up(&rt);
 }
@@ -77,10 +101,31 @@ fn a_service_is_made_or_the_book_handed_back(rt: HostRuntime) {
     give_up(&rt);
 }
 
+/// The service has room for just the slots of three groups, so that slots counted for a refused one would be missed.
+#[test]
+fn a_group_of_a_service_is_registered_or_not(rt: HostRuntime) {
+    let third = props_of_two(&rt);
+    for nth in 1..MANY {
+        let shared = service(&rt);
+        refuse(rt.alloc(), nth);
+        let told = shared.register(&rt, rt.alloc(), &third, 100);
+        assert_told(&rt, nth, told.is_ok());
+        if told.is_ok() {
+            assert_eq!(rt; told, Ok(GroupId(2)));
+            return;
+        }
+        assert_eq!(rt; told, Err(RegisterError::Memory));
+        let again = shared.register(&rt, rt.alloc(), &third, 100);
+        assert_eq!(rt; again, Ok(GroupId(2)));
+        assert_of_three(&rt, shared);
+    }
+    give_up(&rt);
+}
+
 /// Does the run, and gives back the passes of both groups.
 fn run<R: Abort + Wait + AllocGlobal>(rt: &R, shared: &Shared) -> (Pass, Pass) {
-    let mut first = shared.pass(rt.alloc(), A, 10).expect(rt, "memory");
-    let mut second = shared.pass(rt.alloc(), B, 10).expect(rt, "memory");
+    let mut first = shared.pass(rt, rt.alloc(), A, 10).expect(rt, "memory");
+    let mut second = shared.pass(rt, rt.alloc(), B, 10).expect(rt, "memory");
     for (step, reply) in steps().iter().zip(replies().iter()) {
         let pass = if step.group == A {
             &mut first
@@ -107,6 +152,19 @@ fn assert_account(rt: &impl Abort, report: &AuditReport, steps: usize) {
     assert_eq!(rt; report.journal(B).len(), steps);
 }
 
+/// Asserts that the service, which has a third group by now, answers the run as a new one does, and gives its account.
+fn assert_of_three<R: Abort + Wait + AllocGlobal>(rt: &R, shared: Shared) {
+    let passes = run(rt, &shared);
+    let passes = listed(rt, passes);
+    let report = shared
+        .finish(rt.alloc(), passes)
+        .ok()
+        .expect(rt, "an account");
+    assert_eq!(rt; report.journals.len(), 3);
+    assert_eq!(rt; report.journal(A).len(), 4);
+    assert_eq!(rt; report.journal(B).len(), 4);
+}
+
 /// Asserts that the service answers the run as a new one does, and gives its account.
 fn assert_new_service<R: Abort + Wait + AllocGlobal>(rt: &R, shared: Shared) {
     let passes = run(rt, &shared);
@@ -123,7 +181,7 @@ fn a_pass_is_made_or_not(rt: HostRuntime) {
     let shared = service(&rt);
     for nth in 1..MANY {
         refuse(rt.alloc(), nth);
-        let told = shared.pass(rt.alloc(), A, 10);
+        let told = shared.pass(&rt, rt.alloc(), A, 10);
         assert_told(&rt, nth, told.is_ok());
         if told.is_ok() {
             return assert_new_service(&rt, shared);
@@ -136,7 +194,7 @@ fn a_pass_is_made_or_not(rt: HostRuntime) {
 #[test]
 fn a_pass_too_long_for_any_memory_is_not_made(rt: HostRuntime) {
     let shared = service(&rt);
-    let told = shared.pass(rt.alloc(), A, TOO_MANY);
+    let told = shared.pass(&rt, rt.alloc(), A, TOO_MANY);
     assert_eq!(rt; told.err(), Some(PassError::Memory));
     assert_new_service(&rt, shared);
 }

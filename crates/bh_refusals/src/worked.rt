@@ -82,8 +82,8 @@ fn add<R: Abort + AllocGlobal>(
 ) -> Result<GroupId, RegisterError>
     requires some { 1 ≤ steps }
     requires few { steps ≤ 2 ^ 40 }
-    requires new { AreNew steps core.old.views }
-    ensures { OnOk result (AreNew steps core.new.views) }
+    requires new { AreNew steps core.old }
+    ensures { OnOk result (AreNew steps core.new) }
 {
     core.register(&props(rt), steps)
 }
@@ -92,7 +92,7 @@ fn add<R: Abort + AllocGlobal>(
 pub(crate) fn two_groups<R: Abort + AllocGlobal>(rt: &R, steps: u64) -> Core
     requires some { 1 ≤ steps }
     requires few { steps ≤ 2 ^ 40 }
-    ensures { AreNew steps result.views }
+    ensures { AreNew steps result }
 {
     let mut core = Core::new(rt.alloc(), 12);
     add(rt, &mut core, steps).expect(rt, "memory");

@@ -64,7 +64,8 @@ impl<'e, R, D, C> ServiceControl<'e, R, D, C> {
 }
 
 impl<'e, R: Wait, D: Dependency, C: Clock> ServiceControl<'e, R, D, C> {
-    /// Makes one step of the group, now, with a new pass. Where there is none, the reply is `NoGroup`.
+    /// Makes one step of the group, now, with a new pass. Where there is none, the reply is `NoGroup`: the group is not
+    /// registered, or memory for the receipt of an audited service was refused.
     fn step(&mut self, group: GroupId, op: Op) -> Reply
         requires { can_reply op Reply.NoGroup ≡ true }
         ensures kinds { can_reply op result ≡ true }
@@ -73,7 +74,7 @@ impl<'e, R: Wait, D: Dependency, C: Clock> ServiceControl<'e, R, D, C> {
         ensures made { IsStepped C.moments self.old.service group op result self.new.last }
     {
         let now = self.clock.now();
-        let Ok(mut pass) = self.shared.pass(self.alloc, group, 1) else {
+        let Ok(mut pass) = self.shared.pass(self.rt, self.alloc, group, 1) else {
             self.last = None;
             return Reply::NoGroup;
         };
@@ -126,7 +127,7 @@ impl<'e, R: Wait, D: Dependency, C: Clock> Control for ServiceControl<'e, R, D, 
         ensures made { IsCalled D.ends D.fallback_ends C.moments self.old.service group request result self.new.last }
         ensures full { result ≡ Err PassFull → self.old.service.audited ≡ true }
     {
-        let mut pass = match self.shared.pass(self.alloc, group, MOST_RECEIPTS) {
+        let mut pass = match self.shared.pass(self.rt, self.alloc, group, MOST_RECEIPTS) {
             Ok(pass) => pass,
             Err(error) => {
                 self.last = None;

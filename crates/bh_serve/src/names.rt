@@ -3,7 +3,7 @@
 ghost use Rattle.std.specs.Prelude.{◌≡◌, ◌<◌, ◌∷◌, ◌++◌, [], length, IfOk, IfSome, OnOk};
 ghost use Rattle.bh_lines.specs.Names.{command_number};
 ghost use Rattle.bh_lines.specs.StepLine.{group_number};
-ghost use Rattle.bh_port.specs.Text.{names_in};
+ghost use Rattle.bh_port.specs.Course.{names_in};
 ghost use Rattle.bh_props.specs.Shown.{settings_view};
 
 use bh_base::{GroupId, Text};
@@ -24,7 +24,7 @@ pub struct GroupNames<'s> {
 impl<'s> Model for GroupNames<'s> {
     ghost use Rattle.std.specs.Prelude.{◌≡◌};
     ghost use Rattle.bh_lines.specs.Names.{Names};
-    ghost use Rattle.bh_port.specs.Text.{names_in};
+    ghost use Rattle.bh_port.specs.Course.{names_in};
     ghost use Rattle.bh_props.specs.Shown.{settings_view};
 
     ghost Value = { Names };

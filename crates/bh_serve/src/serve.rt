@@ -1,6 +1,6 @@
 //! Connections to a service, each with a thread and a conversation of its own.
 
-ghost use Rattle.std.specs.Prelude.{◌≡◌, ◌≤◌, ◌⊎◌, length, IfOk, false};
+ghost use Rattle.std.specs.Prelude.{◌≡◌, ◌⊎◌, IfOk, false};
 ghost use Rattle.bh_serve.specs.Ending.{status_of};
 
 use crate::acceptor::{Acceptor, End, Limits};
@@ -180,8 +180,7 @@ fn serve<
 
 /// The service of the groups of the settings, all new. It is not audited.
 fn service(alloc: Global, settings: &Settings) -> Result<Shared, AllocError>
-    ensures audited { IfOk result (λ shared. shared.audited ≡ false) }
-    ensures groups { IfOk result (λ shared. length settings.now.groups.entries ≤ shared.groups) }
+    ensures { IfOk result (λ shared. shared.audited ≡ false) }
 {
     let Ok(core) = open(alloc, settings) else {
         return Err(AllocError);

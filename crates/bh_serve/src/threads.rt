@@ -39,17 +39,15 @@ pub struct Server<'e, R, L, E> {
     pub errors: &'e Mutex<E>,
 }
 
-impl<'e, R, L, E> Server<'e, R, L, E> {
-    /// A pass of the group for a thread of the service, without room for receipts.
+impl<'e, R: Wait, L, E: Write> Server<'e, R, L, E> {
+    /// A pass of the group for a thread of the service, without room for receipts. No group of it is ever retired.
     fn pass(&self, group: GroupId) -> Result<Pass, ServeError> {
-        let Ok(pass) = self.shared.pass(self.alloc, group, 0) else {
+        let Ok(pass) = self.shared.pass(self.rt, self.alloc, group, 0) else {
             return Err(ServeError::Memory);
         };
         Ok(pass)
     }
-}
 
-impl<'e, R: Wait, L, E: Write> Server<'e, R, L, E> {
     /// Writes a line to the errors. Only the thread that runs the service does, so that no other waits for it.
     fn report<T: Display>(&self, text: &T) {
         let mut errors = self.errors.lock(self.rt);

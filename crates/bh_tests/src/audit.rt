@@ -87,6 +87,16 @@ fn stop_text<R: Wait>(rt: &R, alloc: Global, shared: &Shared) -> Result<String, 
     format!(in alloc; "stopped")
 }
 
+/// Retires the pass's group.
+fn retire_text<R: Wait>(
+    rt: &R,
+    alloc: Global,
+    shared: &Shared,
+    pass: &Pass,
+) -> Result<String, AllocError> {
+    format!(in alloc; "{:?}", shared.retire(rt, pass.group()))
+}
+
 /// What a request is answered that may join another of its argument.
 fn cached_text<R: Wait>(
     rt: &R,
@@ -117,6 +127,7 @@ fn ask_shared<R: Wait>(
         "await" => await_text(rt, alloc, shared, pass, rest),
         "cached" => cached_text(rt, alloc, shared, pass, rest),
         "stop" => stop_text(rt, alloc, shared),
+        "retire" => retire_text(rt, alloc, shared, pass),
         _ => look_text(alloc, pass, name),
     }
 }
@@ -151,14 +162,16 @@ pub(crate) fn play<R: Abort + Wait + AllocGlobal>(
 }
 
 /// The passes of these groups, with room for so many receipts.
-pub(crate) fn take_passes<R: Abort + AllocGlobal>(
+pub(crate) fn take_passes<R: Wait + Abort + AllocGlobal>(
     rt: &R,
     shared: &Shared,
     wanted: &[(GroupId, u64)],
 ) -> Vec<Pass> {
     let mut passes = Vec::new(rt.alloc());
     for (group, room) in wanted {
-        let pass = shared.pass(rt.alloc(), *group, *room).expect(rt, "a pass");
+        let pass = shared
+            .pass(rt, rt.alloc(), *group, *room)
+            .expect(rt, "a pass");
         passes.push(pass).expect(rt, "memory");
     }
     passes
@@ -305,7 +318,7 @@ fn groups_and_their_workers(rt: HostRuntime) {
     assert!(rt; shared.audited());
     let text = workers_text(&rt, rt.alloc(), &shared);
     assert_text(&rt, text, "2 groups: 10 0 0", "the workers");
-    let missing = shared.pass(rt.alloc(), GroupId(2), 1).err();
+    let missing = shared.pass(&rt, rt.alloc(), GroupId(2), 1).err();
     assert!(rt; missing == Some(PassError::NoGroup));
 }
 

@@ -36,15 +36,17 @@ fn entry(group: u64, now: u64) -> (Step, Reply) {
     (step(group, now, &Op::Start), Reply::Idle)
 }
 
-/// Two groups that may do 2 and 3 steps, and did 2 each.
+/// Two groups that may do 2 and 3 steps, and did 2 each, and a third one that did none and is retired.
 fn report<R: Abort + AllocGlobal>(rt: &R, stopped: bool) -> AuditReport {
     let alloc = rt.alloc();
     let a = vec![in alloc; entry(0, 10), entry(0, 20)].expect(rt, "memory");
     let b = vec![in alloc; entry(1, 30), entry(1, 40)].expect(rt, "memory");
-    let groups = vec![in alloc; (props(rt), 2), (props(rt), 3)];
+    let groups = vec![in alloc; (props(rt), 2), (props(rt), 3), (props(rt), 1)];
+    let none = Vec::new(alloc);
     AuditReport {
         groups: groups.expect(rt, "memory"),
-        journals: vec![in alloc; a, b].expect(rt, "memory"),
+        journals: vec![in alloc; a, b, none].expect(rt, "memory"),
+        retired: vec![in alloc; false, false, true].expect(rt, "memory"),
         stopped,
     }
 }
@@ -177,6 +179,8 @@ const MARKS: &str = "0 worn going = none
 9 worn going = mismatch 9 1
 1 no-group going = mismatch 1 3
 2 no-group going = none
+2 worn going = mismatch 2 1
+3 no-group going = none
 0 stopped going = mismatch 0 3
 0 stopped stopped = none
 ";

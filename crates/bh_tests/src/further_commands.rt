@@ -5,6 +5,7 @@ use crate::script::{assert_number, assert_text};
 use crate::settings::shown;
 use bh_base::{GroupId, GroupProps, Reply};
 use bh_port::commands::{command_name, command_number, told_command};
+use bh_port::groups::Groups;
 use bh_props::{Settings, read};
 use std::alloc::{AllocError, Global};
 use std::process::Abort;
@@ -175,13 +176,14 @@ fn a_further_command_has_a_name_by_its_number(rt: HostRuntime) {
 #[test]
 fn an_assigned_run_alone_is_told_with_a_name(rt: HostRuntime) {
     let settings = settings_of(&rt, NUMBERED);
+    let groups = Groups::open(rt.alloc(), &settings).expect(&rt, "memory");
     let assigned = Reply::Assigned {
         serial: 1,
         command: 4,
         arg: text("x"),
     };
-    let told = told_command(&settings, GroupId(1), &assigned);
-    assert_eq!(rt; told.map(|name| name.as_str()), Some("c9"));
-    assert!(rt; told_command(&settings, GroupId(0), &assigned).is_none());
-    assert!(rt; told_command(&settings, GroupId(1), &Reply::Queued(1)).is_none());
+    let told = told_command(&settings, &groups, GroupId(1), &assigned);
+    assert_eq!(rt; told.as_ref().map(|name| name.as_str()), Some("c9"));
+    assert!(rt; told_command(&settings, &groups, GroupId(0), &assigned).is_none());
+    assert!(rt; told_command(&settings, &groups, GroupId(1), &Reply::Queued(1)).is_none());
 }

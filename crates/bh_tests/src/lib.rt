@@ -33,7 +33,11 @@ mod hostile_json;
 #[cfg(test)]
 mod hostile_talk;
 #[cfg(test)]
+mod lives;
+#[cfg(test)]
 mod random;
+#[cfg(test)]
+mod random_lives;
 #[cfg(test)]
 mod rolling;
 #[cfg(test)]
@@ -50,6 +54,8 @@ mod several_commands;
 mod threads;
 #[cfg(test)]
 mod threads_gates;
+#[cfg(test)]
+mod threads_lives;
 #[cfg(test)]
 mod threads_mixed;
 #[cfg(test)]

@@ -62,28 +62,28 @@ fn tightened(props: GroupProps, slots: u64) -> GroupProps
 }
 
 /// A group of one slot, whose two commands are run by workers.
-fn one_slot<R: Abort + AllocGlobal>(rt: &R) -> GroupProps
+pub(crate) fn one_slot<R: Abort + AllocGlobal>(rt: &R) -> GroupProps
     ensures { IsInRange result }
 {
     tightened(props_with_two(rt, tight(), tight()), 1)
 }
 
 /// A group of three slots, whose own command is run under permits, and a further one by workers.
-fn three_slots<R: Abort + AllocGlobal>(rt: &R) -> GroupProps
+pub(crate) fn three_slots<R: Abort + AllocGlobal>(rt: &R) -> GroupProps
     ensures { IsInRange result }
 {
     tightened(props_with_two(rt, tight_by_callers(), tight()), 3)
 }
 
 /// A group of forty slots, whose own command is run by workers, and a further one under permits.
-fn forty_slots<R: Abort + AllocGlobal>(rt: &R) -> GroupProps
+pub(crate) fn forty_slots<R: Abort + AllocGlobal>(rt: &R) -> GroupProps
     ensures { IsInRange result }
 {
     tightened(props_with_two(rt, tight(), tight_by_callers()), 40)
 }
 
 /// A number below the limit.
-fn below(rng: &mut Xoshiro256PlusPlus, limit: u64) -> u64
+pub(crate) fn below(rng: &mut Xoshiro256PlusPlus, limit: u64) -> u64
     requires some { 0 < limit }
     ensures { result < limit }
 {
@@ -171,11 +171,12 @@ fn operation(rng: &mut Xoshiro256PlusPlus, serial: u64) -> Op {
     }
 }
 
-/// A group that stands alone, and the serial of its ticket for each holder that has no answer yet.
+/// A group that stands alone, the serial of its ticket for each holder that has no answer yet, and its last serial.
 #[derive(Drop)]
-struct Alone {
-    core: Core,
-    holders: Vec<Serial>,
+pub(crate) struct Alone {
+    pub(crate) core: Core,
+    pub(crate) holders: Vec<Serial>,
+    pub(crate) last: Serial,
 }
 
 /// A holder, by its place, and its ticket; now and then one that there is not.
@@ -188,9 +189,24 @@ fn holder(rng: &mut Xoshiro256PlusPlus, holders: &[Serial]) -> (usize, Serial) {
     }
 }
 
+/// A step of the group in the core of all groups, and of the same group where it stands alone. What both were told.
+pub(crate) fn apply_both<R: Abort>(
+    rt: &R,
+    all: &mut Core,
+    alone: &mut Core,
+    group: u64,
+    now: u64,
+    op: &Op,
+) -> Reply {
+    let told = all.apply(step(group, now, op));
+    let told_alone = alone.apply(step(0, now, op));
+    assert!(rt; told == told_alone, "{op:?} at {now}");
+    told
+}
+
 /// A random step of the group in the core of all groups, and of the same group where it stands alone. What both were
 /// told.
-fn step_both<R: Abort>(
+pub(crate) fn step_both<R: Abort>(
     rt: &R,
     rng: &mut Xoshiro256PlusPlus,
     all: &mut Core,
@@ -200,11 +216,10 @@ fn step_both<R: Abort>(
 ) -> Reply {
     let (place, serial) = holder(rng, &alone.holders);
     let op = operation(rng, serial);
-    let told = all.apply(step(group, now, &op));
-    let told_alone = alone.core.apply(step(0, now, &op));
-    assert!(rt; told == told_alone, "{op:?} at {now}");
+    let told = apply_both(rt, all, &mut alone.core, group, now, &op);
     if let Some(serial) = held(&told) {
         alone.holders.push(serial).expect(rt, "memory");
+        alone.last = alone.last.max(serial);
     }
     if matches!(told, Reply::Answered(_)) && place < alone.holders.len() {
         alone.holders.swap_remove(place);
@@ -212,35 +227,37 @@ fn step_both<R: Abort>(
     told
 }
 
-fn register<R: Abort>(rt: &R, core: &mut Core, props: &GroupProps)
+/// The group in a core of its own.
+pub(crate) fn stand_alone<R: Abort + AllocGlobal>(rt: &R, props: &GroupProps) -> Alone
     requires props { IsInRange props.now }
 {
-    core.register(props, 1 << 40).expect(rt, "memory");
-}
-
-/// Adds the group to the core of all groups. The same group in a core of its own.
-fn stand_alone<R: Abort + AllocGlobal>(rt: &R, all: &mut Core, props: &GroupProps) -> Alone
-    requires props { IsInRange props.now }
-{
-    register(rt, all, props);
     let mut core = Core::new(rt.alloc(), 100);
-    register(rt, &mut core, props);
+    core.register(props, 1 << 40).expect(rt, "memory");
     Alone {
         core,
         holders: Vec::new(rt.alloc()),
+        last: 0,
     }
+}
+
+/// Adds the group to the core of all groups. The same group in a core of its own.
+fn add<R: Abort + AllocGlobal>(rt: &R, all: &mut Core, props: &GroupProps) -> Alone
+    requires props { IsInRange props.now }
+{
+    all.register(props, 1 << 40).expect(rt, "memory");
+    stand_alone(rt, props)
 }
 
 /// Adds the three groups to the core. Each of them in a core of its own.
 fn three_alone<R: Abort + AllocGlobal>(rt: &R, all: &mut Core) -> Vec<Alone> {
-    let first = stand_alone(rt, all, &one_slot(rt));
-    let second = stand_alone(rt, all, &three_slots(rt));
-    let third = stand_alone(rt, all, &forty_slots(rt));
+    let first = add(rt, all, &one_slot(rt));
+    let second = add(rt, all, &three_slots(rt));
+    let third = add(rt, all, &forty_slots(rt));
     vec![in rt.alloc(); first, second, third].expect(rt, "memory")
 }
 
 /// The moment of a step: soon after the step before, or one of 0, far ahead and the last that there is.
-fn moment(rng: &mut Xoshiro256PlusPlus, i: u64, steps: u64) -> Moment {
+pub(crate) fn moment(rng: &mut Xoshiro256PlusPlus, i: u64, steps: u64) -> Moment {
     if i >= steps / 100 * 99 {
         return u64::MAX;
     }

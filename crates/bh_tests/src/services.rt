@@ -28,8 +28,8 @@ pub(crate) fn add(core: &mut Core, props: &GroupProps, steps: u64) -> Result<Gro
     requires props { IsInRange props.now }
     requires some { 1 ≤ steps }
     requires few { steps ≤ 2 ^ 40 }
-    requires new { AreNew steps core.old.views }
-    ensures { OnOk result (AreNew steps core.new.views) }
+    requires new { AreNew steps core.old }
+    ensures { OnOk result (AreNew steps core.new) }
 {
     core.register(props, steps)
 }
@@ -45,7 +45,7 @@ pub(crate) fn two_groups(
     requires second { IsInRange second }
     requires some { 1 ≤ steps }
     requires few { steps ≤ 2 ^ 40 }
-    ensures { IfOk result (λ core. AreNew steps core.views) }
+    ensures { IfOk result (λ core. AreNew steps core) }
 {
     let mut core = Core::new(alloc, 1000);
     add(&mut core, &first, steps)?;
@@ -81,7 +81,7 @@ pub(crate) fn three_groups<R: Abort + AllocGlobal>(rt: &R, steps: u64) -> Shared
 
 /// A service of the groups.
 pub(crate) fn share<R: Abort + AllocGlobal>(rt: &R, core: Core, audit: Option<u64>) -> Shared
-    requires { IfSome audit (λ steps. AreNew steps core.views) }
+    requires { IfSome audit (λ steps. AreNew steps core) }
 {
     let book = Book::new(rt.alloc(), core, audit).ok().expect(rt, "memory");
     Shared::new(rt.alloc(), book).ok().expect(rt, "memory")

@@ -95,7 +95,7 @@ fn full_group_others_run(rt: HostRuntime) {
     let full = FullGroup {
         rt: &rt,
         shared: &shared,
-        pass: Mutex::new(shared.pass(rt.alloc(), A, 1000).expect(&rt, "a pass")),
+        pass: Mutex::new(shared.pass(&rt, rt.alloc(), A, 1000).expect(&rt, "a pass")),
         refused: Gate::new(&rt, "a call that the full group refuses"),
         begun: Gate::new(&rt, "a hundred answers of the other group"),
     };
@@ -210,8 +210,8 @@ fn stopped_in_the_middle(rt: HostRuntime) {
         begun: Gate::new(&rt, "the run"),
         told: Gate::new(&rt, "the caller of a service that is stopped"),
     };
-    let mut caller = shared.pass(rt.alloc(), A, 1000).expect(&rt, "a pass");
-    let mut worker = shared.pass(rt.alloc(), A, 1000).expect(&rt, "a pass");
+    let mut caller = shared.pass(&rt, rt.alloc(), A, 1000).expect(&rt, "a pass");
+    let mut worker = shared.pass(&rt, rt.alloc(), A, 1000).expect(&rt, "a pass");
     let answer = call_and_stop(&rt, &shared, &held, &mut caller, &mut worker);
     assert_passed(&rt, &held.begun);
     assert_passed(&rt, &held.told);

@@ -66,10 +66,10 @@ fn wake<R: Wait + rt::Clock + Abort + AllocGlobal>(
 }
 
 /// The passes of the threads that are to sleep.
-fn sleepers<R: Abort + AllocGlobal>(rt: &R, shared: &Shared, number: usize) -> Vec<Pass> {
+fn sleepers<R: Wait + Abort + AllocGlobal>(rt: &R, shared: &Shared, number: usize) -> Vec<Pass> {
     let mut all = Vec::new(rt.alloc());
     for _ in 0..number {
-        let pass = shared.pass(rt.alloc(), A, 10).expect(rt, "a pass");
+        let pass = shared.pass(rt, rt.alloc(), A, 10).expect(rt, "a pass");
         all.push(pass).expect(rt, "memory");
     }
     all
@@ -152,6 +152,22 @@ const STOPPED_WORKER: Case = Case {
 #[test]
 fn stop_wakes_a_worker(rt: HostRuntime) {
     assert_woken(&rt, props(&rt), &STOPPED_WORKER);
+}
+
+const RETIRED: Case = Case {
+    name: "two workers of a group that is retired",
+    limit: 20,
+    before: "",
+    sleepers: 2,
+    asked: "next 0",
+    steps: "0 retire = Ok(())",
+    told: "NoGroup",
+    account: "0 of 20, 0 of 20, running",
+};
+
+#[test]
+fn retirement_wakes_the_workers(rt: HostRuntime) {
+    assert_woken(&rt, props(&rt), &RETIRED);
 }
 
 const WORN: Case = Case {

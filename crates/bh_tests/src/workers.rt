@@ -40,8 +40,10 @@ fn drive_without_the_group_starts_no_thread(rt: HostRuntime) {
 }
 
 /// A pass of the group with room for so many receipts.
-fn pass<R: Abort + AllocGlobal>(rt: &R, shared: &Shared, group: GroupId, room: u64) -> Pass {
-    shared.pass(rt.alloc(), group, room).expect(rt, "a pass")
+fn pass<R: Wait + Abort + AllocGlobal>(rt: &R, shared: &Shared, group: GroupId, room: u64) -> Pass {
+    shared
+        .pass(rt, rt.alloc(), group, room)
+        .expect(rt, "a pass")
 }
 
 fn assert_no_receipt<R: Abort>(rt: &R, pass: &Pass, room: u64) {

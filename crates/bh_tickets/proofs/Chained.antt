@@ -9,6 +9,7 @@ use Rattle.bh_cache.specs.Chains.{HasChains, IsChained, IsChainFrame, AreOn, lis
 use Rattle.bh_cache.specs.Slots.{Slots, has, is_live_list, is_on, is_owned, ticket_at, Once, IsApart, IsArena}
 use Rattle.bh_cache.proofs.Moves.{families_count, family_stays}
 use Rattle.bh_cache.proofs.Placed.{IsUnplaced, chained_placed, chained_same, families_placed, first_placed, frame_placed, name_list_within, serial_list_within}
+use Rattle.bh_tickets.specs.Same.{KeepsOwn}
 use Rattle.bh_tickets.proofs.Touched.{IsTouched, at_other, at_slot, owned_same}
 
 -- ---- what a change of one family leaves of the others
@@ -103,11 +104,6 @@ chains_touched a b g x to t v touched keeps chained own own_to was now serial ca
     ]
 
 -- ---- other groups change
-
--- the lists of a family from the first to the last are as before
-pub record KeepsOwn (family first last : ℕ) (a b : Slots) : Type 0 where
-  pub count : length (lists_in a family) ≤ length (lists_in b family)
-  pub lists : (l : ℕ) → first ≤ l → l ≤ last → slots_on b family l ≡ slots_on a family l
 
 on_kept : (family first last : ℕ) (to : Option Ticket → ℕ) (a b : Slots) (g : GroupLists) → KeepsOwn family first last a b → ((o : Option Ticket) → (first ≤ to o) × (to o ≤ last))
     → ((x : ℕ) → is_owned b g x ≡ is_owned a g x) → ((x : ℕ) → ticket_at b g x ≡ ticket_at a g x) → AreOn family first last to a g → AreOn family first last to b g

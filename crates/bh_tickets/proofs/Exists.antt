@@ -1,5 +1,5 @@
 -- The ticket of a name, and whether a group has a ticket of a kind.
-use Rattle.std.proofs.Common.{◌≡◌, ℕ, ◌+◌, ◌-◌, ◌≤◌, ◌⊎◌, inl, inr, Bool, true, false, cond, List, [], ◌∷◌, length, drop, filter, Option, Some, None, refl, ◌∙◌, sym, ap, subst, add-one}
+use Rattle.std.proofs.Common.{◌≡◌, ℕ, ◌+◌, ◌-◌, ◌≤◌, ◌⊎◌, inl, inr, Bool, true, false, cond, List, [], ◌∷◌, length, drop, filter, Option, Some, None, refl, ◌∙◌, sym, ap, add-one}
 use Rattle.std.specs.List.{list_any}
 use Rattle.std.specs.Prelude.{◌||◌, ◌&&◌, ◌==◌, IfSome, eqb, nat_le, slice_get, find, is_some, if◌then◌else◌}
 use Rattle.std.proofs.lemmas.Bool.{cases_eq, eq-eqb, ne_eqb}
@@ -11,7 +11,7 @@ use Rattle.bh_slot_arena.specs.Slots.{slots_on}
 use Rattle.bh_cache.specs.Cache.{IsEarliest}
 use Rattle.bh_cache.specs.Slots.{Slots, is_on, is_live, ticket_at, tickets_of, list_for, has_serial_in, has, has_one}
 use Rattle.bh_cache.proofs.Listed.{IsIn, from_listed, find_none}
-use Rattle.bh_cache.proofs.Walks.{on_queued, on_running}
+use Rattle.bh_cache.proofs.Walks.{on_queued, on_running, on_settled}
 use Rattle.bh_cache.proofs.Places.{drop_at, drop_past, drop_end}
 use Rattle.bh_cache.proofs.Earliest.{earliest_first, none_first as no_first}
 use Rattle.bh_tickets.specs.declared.group_slots.GroupSlots.{GroupSlots}
@@ -146,6 +146,54 @@ module _ (a : Slots) (ss : List GroupSlots) (i : ℕ) (s : GroupSlots) (whole : 
   pub shown_any : (p : Ticket → Bool) → list_any p (group_at (view_of a ss) i).items ≡ list_any p (tickets_of a s.lists)
   shown_any p = ap (λ (z : GroupTickets). list_any p z.items) (group_is a ss i s is)
 
+  module _ (p : Ticket → Bool) where
+    on_list : (l x : ℕ) → (is_on a 0 l x ≡ true → is_live a s.lists x ≡ true) → is_on a 0 l x ≡ true → has_one p (slice_get a.payloads x) ≡ true → list_any p (tickets_of a s.lists) ≡ true
+    on_list l x live on e = one_at (slice_get a.payloads x) refl e
+      where
+        one_at : (o : Option Ticket) → slice_get a.payloads x ≡ o → has_one p o ≡ true → list_any p (tickets_of a s.lists) ≡ true
+        one_at None read e = absurd cc
+        one_at (Some t) read e = any_in p (tickets_of a s.lists) t (is_in a s whole.arena (whole.each i s is) x t (ap (λ c. if c then slice_get a.payloads x else None) (live on) ∙ read)) e
+
+    -- where a ticket on a list of the group passes, contracts see one that passes
+    pub one_shown : (l : ℕ) → ((x : ℕ) → is_on a 0 l x ≡ true → is_live a s.lists x ≡ true) → any_at p a.payloads (slots_on a 0 l) ≡ true → true ≡ list_any p (group_at (view_of a ss) i).items
+    one_shown l live e =
+        let r = any_slot (λ x. has_one p (slice_get a.payloads x)) (slots_on a 0 l) e in
+        sym (shown_any p ∙ on_list l r.0 (live r.0) r.1 r.2)
+
+    -- a ticket of the group that passes does so on the list for its state
+    on_its_list : (x : ℕ) (u : Ticket) → ticket_at a s.lists x ≡ Some u → p u ≡ true → any_at p a.payloads (slots_on a 0 (list_for s.lists u.state)) ≡ true
+    on_its_list x u here e = slot_any (λ y. has_one p (slice_get a.payloads y)) (slots_on a 0 (list_for s.lists u.state)) x ((whole.each i s is).arranged.placed x u here) (ap (has_one p) (held_at a s.lists x u here).1 ∙ e)
+
+    -- where none passes on the list for the state of a ticket that does, contracts see none that passes
+    pub none_shown : ((u : Ticket) → p u ≡ true → any_at p a.payloads (slots_on a 0 (list_for s.lists u.state)) ≡ false) → false ≡ list_any p (group_at (view_of a ss) i).items
+    none_shown none = sym (shown_any p ∙ any_of_none p (tickets_of a s.lists) (λ u k. by u k (p u) refl))
+      where
+        never : true ≡ false → ⊥
+        never e = cc
+
+        by : (u : Ticket) → IsIn u (tickets_of a s.lists) → (b : Bool) → p u ≡ b → b ≡ false
+        by u k false e = refl
+        by u k true e =
+            let z = from_listed (ticket_at a s.lists) (length a.payloads) u k in
+            absurd (never (sym (on_its_list z.0 u z.2 e) ∙ none u e))
+
+    none_of_three : any_at p a.payloads (slots_on a 0 s.lists.queued) ≡ false → any_at p a.payloads (slots_on a 0 s.lists.running) ≡ false → any_at p a.payloads (slots_on a 0 s.lists.settled) ≡ false → false ≡ list_any p (group_at (view_of a ss) i).items
+    none_of_three q r t = none_shown (λ u e. at u.state)
+      where
+        at : (state : TicketState) → any_at p a.payloads (slots_on a 0 (list_for s.lists state)) ≡ false
+        at ticket.Queued = q
+        at ticket.Running = r
+        at (ticket.NeedsFallback c) = t
+        at (ticket.InFallback c) = t
+        at (ticket.Answered c) = t
+
+    -- whether one on the queue, one on the list of running ones or one on that of settled ones passes is whether contracts see one that passes
+    pub any_of_three : (b c d : Bool) → b ≡ any_at p a.payloads (slots_on a 0 s.lists.queued) → c ≡ any_at p a.payloads (slots_on a 0 s.lists.running) → d ≡ any_at p a.payloads (slots_on a 0 s.lists.settled) → (b || c || d) ≡ list_any p (group_at (view_of a ss) i).items
+    any_of_three true c d e f h = one_shown s.lists.queued (on_queued a s.lists) (sym e)
+    any_of_three false true d e f h = one_shown s.lists.running (on_running a s.lists) (sym f)
+    any_of_three false false true e f h = one_shown s.lists.settled (on_settled a s.lists) (sym h)
+    any_of_three false false false e f h = none_of_three (sym e) (sym f) (sym h)
+
   module _ (due : DueRule) where
     shown_due : (serial : ℕ) → list_any (λ u. u.serial == serial) (filter (is_due_by due) (group_at (view_of a ss) i).items) ≡ list_any (λ u. u.serial == serial && is_due_by due u) (tickets_of a s.lists)
     shown_due serial = ap (λ (z : GroupTickets). list_any (λ u. u.serial == serial) (filter (is_due_by due) z.items)) (group_is a ss i s is) ∙ any_filtered (λ u. u.serial == serial) (is_due_by due) (tickets_of a s.lists)
@@ -166,13 +214,6 @@ module _ (a : Slots) (ss : List GroupSlots) (i : ℕ) (s : GroupSlots) (whole : 
         by false e = sym (shown_due serial ∙ any_none (λ u. u.serial == serial && is_due_by due u) (tickets_of a s.lists) (other_first a s whole.arena (whole.each i s is) serial (is_due_by due) x t r.0 r.1 e))
 
     -- a ticket that is due is queued or running
-    on_list : (l x : ℕ) → (is_on a 0 l x ≡ true → is_live a s.lists x ≡ true) → is_on a 0 l x ≡ true → has_one (is_due_by due) (slice_get a.payloads x) ≡ true → list_any (is_due_by due) (tickets_of a s.lists) ≡ true
-    on_list l x live on e = one_at (slice_get a.payloads x) refl e
-      where
-        one_at : (o : Option Ticket) → slice_get a.payloads x ≡ o → has_one (is_due_by due) o ≡ true → list_any (is_due_by due) (tickets_of a s.lists) ≡ true
-        one_at None read e = absurd cc
-        one_at (Some t) read e = any_in (is_due_by due) (tickets_of a s.lists) t (is_in a s whole.arena (whole.each i s is) x t (ap (λ c. if c then slice_get a.payloads x else None) (live on) ∙ read)) e
-
     open_list : (u : Ticket) → is_due_by due u ≡ true → (list_for s.lists u.state ≡ s.lists.queued) ⊎ (list_for s.lists u.state ≡ s.lists.running)
     open_list u e = of u.state (and_third (is_of due.command u) due.timeout_on (is_queued u || is_running u) (nat_le due.timeout_ms (due.moment - u.submitted)) e)
       where
@@ -189,42 +230,20 @@ module _ (a : Slots) (ss : List GroupSlots) (i : ℕ) (s : GroupSlots) (whole : 
         of (ticket.InFallback c) e = absurd cc
         of (ticket.Answered c) e = absurd cc
 
-    on_either : (x : ℕ) (u : Ticket) → ticket_at a s.lists x ≡ Some u → is_due_by due u ≡ true → (any_at (is_due_by due) a.payloads (slots_on a 0 s.lists.queued) ≡ true) ⊎ (any_at (is_due_by due) a.payloads (slots_on a 0 s.lists.running) ≡ true)
-    on_either x u here e =
-        let passes : has_one (is_due_by due) (slice_get a.payloads x) ≡ true = ap (has_one (is_due_by due)) (held_at a s.lists x u here).1 ∙ e in
-        let lies : is_on a 0 (list_for s.lists u.state) x ≡ true = (whole.each i s is).arranged.placed x u here in
-        elim (open_list u e) [
-          | inl k ↦ inl (slot_any (λ x. has_one (is_due_by due) (slice_get a.payloads x)) (slots_on a 0 s.lists.queued) x (subst (λ l. is_on a 0 l x ≡ true) k lies) passes)
-          | inr k ↦ inr (slot_any (λ x. has_one (is_due_by due) (slice_get a.payloads x)) (slots_on a 0 s.lists.running) x (subst (λ l. is_on a 0 l x ≡ true) k lies) passes)
-        ]
-
     -- where a ticket on the queue is due, contracts see one that is due
     pub due_queued : any_at (is_due_by due) a.payloads (slots_on a 0 s.lists.queued) ≡ true → true ≡ list_any (is_due_by due) (group_at (view_of a ss) i).items
-    due_queued e =
-        let r = any_slot (λ x. has_one (is_due_by due) (slice_get a.payloads x)) (slots_on a 0 s.lists.queued) e in
-        sym (shown_any (is_due_by due) ∙ on_list s.lists.queued r.0 (on_queued a s.lists r.0) r.1 r.2)
+    due_queued e = one_shown (is_due_by due) s.lists.queued (on_queued a s.lists) e
 
     -- where a ticket on the list of running ones is due, contracts see one that is due
     pub due_running : any_at (is_due_by due) a.payloads (slots_on a 0 s.lists.running) ≡ true → true ≡ list_any (is_due_by due) (group_at (view_of a ss) i).items
-    due_running e =
-        let r = any_slot (λ x. has_one (is_due_by due) (slice_get a.payloads x)) (slots_on a 0 s.lists.running) e in
-        sym (shown_any (is_due_by due) ∙ on_list s.lists.running r.0 (on_running a s.lists r.0) r.1 r.2)
+    due_running e = one_shown (is_due_by due) s.lists.running (on_running a s.lists) e
 
     -- where no ticket on either list is due, contracts see none that is due
     pub due_nowhere : any_at (is_due_by due) a.payloads (slots_on a 0 s.lists.queued) ≡ false → any_at (is_due_by due) a.payloads (slots_on a 0 s.lists.running) ≡ false → false ≡ list_any (is_due_by due) (group_at (view_of a ss) i).items
-    due_nowhere q r = sym (shown_any (is_due_by due) ∙ any_of_none (is_due_by due) (tickets_of a s.lists) (λ u k. by u k (is_due_by due u) refl))
-      where
-        never : true ≡ false → ⊥
-        never e = cc
-
-        by : (u : Ticket) → IsIn u (tickets_of a s.lists) → (b : Bool) → is_due_by due u ≡ b → b ≡ false
-        by u k false e = refl
-        by u k true e =
-            let z = from_listed (ticket_at a s.lists) (length a.payloads) u k in
-            elim (on_either z.0 u z.2 e) [
-              | inl h ↦ absurd (never (sym h ∙ q))
-              | inr h ↦ absurd (never (sym h ∙ r))
-            ]
+    due_nowhere q r = none_shown (is_due_by due) (λ u e. elim (open_list u e) [
+      | inl k ↦ ap (λ l. any_at (is_due_by due) a.payloads (slots_on a 0 l)) k ∙ q
+      | inr k ↦ ap (λ l. any_at (is_due_by due) a.payloads (slots_on a 0 l)) k ∙ r
+    ])
 
     -- whether one on the queue or one on the list of running ones is due is whether contracts see one that is due
     pub due_either : (b c : Bool) → b ≡ any_at (is_due_by due) a.payloads (slots_on a 0 s.lists.queued) → c ≡ any_at (is_due_by due) a.payloads (slots_on a 0 s.lists.running) → (b || c) ≡ list_any (is_due_by due) (group_at (view_of a ss) i).items

@@ -18,3 +18,12 @@ pub mod AddedGroup
 pub mod Exists
 pub mod Uncached
 pub mod InPlace
+pub mod Vacant
+pub mod Shifted
+pub mod Taken
+pub mod Gathered
+pub mod Given
+pub mod NewGroup
+pub mod Rebuilt
+pub mod Ready
+pub mod SlotCounts

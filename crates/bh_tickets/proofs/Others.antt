@@ -10,14 +10,15 @@ use Rattle.bh_tickets.specs.declared.group_slots.GroupSlots.{GroupSlots}
 use Rattle.std.proofs.lemmas.Bool.{cases_eq}
 use Rattle.bh_cache.specs.Listed.{listed, put_in}
 use Rattle.bh_tickets.specs.Whole.{group_of, slotted, slot_in}
-use Rattle.bh_slot_arena.specs.Slots.{lists_in, slots_on}
+use Rattle.bh_slot_arena.specs.Slots.{slots_on}
 use Rattle.bh_cache.specs.Slots.{Slots, has, is_on, is_live, is_owned, ticket_at, tickets_of, list_for, serial_in, InOrder, count_below, IsOwn, IsApart, IsFrame, IsArena, has_one, one}
 use Rattle.bh_tickets.specs.GroupSlots.{IsNumbered, IsArranged, IsGroupSlots, count_at, is_any}
 use Rattle.bh_tickets.specs.Counts.{counts_of}
 use Rattle.bh_tickets.proofs.ByCommand.{counts_alike}
 use Rattle.bh_cache.proofs.Order.{order_same, count_same}
 use Rattle.bh_cache.specs.Chains.{IsChainFrame}
-use Rattle.bh_tickets.proofs.Chained.{KeepsOwn, chains_kept, names_apart, serials_apart}
+use Rattle.bh_tickets.specs.Same.{IsSame}
+use Rattle.bh_tickets.proofs.Chained.{chains_kept, names_apart, serials_apart}
 
 -- what holds of the three lists holds of that for a state
 pub each_list : (P : ℕ → Type 0) (g : GroupLists) → P g.queued → P g.running → P g.settled → (s : TicketState) → P (list_for g s)
@@ -43,15 +44,6 @@ frame_trans g a b c f h = record {
   lists = λ l out. h.lists l out ∙ f.lists l out;
   payloads = λ l x out on. h.payloads l x out (ap (has x) (f.lists l out) ∙ on) ∙ f.payloads l x out on;
 }
-
--- the lists of the group, and what lies on them, are as before
-pub record IsSame (g : GroupLists) (a b : Slots) : Type 0 where
-  pub slots : length a.payloads ≤ length b.payloads
-  pub count : length (lists_in a 0) ≤ length (lists_in b 0)
-  pub lists : (l : ℕ) → IsOwn g l → slots_on b 0 l ≡ slots_on a 0 l
-  pub payloads : (l x : ℕ) → IsOwn g l → is_on a 0 l x ≡ true → slice_get b.payloads x ≡ slice_get a.payloads x
-  pub serials : KeepsOwn 1 g.serials g.free1 a b
-  pub names : KeepsOwn 2 g.names g.free2 a b
 
 -- as for each group but the one that changed
 pub frame_same : (g h : GroupLists) (a b : Slots) → IsFrame g a b → IsChainFrame g a b → IsApart g h → IsSame h a b

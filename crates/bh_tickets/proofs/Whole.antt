@@ -1,7 +1,7 @@
 -- One group of many changes, and what is read of its tickets.
 use Rattle.std.proofs.Common.{◌≡◌, ℕ, zero, suc, ◌<◌, ◌≤◌, inl, inr, Bool, true, false, List, [], ◌∷◌, length, set, get_or, Option, Some, None, refl, ◌∙◌, sym, ap, subst, arith, length-set}
 use Rattle.std.proofs.lemmas.List.Sums.{sum_by-cons}
-use Rattle.std.specs.Prelude.{◌≢◌, ◌^◌, sum_by, slice_get, find, count_by, if◌then◌else◌}
+use Rattle.std.specs.Prelude.{◌≢◌, ◌^◌, slice_get, find, count_by, if◌then◌else◌}
 use Rattle.std.specs.Option.{option_map}
 use Rattle.std.proofs.lemmas.Bool.{cases_eq, cases_lt, eq-eqb, ne_eqb}
 use Rattle.std.proofs.lemmas.List.{length-map}
@@ -15,7 +15,7 @@ use Rattle.bh_tickets.specs.GroupSlots.{IsGroupSlots, IsGroupChange, IsPut, CanB
 use Rattle.bh_tickets.specs.declared.changes.TicketChange.{TicketChange}
 use Rattle.bh_tickets.specs.Changes.{changed_by}
 use Rattle.bh_tickets.specs.TicketsView.{TicketsView, GroupTickets, ChangesOnly, CanPush, at_in, in_slot, group_at}
-use Rattle.bh_tickets.specs.Whole.{group_of, groups_of, view_of, slotted, slot_in, AreGroupSlots, IsChanged, CanChange}
+use Rattle.bh_tickets.specs.Whole.{group_of, groups_of, rooms, view_of, slotted, slot_in, AreGroupSlots, IsWhole, IsChanged, CanChange}
 use Rattle.bh_cache.proofs.Listed.{changed_is_map}
 use Rattle.bh_cache.proofs.Order.{count_le, length_listed}
 use Rattle.bh_cache.proofs.Counts.{count_listed}
@@ -56,10 +56,6 @@ pub get_is : (ss : List GroupSlots) (i : ℕ) (s : GroupSlots) → i < length ss
 get_is [] i s lt e = absurd (omega (arith, lt))
 get_is (y ∷ ys) zero s lt e = ap Some (sym e)
 get_is (y ∷ ys) (suc i) s lt e = get_is ys i s (omega (arith, lt)) e
-
--- the room of all groups
-abbrev pub rooms : List GroupSlots → ℕ
-rooms ss = sum_by (λ (s : GroupSlots). s.slots.max) ss
 
 -- a part in place of one with as much room leaves the room of all groups as it was
 pub rooms_set : (ss : List GroupSlots) (i : ℕ) (s r : GroupSlots) → slice_get ss i ≡ Some s → r.slots.max ≡ s.slots.max → rooms (set ss i r) ≡ rooms ss
@@ -102,7 +98,6 @@ module _ (a b : Slots) (ss : List GroupSlots) (i : ℕ) (s r : GroupSlots) (whol
         | inr nl ↦ whole.apart j l k m (sym (set_other ss i j r nj) ∙ e) (sym (set_other ss i l r nl) ∙ f) ne
       ]
     ];
-    slots = change.frame.slots ∙ whole.slots ∙ sym (rooms_set ss i s r is change.room);
   }
 
   -- contracts see each other group as it was
@@ -120,6 +115,34 @@ module _ (a b : Slots) (ss : List GroupSlots) (i : ℕ) (s r : GroupSlots) (whol
   -- contracts see as many groups as before
   pub same_count : length (groups_of b (set ss i r)) ≡ length (groups_of a ss)
   same_count = length-map (set ss i r) (group_of b) ∙ length-set ss i r ∙ sym (length-map ss (group_of a))
+
+-- ---- the groups beside the spare slots
+
+-- the groups are as they should be
+pub groups_in : {a : Slots} {spare : Option GroupSlots} {ss : List GroupSlots} → IsWhole a spare ss → AreGroupSlots a ss
+groups_in {spare = None} whole = whole.all
+groups_in {spare = Some p} whole = record {
+  arena = whole.all.arena;
+  each = λ i s e. whole.all.each (suc i) s e;
+  apart = λ i j s r e f ne. whole.all.apart (suc i) (suc j) s r e f (λ q. ne (let k : i ≡ j = omega (arith, q) in k));
+}
+
+-- once one group has changed, the spare slots and all groups are as they should be again
+pub kept : (a b : Slots) (spare : Option GroupSlots) (ss : List GroupSlots) (i : ℕ) (s r : GroupSlots) → IsWhole a spare ss → slice_get ss i ≡ Some s → IsGroupChange a s b r → IsWhole b spare (set ss i r)
+kept a b None ss i s r whole is change = absurd (no_group ss i s (whole.first refl) is)
+  where
+    no_group : (ss : List GroupSlots) (i : ℕ) (s : GroupSlots) → ss ≡ [] → slice_get ss i ≡ Some s → ⊥
+    no_group [] i s none e = cc
+    no_group (y ∷ ys) i s none e = cc
+kept a b (Some p) ss i s r whole is change = record {
+  all = whole_kept a b (p ∷ ss) (suc i) s r whole.all is change;
+  slots = change.frame.slots ∙ whole.slots ∙ sym (rooms_set (p ∷ ss) (suc i) s r is change.room);
+  free = whole.free;
+  first = λ e. absurd (some_there e);
+}
+  where
+    some_there : Some p ≡ None → ⊥
+    some_there e = cc
 
 -- ---- what is read
 

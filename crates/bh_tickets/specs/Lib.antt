@@ -5,3 +5,5 @@ pub mod GroupSlots
 pub mod Whole
 pub mod Sweeps
 pub mod Growth
+pub mod Same
+pub mod Spare

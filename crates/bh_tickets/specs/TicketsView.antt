@@ -1,5 +1,5 @@
 -- What contracts see of the tickets of all groups.
-use Rattle.std.specs.Prelude.{◌≡◌, ◌≢◌, ℕ, ◌^◌, ◌<◌, Bool, true, List, [], length, find, sum_by, Option, Some, None, slice_get, slice_index_or, eqb, if◌then◌else◌, ◌∷◌}
+use Rattle.std.specs.Prelude.{◌≡◌, ◌≢◌, ℕ, ◌+◌, ◌^◌, ◌<◌, ◌||◌, Bool, true, nat_lt, List, [], length, find, sum_by, Option, Some, None, slice_get, slice_index_or, eqb, if◌then◌else◌, ◌∷◌}
 use Rattle.bh_base.specs.declared.ticket.Ticket.{Ticket}
 use Rattle.bh_base.specs.Tickets.{is_kept}
 
@@ -26,6 +26,10 @@ no_tickets_in room = record { items = []; room = room; next = 1; slots = [] }
 -- the tickets of the group of the number
 abbrev pub group_at : TicketsView → ℕ → GroupTickets
 group_at v group = slice_index_or v.groups group (no_tickets_in 0)
+
+-- a run of the ticket has not ended, or someone has still to collect its answer
+abbrev pub is_used : Ticket → Bool
+is_used t = t.busy || nat_lt 0 t.holders
 
 -- the slots of all groups
 abbrev pub slots_of : TicketsView → ℕ
@@ -58,6 +62,14 @@ pub record ChangesOnly (group : ℕ) (old new : TicketsView) : Type 0 where
   pub count : length new.groups ≡ length old.groups
   pub room : (group_at new group).room ≡ (group_at old group).room
   pub next : (group_at new group).next ≡ (group_at old group).next
+
+-- so many slots were taken for a group without tickets at the place, which no group had
+pub record HasPlace (place count : ℕ) (old new : TicketsView) : Type 0 where
+  pub vacant : (group_at old place).room ≡ 0
+  pub here : slice_get new.groups place ≡ Some (no_tickets_in count)
+  pub others : (g : ℕ) → g ≢ place → slice_get new.groups g ≡ slice_get old.groups g
+  pub limit : new.limit ≡ old.limit
+  pub slots : slots_of new ≡ slots_of old + count
 
 -- a ticket of the next serial and of a command below 16 that somebody needs, where a slot is free
 pub record CanPush (g : GroupTickets) (v : Ticket) : Type 0 where

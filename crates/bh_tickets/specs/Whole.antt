@@ -4,7 +4,7 @@ use Rattle.bh_base.specs.declared.ticket.Ticket.{Ticket}
 use Rattle.bh_base.specs.Tickets.{changed_first}
 use Rattle.bh_tickets.specs.declared.group_slots.GroupSlots.{GroupSlots}
 use Rattle.bh_cache.specs.Slots.{Slots, ticket_at, tickets_of, IsArena, IsApart}
-use Rattle.bh_tickets.specs.GroupSlots.{IsGroupSlots}
+use Rattle.bh_tickets.specs.GroupSlots.{IsGroupSlots, no_slot_taken}
 use Rattle.bh_tickets.specs.declared.changes.TicketChange.{TicketChange}
 use Rattle.bh_tickets.specs.Changes.{IsAllowed, changed_by}
 use Rattle.bh_tickets.specs.TicketsView.{TicketsView, GroupTickets, ChangesOnly, group_at, in_slot, IsFirstAt}
@@ -34,7 +34,22 @@ pub record AreGroupSlots (a : Slots) (ss : List GroupSlots) : Type 0 where
   pub arena : IsArena a 0
   pub each : (i : ℕ) (s : GroupSlots) → slice_get ss i ≡ Some s → IsGroupSlots a s
   pub apart : (i j : ℕ) (s r : GroupSlots) → slice_get ss i ≡ Some s → slice_get ss j ≡ Some r → i ≢ j → IsApart s.lists r.lists
-  pub slots : length a.payloads ≡ sum_by (λ (s : GroupSlots). s.slots.max) ss
+
+-- the room of all groups
+abbrev pub rooms : List GroupSlots → ℕ
+rooms ss = sum_by (λ (s : GroupSlots). s.slots.max) ss
+
+-- the groups, and before them the spare slots as those of one group more
+abbrev pub with_spare : Option GroupSlots → List GroupSlots → List GroupSlots
+with_spare None ss = ss
+with_spare (Some p) ss = p ∷ ss
+
+-- the spare slots and those of all groups: none of the spare ones has a ticket, and all are there once there is a group
+pub record IsWhole (a : Slots) (spare : Option GroupSlots) (ss : List GroupSlots) : Type 0 where
+  pub all : AreGroupSlots a (with_spare spare ss)
+  pub slots : length a.payloads ≡ rooms (with_spare spare ss)
+  pub free : (p : GroupSlots) → spare ≡ Some p → p ≡ no_slot_taken p.lists p.slots.max
+  pub first : spare ≡ None → ss ≡ []
 
 -- the slot has a ticket to which that may happen
 pub record CanChange (g : GroupTickets) (slot : ℕ) (change : TicketChange) : Type 0 where

@@ -64,8 +64,8 @@ pub fn add_slots(
     Ok(())
 }
 
-/// What lies in a slot that never had a ticket.
-fn blank_ticket() -> Ticket {
+/// What lies in a slot that has no ticket.
+pub fn blank_ticket() -> Ticket {
     Ticket {
         serial: 0,
         command: 0,

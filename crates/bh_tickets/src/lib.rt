@@ -4,12 +4,13 @@
 
 mod changes;
 mod counts;
-mod due;
 mod group_slots;
 mod growth;
+mod spare;
 mod states;
 mod sweeps;
 mod tickets;
+mod walks;
 
 pub use states::{DueRule, is_running, is_unanswered};
 pub use tickets::Tickets;

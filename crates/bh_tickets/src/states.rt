@@ -3,6 +3,7 @@
 ghost use Rattle.std.specs.Prelude.{◌≡◌, ◌-◌, ◌<◌, nat_lt};
 ghost use Rattle.bh_base.specs.Tickets.{is_in_fallback, is_kept, is_queued, is_running, is_unanswered};
 ghost use Rattle.bh_tickets.specs.Changes.{is_due_by};
+ghost use Rattle.bh_tickets.specs.TicketsView.{is_used};
 
 use bh_base::{Moment, Ticket, TicketState};
 
@@ -52,6 +53,13 @@ pub fn is_held(ticket: &Ticket) -> bool
     ensures { result ≡ nat_lt 0 ticket.now.holders }
 {
     0 < ticket.holders
+}
+
+/// Whether the ticket's run has not ended, or someone has still to collect its answer.
+pub fn is_used(ticket: &Ticket) -> bool
+    ensures { result ≡ is_used ticket.now }
+{
+    ticket.busy || is_held(ticket)
 }
 
 /// Whether somebody needs the ticket.

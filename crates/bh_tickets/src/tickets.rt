@@ -1,22 +1,23 @@
 //! The tickets of all groups.
 
 ghost use Rattle.std.specs.List.{list_any};
-ghost use Rattle.std.specs.Prelude.{◌≡◌, ◌≢◌, ℕ, ◌+◌, ◌-◌, ◌^◌, ◌<◌, ◌≤◌, ◌==◌, ◌&&◌, Bool, [], ◌∷◌, ◌++◌, count_by, filter, find, false, length, map, nat_le, slice_get, IfSome, None, OnErr, OnOk, Some};
+ghost use Rattle.std.specs.Prelude.{◌≡◌, ◌≢◌, ℕ, ◌+◌, ◌-◌, ◌^◌, ◌<◌, ◌≤◌, ◌==◌, ◌&&◌, Bool, [], ◌∷◌, ◌++◌, count_by, filter, find, false, length, map, nat_le, slice_get, slice_set, IfOk, IfSome, None, OnErr, Some};
 ghost use Rattle.bh_base.specs.declared.ticket.Ticket.{Ticket};
 ghost use Rattle.bh_base.specs.declared.ticket.TicketState.TheVariants as ticket;
 ghost use Rattle.bh_base.specs.Machine.{released_by_one};
 ghost use Rattle.bh_base.specs.Tickets.{changed_first, in_state, is_busy_at, is_cached_as, is_cached_in, is_held_at, is_in_fallback, is_in_fallback_at, is_kept, is_of, is_queued};
 ghost use Rattle.bh_cache.specs.Cache.{uncached_in};
 ghost use Rattle.bh_tickets.specs.Changes.{answered, fallback_started, is_due_by, joined, queued_in, run_settled, run_started, run_stopped, timed_out_by};
-ghost use Rattle.bh_tickets.specs.TicketsView.{CanPush, ChangesOnly, IsFirstAt, IsThere, group_at, in_slot, no_tickets_in, slots_of};
+ghost use Rattle.bh_tickets.specs.TicketsView.{CanPush, ChangesOnly, HasPlace, IsFirstAt, IsThere, group_at, in_slot, is_used, no_tickets_in, slots_of};
 ghost use Rattle.bh_tickets.specs.Whole.{CanChange, IsChanged};
 
 use crate::changes::TicketChange;
-use crate::due::any_due_on;
 use crate::group_slots::{self, GroupSlots, add, drop_cached};
-use crate::growth::{add_lists, add_slots, new_arena};
+use crate::growth::new_arena;
+use crate::spare::{give_slots, ready_spare, take_place, take_slots, vacant};
 use crate::states::{DueRule, is_due, is_held, is_in_fallback};
 use crate::sweeps::{release, time_out};
+use crate::walks::{any_due_on, any_used_on};
 use bh_base::{Answer, Cause, Serial, Text, Ticket, TicketState};
 use bh_cache::find_serial;
 use bh_slot_arena::Arena;
@@ -27,18 +28,20 @@ use std::marker::Model;
 #[derive(Drop)]
 pub struct Tickets {
     arena: Arena<Ticket, 3>,
+    /// The slots of retired groups, as those of a group without tickets.
+    spare: Option<GroupSlots>,
     groups: Vec<GroupSlots>,
 }
 
 impl Model for Tickets {
     ghost use Rattle.bh_tickets.specs.TicketsView.{TicketsView};
-    ghost use Rattle.bh_tickets.specs.Whole.{view_of, AreGroupSlots};
+    ghost use Rattle.bh_tickets.specs.Whole.{view_of, IsWhole};
 
     ghost Value = { TicketsView };
 
     ghost view = { λ ts. view_of ts.arena ts.groups.items };
 
-    ghost invariant = { λ ts. AreGroupSlots ts.arena ts.groups.items };
+    ghost invariant = { λ ts. IsWhole ts.arena ts.spare ts.groups.items };
 }
 
 impl Tickets {
@@ -48,31 +51,57 @@ impl Tickets {
     {
         Tickets {
             arena: new_arena(alloc, limit),
+            spare: None,
             groups: Vec::new(alloc),
         }
     }
 
-    /// Whether so many slots more are within the limit.
+    /// Whether so many slots more are within the limit. Slots of retired groups do not count.
     pub fn has_slots_for(&self, slots: u64) -> bool
         requires { slots ≤ 4096 }
         ensures { result ≡ nat_le (slots_of self.now + slots) self.now.limit }
     {
-        self.arena.has_room_for(slots as u32)
+        let spare = match &self.spare {
+            Some(part) => self.arena.len_of(0, part.lists.free) as u64,
+            None => 0,
+        };
+        self.arena.partition(0);
+        slots <= spare || self.arena.has_room_for((slots - spare) as u32)
     }
 
-    /// A group more, with so many slots and no ticket. It takes all the memory that the group's tickets will need.
+    /// A place for a group with so many slots and no ticket: one that a retired group left, else a new one behind the
+    /// others. Slots of retired groups are taken first. It takes all the memory that the group's tickets will need.
     /// Refused, nothing has changed.
-    pub fn add_group(&mut self, slots: u64) -> Result<(), AllocError>
+    pub fn add_group(&mut self, slots: u64) -> Result<usize, AllocError>
         requires few { slots ≤ 4096 }
         requires within { slots_of self.old + slots ≤ self.old.limit }
-        ensures ok { OnOk result (self.new ≡ record self.old { groups = self.old.groups ++ no_tickets_in slots ∷ [] }) }
+        ensures ok { IfOk result (λ place. HasPlace place slots self.old self.new) }
         ensures err { OnErr result (self.new ≡ self.old) }
     {
-        self.groups.reserve(1)?;
-        let lists = add_lists(&mut self.arena)?;
-        add_slots(&mut self.arena, &lists, slots as u32)?;
-        self.groups.push_reserved(GroupSlots::new(lists, slots));
-        Ok(())
+        let from = ready_spare(&mut self.arena, &mut self.spare, slots)?;
+        let place = take_place(&mut self.arena, &mut self.groups)?;
+        let to = self.groups[place].lists;
+        take_slots(&mut self.arena, &from, &to, slots);
+        self.arena.partition(0);
+        self.spare = Some(vacant(&self.arena, &from));
+        self.groups[place] = vacant(&self.arena, &to);
+        Ok(place)
+    }
+
+    /// The group at the place is retired: its tickets are gone, its slots are there for others, and the place is left. It
+    /// takes no memory.
+    pub fn retire_group(&mut self, place: usize)
+        requires { place < length self.old.groups }
+        ensures { self.new ≡ record self.old { groups = slice_set self.old.groups place (no_tickets_in 0) } }
+    {
+        let Some(spare) = self.spare else {
+            return;
+        };
+        let group = self.groups[place];
+        give_slots(&mut self.arena, &group, &spare.lists);
+        self.arena.partition(0);
+        self.spare = Some(vacant(&self.arena, &spare.lists));
+        self.groups[place] = vacant(&self.arena, &group.lists);
     }
 
     /// How many tickets a group has.
@@ -223,6 +252,17 @@ impl Tickets {
         let entry = &self.groups[group];
         any_due_on(&self.arena, entry.lists.queued, due)
             || any_due_on(&self.arena, entry.lists.running, due)
+    }
+
+    /// Whether a run of a ticket has not ended, or someone has still to collect an answer.
+    pub fn any_used(&self, group: usize) -> bool
+        requires { group < length self.now.groups }
+        ensures { result ≡ list_any is_used (group_at self.now group).items }
+    {
+        let entry = &self.groups[group];
+        any_used_on(&self.arena, entry.lists.queued)
+            || any_used_on(&self.arena, entry.lists.running)
+            || any_used_on(&self.arena, entry.lists.settled)
     }
 
     /// The ticket in the slot.

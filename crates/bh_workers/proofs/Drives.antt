@@ -1,7 +1,7 @@
 -- What all threads of a drive add up to.
 use Rattle.std.proofs.Common.{◌≡◌, ◌≢◌, ℕ, zero, suc, ◌+◌, ◌*◌, ◌<◌, ◌≤◌, Bool, true, false, List, [], ◌∷◌, ◌++◌, length, map, take, drop, slice_get, Some, None, ◌⊎◌, inl, inr, refl, sym, ap, ◌∙◌, append_assoc, append-nil, length-append, subst, arith}
-use Rattle.std.specs.Prelude.{All, Any, HoldsAt, IfOk, MatchBool, Ok, Err, Result, if◌then◌else◌, vec_items}
-use Rattle.std.specs.List.{AllByRecursion, AllWithin}
+use Rattle.std.specs.Prelude.{IfOk, Ok, Err, Result, if◌then◌else◌, vec_items}
+use Rattle.std.specs.List.{AllByRecursion}
 use Rattle.std.specs.declared.thread.PromisedHandle.{PromisedHandle}
 use Rattle.std.proofs.lemmas.List.{take-append-le, take_all}
 use Rattle.bh_base.specs.declared.step.GroupId.{GroupId}
@@ -22,7 +22,7 @@ use Rattle.bh_workers.specs.declared.driving.Driven.{Driven}
 use Rattle.bh_workers.specs.declared.driving.RequestList.{RequestList}
 use Rattle.bh_workers.specs.Receipts.{Gains, kept}
 use Rattle.bh_workers.specs.Calls.{IsCall, MarksAre}
-use Rattle.bh_workers.specs.Callers.{AllCallers, CalledAs, IsCallerOf, MakesCall}
+use Rattle.bh_workers.specs.Callers.{AllCallers, ArePassesOf, CalledAs, IsCallerOf, MakesCall, first_pass}
 use Rattle.bh_workers.specs.Driving.{AreCallers, AreCalls, FindRoom, HasRoomFor, IsCaller, IsDriven, IsMarked, IsTimerPass, IsWorkerPass, NoneIsFull}
 use Rattle.bh_workers.specs.Timing.{AreExpiries, AreTimed}
 
@@ -206,17 +206,44 @@ get_snoc (x ∷ xs) y zero z e = inl e
 get_snoc (x ∷ xs) y (suc k) z e = elim (get_snoc xs y k z e) [ inl h ↦ inl h | inr h ↦ inr (ap suc h.0, h.1) ]
 
 -- one more caller was started
-pub callers_push : {D C : Type 0} (a : Bool) (room : ℕ) (lists : List RequestList) (hs : List (PromisedHandle Called (CallerOf D C))) (h : PromisedHandle Called (CallerOf D C)) (i : ℕ) (l : RequestList)
-    → AllCallers a room lists hs → length hs ≡ i → slice_get lists i ≡ Some l → IsCallerOf a room l h.promise → AllCallers a room lists (hs ++ h ∷ [])
-callers_push {D} {C} a room lists hs h i l all len here is k l' h' atl ath =
+pub callers_push : {D C : Type 0} (a : Bool) (lists : List RequestList) (passes : List PassView) (hs : List (PromisedHandle Called (CallerOf D C))) (h : PromisedHandle Called (CallerOf D C)) (i : ℕ) (l : RequestList) (p : PassView)
+    → AllCallers a lists passes hs → length hs ≡ i → slice_get lists i ≡ Some l → slice_get passes i ≡ Some p → IsCallerOf a l p h.promise → AllCallers a lists passes (hs ++ h ∷ [])
+callers_push {D} {C} a lists passes hs h i l p all len listed taken is k l' p' h' atl atp ath =
     elim (get_snoc hs h k h' ath) [
-      | inl old ↦ all k l' h' atl old
+      | inl old ↦ all k l' p' h' atl atp old
       | inr w ↦
-          let same : l ≡ l' = one_item (slice_get lists k) l l' (ap (slice_get lists) (w.0 ∙ len) ∙ here) atl in
-          let P : PromisedHandle Called (CallerOf D C) → Type 0 = λ x. IsCallerOf a room l' x.promise in
-          let Q : RequestList → Type 0 = λ x. IsCallerOf a room x h.promise in
-          subst P w.1 (subst Q same is)
+          let same_list : l ≡ l' = one_item (slice_get lists k) l l' (ap (slice_get lists) (w.0 ∙ len) ∙ listed) atl in
+          let same_pass : p ≡ p' = one_item (slice_get passes k) p p' (ap (slice_get passes) (w.0 ∙ len) ∙ taken) atp in
+          let H : PromisedHandle Called (CallerOf D C) → Type 0 = λ x. IsCallerOf a l' p' x.promise in
+          let L : RequestList → Type 0 = λ x. IsCallerOf a x p' h.promise in
+          let P : PassView → Type 0 = λ x. IsCallerOf a l x h.promise in
+          subst H w.1 (subst L same_list (subst P same_pass is))
     ]
+
+-- the first item of what is left of a list
+pub first_left : {X : Type 0} (xs : List X) (i : ℕ) (x : X) (rest : List X) → drop i xs ≡ x ∷ rest → (slice_get xs i ≡ Some x) × (drop (suc i) xs ≡ rest)
+first_left [] zero x rest e = absurd (let h : [] ≡ x ∷ rest = e in cc)
+first_left [] (suc i) x rest e = absurd (let h : [] ≡ x ∷ rest = e in cc)
+first_left (y ∷ ys) zero x rest e = let h : y ∷ ys ≡ x ∷ rest = e in (cc, cc)
+first_left (y ∷ ys) (suc i) x rest e = first_left ys i x rest e
+
+-- there are as many passes as lists
+pub same_number : (lists : List RequestList) (passes : List PassView) → ArePassesOf lists passes → length lists ≡ length passes
+same_number [] [] all = refl
+same_number [] (p ∷ passes) all = absurd all
+same_number (l ∷ lists) [] all = absurd all
+same_number (l ∷ lists) (p ∷ passes) all = ap suc (same_number lists passes all.1)
+
+-- the item of a list of which each was made of one of another
+pub made_of : {X Y : Type 0} (f : X → Y) (xs : List X) (k : ℕ) (x : X) → slice_get xs k ≡ Some x → slice_get (map f xs) k ≡ Some (f x)
+made_of f [] k x at = absurd (let h : None ≡ Some x = at in cc)
+made_of f (y ∷ ys) zero x at = let h : Some y ≡ Some x = at in cc
+made_of f (y ∷ ys) (suc k) x at = made_of f ys k x at
+
+-- the passes that are made for lists are theirs
+pub first_passes : (a : Bool) (room : ℕ) (lists : List RequestList) → ArePassesOf lists (map (first_pass a room) lists)
+first_passes a room [] = tt
+first_passes a room (l ∷ lists) = ((refl, refl), first_passes a room lists)
 
 -- the same in equal words
 pub called_as : (ends : GroupId → ℕ → List ℕ → RunEnd → Type 0) (fallback_ends : GroupId → ℕ → Cause → List ℕ → FallbackEnd → Type 0) (moments : ℕ → Type 0) (a a' : Bool) (g g' : GroupId) (n n' : ℕ) (qs qs' : List Request) (r r' : Called)
@@ -254,17 +281,3 @@ pub found_from : {E : Type 0} (a : Bool) (room : ℕ) (lists : List RequestList)
     → IfOk result (λ d. FindRoom a room lists (map vec_items d.answers.items))
 found_from a room lists called (Ok d) answers found = rw answers found
 found_from a room lists called (Err e) answers found = tt
-
--- a list that is so is found in all of them
-list_at : (IsSo : RequestList → Type 0) (lists : List RequestList) (k : ℕ) → k < length lists → HoldsAt IsSo lists k → Any IsSo lists
-list_at IsSo [] k lt so = absurd (omega arith)
-list_at IsSo (l ∷ lists) zero lt so = (zero, l, lt, refl, so l)
-list_at IsSo (l ∷ lists) (suc k) lt so =
-    let w = list_at IsSo lists k (omega arith) so in
-    (suc w.0, w.1, (let h = w.2 in omega arith), w.3, w.4)
-
--- what was found of the lists, in other words
-pub found_or_all : (found : Bool) (IsSo Else : RequestList → Type 0) (lists : List RequestList)
-    → MatchBool found ((k : ℕ) × (k < length lists) × HoldsAt IsSo lists k) (AllWithin Else lists 0 (length lists)) → MatchBool found (Any IsSo lists) (All Else lists)
-found_or_all true IsSo Else lists h = list_at IsSo lists h.0 h.1 h.2
-found_or_all false IsSo Else lists h = λ k d lt. h k d (omega arith) lt

@@ -1,5 +1,5 @@
 -- What comes back from a drive.
-use Rattle.std.specs.Prelude.{◌≡◌, ◌≢◌, ℕ, ◌*◌, ◌<◌, ◌≤◌, Bool, true, List, [], ◌∷◌, ◌++◌, ◌⊎◌, Result, Err, Vec, IfOk, length, map, vec_items}
+use Rattle.std.specs.Prelude.{◌≡◌, ◌≢◌, ℕ, ◌*◌, ◌≤◌, Bool, true, List, [], ◌∷◌, ◌++◌, ◌⊎◌, Result, Err, Vec, IfOk, length, map, vec_items}
 use Rattle.std.specs.List.{AllByRecursion}
 use Rattle.bh_base.specs.declared.step.GroupId.{GroupId}
 use Rattle.bh_base.specs.declared.step.FallbackEnd.{FallbackEnd}
@@ -21,14 +21,6 @@ use Rattle.bh_workers.specs.declared.threads.ThreadError.TheVariants as thread_e
 use Rattle.bh_workers.specs.Calls.{EndsInFallback, IsCall}
 use Rattle.bh_workers.specs.Timing.{AreExpiries}
 use Rattle.bh_workers.specs.Work.{IsWork}
-
--- the group of the list is not registered in a service of so many groups
-abbrev pub IsUnknown : ℕ → RequestList → Type 0
-IsUnknown groups l = groups ≤ l.group.0
-
--- it is registered there
-abbrev pub IsKnown : ℕ → RequestList → Type 0
-IsKnown groups l = l.group.0 < groups
 
 -- what a drive answers where its threads give nothing back
 abbrev pub told_as : ThreadError → DriveError

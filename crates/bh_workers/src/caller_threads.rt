@@ -1,15 +1,15 @@
 //! The threads of callers: each makes the requests of one list.
 
-ghost use Rattle.std.specs.Prelude.{◌≡◌, ◌≤◌, [], All, IfOk, length, vec_capacity, vec_len};
-ghost use Rattle.bh_workers.specs.Callers.{AllCallers, CalledAs};
-ghost use Rattle.bh_workers.specs.Driving.{IsKnown};
+ghost use Rattle.std.specs.Prelude.{◌≡◌, ◌≤◌, [], Err, IfOk, length, map, vec_capacity, vec_len};
+ghost use Rattle.bh_audit.specs.declared.next.PassError.TheVariants.{NoGroup};
+ghost use Rattle.bh_workers.specs.Callers.{AllCallers, ArePassesOf, CalledAs, first_pass};
 
 use crate::caller::call;
 use crate::dependency::Dependency;
 use crate::driving::RequestList;
 use crate::environment::Environment;
-use crate::threads::{ThreadError, pass_of};
-use bh_audit::{Clock, Pass, Shared};
+use crate::threads::ThreadError;
+use bh_audit::{Clock, Pass, PassError, Shared};
 use bh_base::{Answer, CallError, GroupId, Request, push_within};
 use std::alloc::Global;
 use std::marker::PhantomData;
@@ -37,7 +37,27 @@ impl<'a, D: Dependency, C: Clock> Promise<Called> for CallerOf<'a, D, C> {
     ghost kept_by = { λ p r. CalledAs D.ends D.fallback_ends C.moments p.audited p.group p.room p.requests.now r };
 }
 
-/// Starts a caller for each list.
+/// The passes of the callers, one for each list. The error is that of the first pass that was refused: `NoGroup` where
+/// the group of its list is not registered, else `Memory`.
+pub(crate) fn caller_passes<R: Wait>(
+    rt: &R,
+    shared: &Shared,
+    alloc: Global,
+    lists: &[RequestList],
+    room: u64,
+) -> Result<Vec<Pass>, PassError>
+    ensures passes { IfOk result (λ v. v.items ≡ map (first_pass shared.now.audited room) lists.now) }
+    ensures listed { result ≡ Err NoGroup → 1 ≤ length lists.now }
+{
+    let mut passes = Vec::with_capacity(alloc, lists.len())?;
+    for list in lists {
+        let pass = shared.pass(rt, alloc, list.group, room)?;
+        passes.push_reserved(pass);
+    }
+    Ok(passes)
+}
+
+/// Starts a caller for each list, with its pass.
 pub(crate) fn start_callers<
     's,
     'e,
@@ -49,20 +69,19 @@ pub(crate) fn start_callers<
     scope: &'s Scope<'s, &'e ()>,
     alloc: Global,
     lists: &'e [RequestList],
-    room: u64,
+    passes: Vec<Pass>,
 ) -> Result<Vec<PromisedHandle<Called, CallerOf<'e, D, C>>>, ThreadError>
-    requires { All (IsKnown environment.now.shared.now.groups) lists.now }
+    requires { ArePassesOf lists.now passes.items }
     ensures len { IfOk result (λ v. vec_len v ≡ length lists.now) }
-    ensures each { IfOk result (λ v. AllCallers environment.now.shared.now.audited room lists.now v.items) }
+    ensures each { IfOk result (λ v. AllCallers environment.now.shared.now.audited lists.now passes.items v.items) }
 {
     let mut handles = Vec::with_capacity(alloc, lists.len())?;
     let (rt, shared) = (environment.rt, environment.shared);
     let (dependency, clock) = (environment.dependency, environment.clock);
     let audited = shared.audited();
-    for list in lists {
+    for (list, pass) in lists.iter().zip(passes) {
         let group = list.group;
         let requests = list.requests.as_slice();
-        let pass = pass_of(shared, alloc, group, room)?;
         let answers = Vec::with_capacity(alloc, requests.len())?;
         let promise: CallerOf<'e, D, C> = CallerOf {
             audited,

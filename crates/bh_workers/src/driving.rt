@@ -1,17 +1,18 @@
 //! A drive: all threads of a service, from the first request to the last answer.
 
-ghost use Rattle.std.specs.Prelude.{◌≡◌, ◌↔◌, ◌++◌, All, Any, Err, IfOk, MatchBool, map, vec_items};
+ghost use Rattle.std.specs.Prelude.{◌≡◌, ◌≤◌, ◌++◌, Err, IfOk, length, map, vec_items};
 ghost use Rattle.std.specs.List.{AllByRecursion};
-ghost use Rattle.bh_workers.specs.Driving.{FindRoom, IsDriven, IsKnown, IsUnknown, IsWorked, IsWorkerPass};
+ghost use Rattle.bh_workers.specs.Callers.{first_pass};
+ghost use Rattle.bh_workers.specs.Driving.{FindRoom, IsDriven, IsWorked, IsWorkerPass};
 ghost use Rattle.bh_workers.specs.declared.caller_threads.Called.{Called};
 ghost use Rattle.bh_workers.specs.declared.driving.DriveError.TheVariants.{NoGroup};
 
-use crate::caller_threads::{Called, start_callers};
+use crate::caller_threads::{Called, caller_passes, start_callers};
 use crate::dependency::{Dependency, Pace};
 use crate::environment::Environment;
 use crate::service_threads::{Worked, start_timer, start_workers};
 use crate::threads::ThreadError;
-use bh_audit::{Clock, Pass, Shared};
+use bh_audit::{Clock, Pass, PassError, Shared};
 use bh_base::{Answer, CallError, GroupId, Request};
 use std::alloc::{AllocError, Global};
 use std::sync::Wait;
@@ -38,7 +39,7 @@ pub struct Driven {
 /// Why a drive gives nothing back.
 #[derive(Clone, Copy, Debug, PartialEq, Eq, Error)]
 pub enum DriveError {
-    /// The group of a list is not registered; no thread was started.
+    /// The group of a list is not registered, or was retired; no thread was started.
     #[error("no such group")]
     NoGroup,
     /// There is not enough memory for the passes and answers.
@@ -67,11 +68,16 @@ impl From<ThreadError> for DriveError {
 /// and for each list one caller, which makes the list's requests one after another. Once all callers have ended it
 /// stops the service, and gives back the answers and all passes, each of which had room for so many receipts.
 ///
+/// A group that is registered after the drive began has no workers and no timer of it: nobody starts what is queued
+/// there, and nothing there times out, unless threads of others see to it. The workers of a group that is retired
+/// meanwhile end, and its requests are answered `NoGroup`.
+///
 /// No request is answered `PassFull` where that is room for five receipts for each request of its list. One whose
 /// command the group lacks is answered `NoCommand`, and those after it are made.
 ///
-/// `NoGroup` comes exactly where the group of a list is not registered, before a thread starts. With `Memory` and
-/// `Spawn` the service is stopped, the threads have ended, and their passes are given up.
+/// The passes of the callers are made before a thread starts. Where the group of a list is not registered then, the
+/// answer is `NoGroup`, and the service is as it was. With `Memory` and `Spawn` the service is stopped, the threads have
+/// ended, and their passes are given up.
 pub fn drive<
     D: Dependency + Sync,
     C: Clock + Sync,
@@ -89,25 +95,22 @@ pub fn drive<
 ) -> Result<Driven, DriveError>
     ensures driven { IfOk result (λ d. IsDriven D.ends D.fallback_ends C.moments shared.now.audited lists.now d) }
     ensures unrefused { IfOk result (λ d. FindRoom shared.now.audited room lists.now (map vec_items d.answers.items)) }
-    ensures unknown { (result ≡ Err NoGroup) ↔ Any (IsUnknown shared.now.groups) lists.now }
+    ensures listed { result ≡ Err NoGroup → 1 ≤ length lists.now }
 {
-    if any_unknown(lists, shared.groups(rt)) {
-        return Err(DriveError::NoGroup);
-    }
     let environment = Environment {
         rt,
         shared,
         dependency,
         clock,
     };
-    Ok(run(&environment, alloc, pace, lists, room)?)
-}
-
-/// Whether the group of a list is not registered in a service of so many groups.
-fn any_unknown(lists: &[RequestList], groups: u64) -> bool
-    ensures { MatchBool result (Any (IsUnknown groups) lists.now) (All (IsKnown groups) lists.now) }
-{
-    lists.iter().any(|list| list.group.0 >= groups)
+    match caller_passes(rt, shared, alloc, lists, room) {
+        Ok(passes) => Ok(run(&environment, alloc, pace, lists, passes, room)?),
+        Err(PassError::NoGroup) => Err(DriveError::NoGroup),
+        Err(PassError::Memory) => {
+            shared.stop(rt);
+            Err(DriveError::Memory)
+        }
+    }
 }
 
 /// Runs all threads in one scope. Where they give nothing back, the service is stopped.
@@ -116,9 +119,10 @@ fn run<D: Dependency + Sync, C: Clock + Sync, P: Pace + Send + Drop, R: Threads 
     alloc: Global,
     pace: P,
     lists: &[RequestList],
+    passes: Vec<Pass>,
     room: u64,
 ) -> Result<Driven, ThreadError>
-    requires { All (IsKnown environment.now.shared.now.groups) lists.now }
+    requires { passes.items ≡ map (first_pass environment.now.shared.now.audited room) lists.now }
     ensures driven { IfOk result (λ d. IsDriven D.ends D.fallback_ends C.moments environment.now.shared.now.audited lists.now d) }
     ensures unrefused { IfOk result (λ d. FindRoom environment.now.shared.now.audited room lists.now (map vec_items d.answers.items)) }
 {
@@ -126,11 +130,11 @@ fn run<D: Dependency + Sync, C: Clock + Sync, P: Pace + Send + Drop, R: Threads 
         thread::scope_env(),
         environment.rt,
         |scope| -> Result<Driven, ThreadError>
-            requires { All (IsKnown environment.now.shared.now.groups) lists.now }
+            requires { passes.items ≡ map (first_pass environment.now.shared.now.audited room) lists.now }
             ensures driven { IfOk result (λ d. IsDriven D.ends D.fallback_ends C.moments environment.entry.now.shared.now.audited lists.entry.now d) }
             ensures unrefused { IfOk result (λ d. FindRoom environment.entry.now.shared.now.audited room lists.entry.now (map vec_items d.answers.items)) }
         {
-            let driven = run_all(environment, scope, alloc, pace, lists, room);
+            let driven = run_all(environment, scope, alloc, pace, lists, passes, room);
             if driven.is_err() {
                 environment.shared.stop(environment.rt);
             }
@@ -153,16 +157,17 @@ fn run_all<
     alloc: Global,
     pace: P,
     lists: &'e [RequestList],
+    passes: Vec<Pass>,
     room: u64,
 ) -> Result<Driven, ThreadError>
-    requires { All (IsKnown environment.now.shared.now.groups) lists.now }
+    requires { passes.items ≡ map (first_pass environment.now.shared.now.audited room) lists.now }
     ensures driven { IfOk result (λ d. IsDriven D.ends D.fallback_ends C.moments environment.now.shared.now.audited lists.now d) }
     ensures unrefused { IfOk result (λ d. FindRoom environment.now.shared.now.audited room lists.now (map vec_items d.answers.items)) }
 {
     let rt = environment.rt;
     let timer = start_timer(environment, scope, alloc, pace, room)?;
     let workers = start_workers(environment, scope, alloc, room)?;
-    let callers = start_callers(environment, scope, alloc, lists, room)?;
+    let callers = start_callers(environment, scope, alloc, lists, passes)?;
     let called = thread::join_promised(rt, callers)?;
     environment.shared.stop(rt);
     let worked = thread::join_promised(rt, workers)?;

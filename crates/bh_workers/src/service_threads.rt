@@ -1,6 +1,6 @@
 //! The threads that a service needs beside its callers: workers and a timer.
 
-ghost use Rattle.std.specs.Prelude.{◌≡◌, ◌<◌, ◌≤◌, [], IfOk};
+ghost use Rattle.std.specs.Prelude.{◌≡◌, [], IfOk};
 ghost use Rattle.std.specs.List.{AllByRecursion};
 ghost use Rattle.bh_workers.specs.Driving.{IsTimerPass, IsWorked, IsWorkerPass};
 ghost use Rattle.bh_journal.specs.Passes.{PassView};
@@ -30,7 +30,7 @@ impl<D: Dependency, C: Clock> Promise<Worked> for WorkerOf<D, C> {
 /// What a worker gives back: its passes, of which all but the last are full, or why it could not go on.
 pub(crate) type Worked = Result<Vec<Pass>, ThreadError>;
 
-/// Starts the workers of all groups.
+/// Starts the workers of the groups that are registered now.
 pub(crate) fn start_workers<
     's,
     'e,
@@ -45,13 +45,35 @@ pub(crate) fn start_workers<
 ) -> Result<Vec<PromisedHandle<Worked, WorkerOf<D, C>>>, ThreadError> {
     let mut handles = Vec::new(alloc);
     for number in 0..environment.shared.groups(environment.rt) {
-        let group = GroupId(number);
-        for _ in 0..environment.shared.workers(environment.rt, group) {
-            let pass = pass_of(environment.shared, alloc, group, room)?;
-            handles.push(start_worker(environment, scope, alloc, pass)?)?;
-        }
+        start_workers_of(
+            environment,
+            scope,
+            alloc,
+            GroupId(number),
+            room,
+            &mut handles,
+        )?;
     }
     Ok(handles)
+}
+
+/// Starts the workers of one group. One that was retired meanwhile gets no more.
+fn start_workers_of<'s, 'e, D: Dependency + Sync, C: Clock + Sync, R: Threads + Wait + Sync>(
+    environment: &'e Environment<'e, D, C, R>,
+    scope: &'s Scope<'s, &'e ()>,
+    alloc: Global,
+    group: GroupId,
+    room: u64,
+    handles: &mut Vec<PromisedHandle<Worked, WorkerOf<D, C>>>,
+) -> Result<(), ThreadError> {
+    let (rt, shared) = (environment.rt, environment.shared);
+    for _ in 0..shared.workers(rt, group) {
+        let Some(pass) = pass_of(rt, shared, alloc, group, room)? else {
+            break;
+        };
+        handles.push(start_worker(environment, scope, alloc, pass)?)?;
+    }
+    Ok(())
 }
 
 /// Starts one worker with an empty pass.
@@ -61,8 +83,7 @@ fn start_worker<'s, 'e, D: Dependency + Sync, C: Clock + Sync, R: Threads + Wait
     alloc: Global,
     pass: Pass,
 ) -> Result<PromisedHandle<Worked, WorkerOf<D, C>>, ThreadError>
-    requires empty { pass.receipts ≡ [] }
-    requires known { pass.group.0 < environment.now.shared.now.groups }
+    requires { pass.receipts ≡ [] }
 {
     let (rt, shared) = (environment.rt, environment.shared);
     let (dependency, clock) = (environment.dependency, environment.clock);
@@ -70,7 +91,7 @@ fn start_worker<'s, 'e, D: Dependency + Sync, C: Clock + Sync, R: Threads + Wait
     let spawned = scope.spawn_with(
         promise,
         move || -> Worked
-            requires { (pass.receipts ≡ []) × (pass.group.0 < shared.now.groups) }
+            requires { pass.receipts ≡ [] }
             ensures { IsWorked D.ends C.moments result }
         { work(rt, shared, alloc, pass, dependency, clock) },
     );
@@ -87,8 +108,7 @@ fn work<D: Dependency, C: Clock, R: Wait>(
     dependency: &D,
     clock: &C,
 ) -> Worked
-    requires empty { pass.receipts ≡ [] }
-    requires known { pass.group.0 < shared.now.groups }
+    requires { pass.receipts ≡ [] }
     ensures { IsWorked D.ends C.moments result }
 {
     let worked = work_on(rt, shared, alloc, pass, dependency, clock);
@@ -99,7 +119,7 @@ fn work<D: Dependency, C: Clock, R: Wait>(
 }
 
 /// Works with one pass after another, each with the room of the first, until there is another reason to end than a full
-/// pass. The error comes where memory for a pass was refused.
+/// pass, or the group was retired. The error comes where memory for a pass was refused.
 fn work_on<D: Dependency, C: Clock, R: Wait>(
     rt: &R,
     shared: &Shared,
@@ -108,8 +128,7 @@ fn work_on<D: Dependency, C: Clock, R: Wait>(
     dependency: &D,
     clock: &C,
 ) -> Worked
-    requires empty { pass.receipts ≡ [] }
-    requires known { pass.group.0 < shared.now.groups }
+    requires { pass.receipts ≡ [] }
     ensures { IsWorked D.ends C.moments result }
 {
     let room = pass.room_left();
@@ -122,7 +141,10 @@ fn work_on<D: Dependency, C: Clock, R: Wait>(
         if is_last {
             return Ok(passes);
         }
-        pass = pass_of(shared, alloc, group, room)?;
+        let Some(next) = pass_of(rt, shared, alloc, group, room)? else {
+            return Ok(passes);
+        };
+        pass = next;
     }
     unreachable!()
 }
@@ -159,7 +181,7 @@ impl<C: Clock> Promise<Vec<Pass>> for TimerOf<C> {
     ghost kept_by = { λ p r. AllByRecursion (IsTimerPass C.moments) r.items };
 }
 
-/// Starts the timer of all groups.
+/// Starts the timer of the groups that are registered now.
 pub(crate) fn start_timer<
     's,
     'e,
@@ -174,8 +196,7 @@ pub(crate) fn start_timer<
     pace: P,
     room: u64,
 ) -> Result<PromisedHandle<Vec<Pass>, TimerOf<C>>, ThreadError> {
-    let groups = environment.shared.groups(environment.rt);
-    let passes = timer_passes(alloc, environment.shared, groups, room)?;
+    let passes = timer_passes(environment.rt, environment.shared, alloc, room)?;
     let promise: TimerOf<C> = TimerOf { of: PhantomData };
     let spawned = scope.spawn_with(
         promise,
@@ -187,20 +208,20 @@ pub(crate) fn start_timer<
     spawned.map_err(|_| ThreadError::Spawn)
 }
 
-/// A pass of each group.
-fn timer_passes(
-    alloc: Global,
+/// A pass of each group that is registered.
+fn timer_passes<R: Wait>(
+    rt: &R,
     shared: &Shared,
-    groups: u64,
+    alloc: Global,
     room: u64,
 ) -> Result<Vec<Pass>, ThreadError>
-    requires { groups ≤ shared.now.groups }
     ensures { IfOk result (λ v. AllByRecursion (λ (p : PassView). p.receipts ≡ []) v.items) }
 {
     let mut passes = Vec::new(alloc);
-    for number in 0..groups {
-        let pass = pass_of(shared, alloc, GroupId(number), room)?;
-        passes.push(pass)?;
+    for number in 0..shared.groups(rt) {
+        if let Some(pass) = pass_of(rt, shared, alloc, GroupId(number), room)? {
+            passes.push(pass)?;
+        }
     }
     Ok(passes)
 }

@@ -1,8 +1,9 @@
 -- What the exit status of the program says.
-use Rattle.std.specs.Prelude.{◌≡◌, ◌≢◌, ℕ, false, List, [], Option}
+use Rattle.std.specs.Prelude.{◌≡◌, ◌≢◌, ℕ, false, List, Option}
 use Rattle.std.specs.Io.KnownBytes.{Appends}
 use Rattle.bh_lines.specs.Lines.{Cut, stops}
 use Rattle.bh_streams.specs.Watched.{WritesFront}
+use Rattle.bh_port.specs.Course.{new_course}
 use Rattle.bh_port.specs.Text.{text}
 use Rattle.bh_props.specs.SettingsView.{SettingsView}
 use Rattle.bh_props.specs.Printed.{lines_of}
@@ -16,8 +17,8 @@ settings_status _ = 1
 
 -- with status 0 the whole text was written and no line is too long or not UTF-8; with status 3 a front of it was written
 pub record RunStatus (service : SettingsView) (c : Cut) (w0 w1 : Option (List ℕ)) (status : ℕ) : Type 0 where
-  pub whole : status ≡ 0 → Appends w0 w1 (text service [] c) × (stops c ≡ false)
-  pub front : status ≡ 3 → WritesFront w0 w1 (text service [] c)
+  pub whole : status ≡ 0 → Appends w0 w1 (text service (new_course service) c) × (stops c ≡ false)
+  pub front : status ≡ 3 → WritesFront w0 w1 (text service (new_course service) c)
   pub not_refused : status ≢ 1
 
 -- with status 0 all lines of the settings were written; with status 3 a front of them was written

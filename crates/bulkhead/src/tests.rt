@@ -4,6 +4,7 @@ mod arguments;
 mod faults;
 mod hostile_settings;
 mod hostile_streams;
+mod lives;
 mod operations;
 mod scripts;
 mod serve;

@@ -1,6 +1,6 @@
 //! Looks at a group that change nothing: what a step would be answered.
 
-ghost use Rattle.std.specs.Prelude.{◌≡◌, ◌==◌, ℕ, max};
+ghost use Rattle.std.specs.Prelude.{◌≡◌, ◌==◌, ℕ, [], false, max};
 ghost use Rattle.bh_base.specs.declared.step.Op.TheVariants as op;
 ghost use Rattle.bh_base.specs.Seen.{view_reply};
 ghost use Rattle.bh_core.specs.GroupView.{HasTickets, view_in};
@@ -64,6 +64,14 @@ impl Group {
             None => false,
             Some(slot) => is_unanswered(tickets.get(self.number, slot)),
         }
+    }
+
+    /// Whether the group has a ticket. Of one that has none nothing else has to be looked at.
+    pub fn has_tickets(&self, tickets: &Tickets) -> bool
+        requires { HasTickets tickets.now self.now }
+        ensures { result ≡ false → (view_in tickets.now self.now).present.tickets ≡ [] }
+    {
+        tickets.len(self.number) > 0
     }
 
     /// Whether an `Expire` at the moment would be answered `Expired` of more than 0.

@@ -1,38 +1,85 @@
 //! Looks at the groups that change nothing, by what a step would be answered.
 
-ghost use Rattle.std.specs.Prelude.{◌≡◌, ◌<◌, ℕ, [], length, slice_get, IfSome, IsNone, IsSomeAnd, None, Some, false, true};
+ghost use Rattle.std.specs.Prelude.{◌≡◌, ◌≢◌, ◌↔◌, ◌+◌, ◌<◌, ◌≤◌, ℕ, length, slice_get, is_some, IfSome, IsNone, IsSomeAnd, None, Some, false, true};
 ghost use Rattle.bh_base.specs.declared.step.Op.{Op};
 ghost use Rattle.bh_base.specs.declared.step.Op.TheVariants as op;
 ghost use Rattle.bh_base.specs.Commands.{is_known};
 ghost use Rattle.bh_base.specs.Runs.{View};
 ghost use Rattle.bh_base.specs.Seen.{view_reply};
+ghost use Rattle.bh_core.specs.CoreView.{Life, is_retired, most_groups, registered_as, slots_in, view_at};
+ghost use Rattle.bh_core.specs.GroupView.{GroupView};
+ghost use Rattle.bh_core.specs.declared.service.entry.Entry.TheVariants as entry;
 ghost use Rattle.bh_core.specs.Looks.{expires_some, is_assigned, is_pending, is_worn_out};
 
-use super::Core;
+use super::entry::Entry;
+use super::{Core, MOST_GROUPS, RegisterError};
 use crate::group::Group;
 use bh_base::{GroupId, GroupProps, Moment, Serial};
 
 impl Core {
-    /// How many groups are registered. Their numbers are those below it.
+    /// How many groups were registered, retired ones included. Their numbers are those below it.
     pub fn groups(&self) -> u64
-        ensures { result ≡ length self.now.views }
+        ensures { result ≡ length self.now.lives }
     {
         self.groups.len() as u64
     }
 
-    /// The properties and the step limit with which the group was registered; None where it is not registered.
-    pub fn props(&self, group: GroupId) -> Option<(&GroupProps, u64)>
-        ensures known { (v : View) → slice_get self.now.views group.0 ≡ Some v → IsSomeAnd result (λ shown. (shown.0.now ≡ v.present.props) × (shown.1 ≡ v.present.limit)) }
-        ensures unknown { slice_get self.now.views group.0 ≡ None → IsNone result }
+    /// Whether the group is registered and not retired.
+    pub fn is_registered(&self, group: GroupId) -> bool
+        ensures { result ≡ is_some (view_at self.now group.0) }
     {
-        let found = find(&self.groups, group)?;
-        Some((found.props(), found.step_limit()))
+        find(&self.groups, group).is_some()
+    }
+
+    /// Whether the group was retired. False where no group of the number was registered.
+    pub fn is_retired(&self, group: GroupId) -> bool
+        ensures known { (life : Life) → slice_get self.now.lives group.0 ≡ Some life → result ≡ is_retired life }
+        ensures unknown { slice_get self.now.lives group.0 ≡ None → result ≡ false }
+    {
+        let place = group.0;
+        if place >= self.groups.len() as u64 {
+            return false;
+        }
+        matches!(&self.groups[place as usize], Entry::Retired(_))
+    }
+
+    /// The properties and the step limit with which the group was registered, also where it is retired by now; None
+    /// where no group of the number was registered.
+    pub fn props(&self, group: GroupId) -> Option<(&GroupProps, u64)>
+        ensures known { (life : Life) → slice_get self.now.lives group.0 ≡ Some life → IsSomeAnd result (λ shown. (shown.0.now ≡ (registered_as life).0) × (shown.1 ≡ (registered_as life).1)) }
+        ensures unknown { slice_get self.now.lives group.0 ≡ None → IsNone result }
+    {
+        let place = group.0;
+        if place >= self.groups.len() as u64 {
+            return None;
+        }
+        match &self.groups[place as usize] {
+            Entry::Live(found) => Some((found.props(), found.step_limit())),
+            Entry::Retired(registration) => Some((&registration.props, registration.limit)),
+        }
+    }
+
+    /// Why a group of the properties would not be registered, as far as that does not rest on memory; None where it
+    /// would be, if there is memory for it.
+    pub fn refusal(&self, props: &GroupProps) -> Option<RegisterError>
+        requires { props.now.slots ≤ 4096 }
+        ensures many { (result ≡ Some RegisterError.TooManyGroups) ↔ (most_groups ≤ length self.now.lives) }
+        ensures room { (result ≡ Some RegisterError.TooManySlots) ↔ ((length self.now.lives < most_groups) × (self.now.slot_limit < slots_in self.now.lives + props.now.slots)) }
+        ensures memory { result ≢ Some RegisterError.Memory }
+    {
+        if self.groups.len() as u64 >= MOST_GROUPS {
+            return Some(RegisterError::TooManyGroups);
+        }
+        if !self.tickets.has_slots_for(props.slots) {
+            return Some(RegisterError::TooManySlots);
+        }
+        None
     }
 
     /// How many steps the group has done, of those that it may; 0 where it is not registered.
     pub fn steps(&self, group: GroupId) -> u64
-        ensures known { (v : View) → slice_get self.now.views group.0 ≡ Some v → result ≡ v.present.steps }
-        ensures unknown { slice_get self.now.views group.0 ≡ None → result ≡ 0 }
+        ensures known { (v : View) → view_at self.now group.0 ≡ Some v → result ≡ v.present.steps }
+        ensures unknown { view_at self.now group.0 ≡ None → result ≡ 0 }
     {
         match find(&self.groups, group) {
             Some(found) => found.steps(),
@@ -44,8 +91,8 @@ impl Core {
     /// a command that the group lacks.
     /// False where the group is not registered.
     pub fn worn(&self, group: GroupId) -> bool
-        ensures known { (v : View) (o : Op) (moment : ℕ) → slice_get self.now.views group.0 ≡ Some v → is_known o v.present.props ≡ true → result ≡ is_worn_out (view_reply v o moment) }
-        ensures unknown { slice_get self.now.views group.0 ≡ None → result ≡ false }
+        ensures known { (v : View) (o : Op) (moment : ℕ) → view_at self.now group.0 ≡ Some v → is_known o v.present.props ≡ true → result ≡ is_worn_out (view_reply v o moment) }
+        ensures unknown { view_at self.now group.0 ≡ None → result ≡ false }
     {
         match find(&self.groups, group) {
             Some(found) => found.is_worn(),
@@ -56,8 +103,8 @@ impl Core {
     /// Whether a `Start` would be answered `Assigned`, at whatever moment: a ticket is queued, and a worker is free.
     /// False where the group is worn or not registered.
     pub fn startable(&self, group: GroupId) -> bool
-        ensures known { (v : View) (moment : ℕ) → slice_get self.now.views group.0 ≡ Some v → result ≡ is_assigned (view_reply v op.Start moment) }
-        ensures unknown { slice_get self.now.views group.0 ≡ None → result ≡ false }
+        ensures known { (v : View) (moment : ℕ) → view_at self.now group.0 ≡ Some v → result ≡ is_assigned (view_reply v op.Start moment) }
+        ensures unknown { view_at self.now group.0 ≡ None → result ≡ false }
     {
         match find(&self.groups, group) {
             Some(found) => found.is_startable(&self.tickets),
@@ -68,8 +115,8 @@ impl Core {
     /// Whether a `Collect` of the serial would be answered `Pending`, at whatever moment: someone holds the ticket,
     /// and its run or its fallback has still to end. False where the group is worn or not registered.
     pub fn pending(&self, group: GroupId, serial: Serial) -> bool
-        ensures known { (v : View) (moment : ℕ) → slice_get self.now.views group.0 ≡ Some v → result ≡ is_pending (view_reply v (op.Collect serial) moment) }
-        ensures unknown { slice_get self.now.views group.0 ≡ None → result ≡ false }
+        ensures known { (v : View) (moment : ℕ) → view_at self.now group.0 ≡ Some v → result ≡ is_pending (view_reply v (op.Collect serial) moment) }
+        ensures unknown { view_at self.now group.0 ≡ None → result ≡ false }
     {
         match find(&self.groups, group) {
             Some(found) => found.is_pending(&self.tickets, serial),
@@ -81,32 +128,27 @@ impl Core {
     /// before that of the group's last step counts as that one, as in every step. False where the group is worn or
     /// not registered.
     pub fn due(&self, group: GroupId, now: Moment) -> bool
-        ensures known { (v : View) → slice_get self.now.views group.0 ≡ Some v → result ≡ expires_some (view_reply v op.Expire now) }
-        ensures unknown { slice_get self.now.views group.0 ≡ None → result ≡ false }
+        ensures known { (v : View) → view_at self.now group.0 ≡ Some v → result ≡ expires_some (view_reply v op.Expire now) }
+        ensures unknown { view_at self.now group.0 ≡ None → result ≡ false }
     {
         match find(&self.groups, group) {
-            Some(found) => self.has_tickets(group) && found.is_due(&self.tickets, now),
+            Some(found) => found.has_tickets(&self.tickets) && found.is_due(&self.tickets, now),
             None => false,
         }
     }
-
-    /// Whether the registered group has a ticket. Of a group that has none nothing else has to be looked at.
-    fn has_tickets(&self, group: GroupId) -> bool
-        requires { group.0 < length self.now.views }
-        ensures { (v : View) → slice_get self.now.views group.0 ≡ Some v → result ≡ false → v.present.tickets ≡ [] }
-    {
-        self.tickets.len(group.0 as usize) > 0
-    }
 }
 
-/// The group of the number, where it is registered.
-fn find(groups: &[Group], group: GroupId) -> Option<&Group>
-    ensures found { IfSome result (λ found. slice_get groups.now group.0 ≡ Some found.now) }
-    ensures missing { IsNone result → slice_get groups.now group.0 ≡ None }
+/// The group of the number, where it is registered and not retired.
+fn find(groups: &[Entry], group: GroupId) -> Option<&Group>
+    ensures found { IfSome result (λ found. slice_get groups.now group.0 ≡ Some (entry.Live found.now)) }
+    ensures missing { IsNone result → (g : GroupView) → slice_get groups.now group.0 ≢ Some (entry.Live g) }
 {
     let place = group.0;
     if place >= groups.len() as u64 {
         return None;
     }
-    Some(&groups[place as usize])
+    match &groups[place as usize] {
+        Entry::Live(found) => Some(found),
+        Entry::Retired(_) => None,
+    }
 }

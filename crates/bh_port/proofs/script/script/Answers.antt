@@ -16,19 +16,19 @@ returns-in_err-write_answers-clause-text g c =
 pub returns-in_err-fill-clause-text : goal.returns-in_err-fill-clause-text
 returns-in_err-fill-clause-text g c =
     let p = err_from_is_err_and c.from_residual-in_err-fill.result c.from_residual-in_err-fill.ensures.1 in
-    let now = progress-lines _ _ _ _ _ _ _ c.write_answers.new.self.core _ _ c.loop.invariant.progress c.in_ok-write_answers.ensures.answered in
+    let now = progress-lines _ _ _ _ _ _ _ c.write_answers.new.self.groups _ _ c.loop.invariant.progress c.in_ok-write_answers.ensures.answered in
     rw (p.1, p.2) (progress-front _ _ _ _ _ _ _ _ now c.in_err-fill.ensures.err)
 
 pub returns-then-not-branch-clause-text : goal.returns-then-not-branch-clause-text
 returns-then-not-branch-clause-text g c =
-    let now = progress-lines _ _ _ _ _ _ _ c.write_answers.new.self.core _ _ c.loop.invariant.progress c.in_ok-write_answers.ensures.answered in
+    let now = progress-lines _ _ _ _ _ _ _ c.write_answers.new.self.groups _ _ c.loop.invariant.progress c.in_ok-write_answers.ensures.answered in
     let piece = c.in_ok-fill.ensures.more in
     let ended = c.in_ok-fill.ensures.end (search rules) in
     progress-ends _ _ _ _ _ _ _ _ _ (progress-read _ _ _ _ _ _ _ _ _ _ now piece.1 piece.2) ended.0 c.write_last.ensures.outcome
 
 pub loop-preserved : goal.loop-preserved
 loop-preserved g c =
-    let now = progress-lines _ _ _ _ _ _ _ c.write_answers.new.self.core _ _ c.loop.invariant.progress c.in_ok-write_answers.ensures.answered in
+    let now = progress-lines _ _ _ _ _ _ _ c.write_answers.new.self.groups _ _ c.loop.invariant.progress c.in_ok-write_answers.ensures.answered in
     let piece = c.in_ok-fill.ensures.more in
     record {
       same_reader = c.in_ok-fill.ensures.same_reader ∙ c.loop.invariant.same_reader;
@@ -78,7 +78,7 @@ error-is r x e k made is same = cc
 pub returns-in_err-fill-clause-answered : goal.returns-in_err-fill-clause-answered
 returns-in_err-fill-clause-answered g c = λ same.
     let p = err_from_is_err_and c.from_residual-in_err-fill.result c.from_residual-in_err-fill.ensures.1 in
-    let now = progress-lines _ _ _ _ _ _ _ c.write_answers.new.self.core _ _ c.loop.invariant.progress c.in_ok-write_answers.ensures.answered in
+    let now = progress-lines _ _ _ _ _ _ _ c.write_answers.new.self.groups _ _ c.loop.invariant.progress c.in_ok-write_answers.ensures.answered in
     let kept = c.in_err-fill.ensures.kept (ap Err (error-is _ _ _ _ p.1 p.2 same)) in
     inr (progress-failed _ _ _ _ _ _ _ _ now kept.0 c.in_ok-write_answers.ensures.none_left)
 
@@ -91,5 +91,5 @@ loop-init g c = record {
   none_failed = refl;
   none_refused = refl;
   piece = search rules;
-  progress = rw c.new.ensures.items (progress-start (bytes_left g.R.Read.remaining c.args.reader.now) (bytes_held g.W.Write.contents c.args.writer.now) _ _ c.in_ok-core.ensures.agrees);
+  progress = rw c.new.ensures.items (progress-start (bytes_left g.R.Read.remaining c.args.reader.now) (bytes_held g.W.Write.contents c.args.writer.now) _ _ c.in_ok-groups.ensures.agrees);
 }

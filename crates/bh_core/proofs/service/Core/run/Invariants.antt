@@ -1,7 +1,6 @@
 use Rattle.std.proofs.Common.{◌≡◌, ◌≤◌, ℕ, take, length, vec_capacity, None}
-use Rattle.std.specs.Prelude.{slice_get}
 use Rattle.bh_base.specs.Runs.{State}
-use Rattle.bh_core.specs.CoreView.{Shows}
+use Rattle.bh_core.specs.CoreView.{Shows, view_at}
 use Rattle.bh_core.proofs.Whole.{GoesAs, IsUnknown}
 use Rattle.bh_core.proofs.service.Core.run.Given as goal
 
@@ -10,8 +9,8 @@ abbrev pub invariant-loop-step : goal.invariant-loop-step
 invariant-loop-step l = record {
   count : length l.replies.items ≡ l.step-index;
   room : length l.steps ≤ vec_capacity l.replies;
-  groups : length l.self.views ≡ length l.fn.self.views;
+  groups : length l.self.lives ≡ length l.fn.self.lives;
   limit : l.self.slot_limit ≡ l.fn.self.slot_limit;
   own : (group : ℕ) (s : State) → Shows l.fn.self group s → GoesAs group s (take l.step-index l.steps) l.replies.items l.self;
-  unknown : (group : ℕ) → slice_get l.fn.self.views group ≡ None → IsUnknown group (take l.step-index l.steps) l.replies.items l.self;
+  unknown : (group : ℕ) → view_at l.fn.self group ≡ None → IsUnknown group (take l.step-index l.steps) l.replies.items l.self;
 }

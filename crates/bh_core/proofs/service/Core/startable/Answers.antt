@@ -3,7 +3,7 @@ use Rattle.bh_base.specs.declared.step.Op.TheVariants as op
 use Rattle.bh_base.specs.Runs.{View}
 use Rattle.bh_base.specs.Seen.{view_reply}
 use Rattle.bh_core.specs.Looks.{is_assigned}
-use Rattle.bh_core.proofs.AllGroups.{shown_is, shown_none, shown_some}
+use Rattle.bh_core.proofs.AllGroups.{not_shown, shown_is, shown_some}
 use Rattle.bh_core.proofs.service.Core.startable.Goals as goal
 
 pub is_startable-requires-clause-steady : goal.is_startable-requires-clause-steady
@@ -20,4 +20,7 @@ returns-in-Some-clause-unknown c = λ none.
 
 pub returns-in-None-clause-known : goal.returns-in-None-clause-known
 returns-in-None-clause-known c = λ v moment shown.
-    absurd (shown_none c.self.inside.tickets c.self.inside.groups.items c.args.group.0 v (rw c.deref.ensures.value at c.in-None.ensures.missing refl) (rw (← c.self.view_is) at shown))
+    absurd (not_shown c.self.inside.tickets c.self.inside.groups.items c.args.group.0 v (rw c.deref.ensures.value at c.in-None.ensures.missing refl) (rw (← c.self.view_is) at shown))
+
+pub is_startable-requires-clause-has : goal.is_startable-requires-clause-has
+is_startable-requires-clause-has c = c.self.invariant.tickets c.args.group.0 c.in-Some.found.now (rw c.deref.ensures.value at c.in-Some.ensures.found)

@@ -1,6 +1,6 @@
 use Rattle.std.proofs.Common.{◌∙◌, sym, ap, refl}
 use Rattle.bh_base.specs.Runs.{View, is_worn}
-use Rattle.bh_core.proofs.AllGroups.{shown_is, shown_none, shown_some}
+use Rattle.bh_core.proofs.AllGroups.{not_shown, shown_is, shown_some}
 use Rattle.bh_core.proofs.Looks.{worn_seen}
 use Rattle.bh_core.proofs.service.Core.worn.Goals as goal
 
@@ -15,4 +15,4 @@ returns-in-Some-clause-unknown c = λ none.
 
 pub returns-in-None-clause-known : goal.returns-in-None-clause-known
 returns-in-None-clause-known c = λ v o moment shown known.
-    absurd (shown_none c.self.inside.tickets c.self.inside.groups.items c.args.group.0 v (rw c.deref.ensures.value at c.in-None.ensures.missing refl) (rw (← c.self.view_is) at shown))
+    absurd (not_shown c.self.inside.tickets c.self.inside.groups.items c.args.group.0 v (rw c.deref.ensures.value at c.in-None.ensures.missing refl) (rw (← c.self.view_is) at shown))

@@ -1,5 +1,5 @@
 use Rattle.std.proofs.Common.{◌≡◌, ◌++◌}
-use Rattle.bh_port.specs.Text.{names_in}
+use Rattle.bh_port.specs.Course.{names_in}
 use Rattle.bh_props.specs.Shown.{settings_view}
 use Rattle.bh_serve.proofs.names.GroupNames.of.Given as goal
 

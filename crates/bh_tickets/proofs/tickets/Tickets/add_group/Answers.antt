@@ -1,41 +1,107 @@
-use Rattle.std.proofs.Common.{◌≡◌, ◌++◌, ◌∷◌, [], ap, ◌∙◌, rules}
-use Rattle.bh_tickets.specs.TicketsView.{TicketsView, no_tickets_in}
+use Rattle.std.proofs.Common.{◌≡◌, ◌+◌, ◌<◌, length, set, ap, arith, rules, subst, sym, ◌∙◌}
+use Rattle.bh_cache.specs.declared.lists.GroupLists.{GroupLists}
+use Rattle.bh_cache.specs.Slots.{IsApart}
+use Rattle.bh_cache.proofs.Walks.{arena_is}
+use Rattle.bh_tickets.specs.GroupSlots.{no_slot_taken}
+use Rattle.bh_tickets.specs.Spare.{IsTaken, IsVacant, free_slots}
+use Rattle.bh_tickets.specs.TicketsView.{HasPlace, TicketsView, slots_of}
 use Rattle.bh_tickets.specs.Whole.{view_of}
-use Rattle.bh_tickets.proofs.AddedGroup.{whole_more, view_more, whole_grown, view_grown}
+use Rattle.bh_tickets.proofs.Ready.{chosen}
+use Rattle.bh_tickets.proofs.Rebuilt.{entry_vacant, spare_apart, spare_max, spare_vacant, taken_here, taken_others, taken_rooms, taken_whole}
+use Rattle.bh_tickets.proofs.SlotCounts.{shown_rooms}
+use Rattle.bh_tickets.proofs.Whole.{get_lt}
 use Rattle.bh_tickets.proofs.tickets.Tickets.add_group.Goals as goal
 
-pub invariant_of-self-in_err-lists : goal.invariant_of-self-in_err-lists
-invariant_of-self-in_err-lists c =
+pub take_slots-requires-clause-giver : goal.take_slots-requires-clause-giver
+take_slots-requires-clause-giver c =
+    let a = c.ready_spare.new.arena in
+    let b = c.take_place.new.arena in
     let ss = c.self.inside.groups.items in
-    let now = whole_more c.self.inside.arena c.add_lists.new.arena ss c.self.invariant c.add_lists.ensures.more in
-    rw c.reserve.ensures.items now
+    let rs = c.take_place.new.groups.items in
+    let s = c.index.result.now in
+    let place = c.in_ok-place.place in
+    let k = chosen place c.args.slots c.in_ok-from.from s a ss c.ready_spare.new.spare b rs (c.in_ok-from.ensures.keeps.whole ss c.self.invariant) c.in_ok-from.ensures.ok c.in_ok-place.ensures.ok c.index.ensures in
+    subst (IsVacant b) k.lists (spare_vacant b k.part rs k.placed.whole)
 
-pub returns-in_err-lists-clause-err : goal.returns-in_err-lists-clause-err
-returns-in_err-lists-clause-err c =
+pub take_slots-requires-clause-taker : goal.take_slots-requires-clause-taker
+take_slots-requires-clause-taker c =
+    let a = c.ready_spare.new.arena in
+    let b = c.take_place.new.arena in
     let ss = c.self.inside.groups.items in
-    let now : view_of c.add_lists.new.arena c.reserve.new.self.items ≡ c.args.self.now = rw c.reserve.ensures.items (view_more c.self.inside.arena c.add_lists.new.arena ss c.self.invariant c.add_lists.ensures.more ∙ c.self.view_is) in
-    search (rules, now)
+    let rs = c.take_place.new.groups.items in
+    let s = c.index.result.now in
+    let place = c.in_ok-place.place in
+    let k = chosen place c.args.slots c.in_ok-from.from s a ss c.ready_spare.new.spare b rs (c.in_ok-from.ensures.keeps.whole ss c.self.invariant) c.in_ok-from.ensures.ok c.in_ok-place.ensures.ok c.index.ensures in
+    entry_vacant b k.part rs k.placed.whole place s k.here k.empty
 
-pub invariant_of-self-in_err-add_slots : goal.invariant_of-self-in_err-add_slots
-invariant_of-self-in_err-add_slots c =
+pub take_slots-requires-clause-apart : goal.take_slots-requires-clause-apart
+take_slots-requires-clause-apart c =
+    let a = c.ready_spare.new.arena in
+    let b = c.take_place.new.arena in
     let ss = c.self.inside.groups.items in
-    let now = whole_more c.self.inside.arena c.add_lists.new.arena ss c.self.invariant c.add_lists.ensures.more in
-    rw (c.in_err-add_slots.ensures.err, c.reserve.ensures.items) now
+    let rs = c.take_place.new.groups.items in
+    let s = c.index.result.now in
+    let place = c.in_ok-place.place in
+    let k = chosen place c.args.slots c.in_ok-from.from s a ss c.ready_spare.new.spare b rs (c.in_ok-from.ensures.keeps.whole ss c.self.invariant) c.in_ok-from.ensures.ok c.in_ok-place.ensures.ok c.index.ensures in
+    subst (λ (z : GroupLists). IsApart z s.lists) k.lists (spare_apart b k.part rs k.placed.whole place s k.here)
 
-pub returns-in_err-add_slots-clause-err : goal.returns-in_err-add_slots-clause-err
-returns-in_err-add_slots-clause-err c =
+pub take_slots-requires-clause-enough : goal.take_slots-requires-clause-enough
+take_slots-requires-clause-enough c =
+    let a = c.ready_spare.new.arena in
+    let b = c.take_place.new.arena in
     let ss = c.self.inside.groups.items in
-    let now : view_of c.add_slots.new.arena c.reserve.new.self.items ≡ c.args.self.now = rw (c.in_err-add_slots.ensures.err, c.reserve.ensures.items) (view_more c.self.inside.arena c.add_lists.new.arena ss c.self.invariant c.add_lists.ensures.more ∙ c.self.view_is) in
-    search (rules, now)
+    let rs = c.take_place.new.groups.items in
+    let s = c.index.result.now in
+    let place = c.in_ok-place.place in
+    let k = chosen place c.args.slots c.in_ok-from.from s a ss c.ready_spare.new.spare b rs (c.in_ok-from.ensures.keeps.whole ss c.self.invariant) c.in_ok-from.ensures.ok c.in_ok-place.ensures.ok c.index.ensures in
+    omega (arith, k.enough, spare_max b k.part rs k.placed.whole, ap (free_slots b) k.lists)
+
+pub index_mut-requires : goal.index_mut-requires
+index_mut-requires c =
+    let a = c.ready_spare.new.arena in
+    let b = c.take_place.new.arena in
+    let ss = c.self.inside.groups.items in
+    let rs = c.take_place.new.groups.items in
+    let s = c.index.result.now in
+    let place = c.in_ok-place.place in
+    let k = chosen place c.args.slots c.in_ok-from.from s a ss c.ready_spare.new.spare b rs (c.in_ok-from.ensures.keeps.whole ss c.self.invariant) c.in_ok-from.ensures.ok c.in_ok-place.ensures.ok c.index.ensures in
+    let lt : place < length rs = get_lt rs place s k.here in
+    search (rules, lt)
 
 pub invariant_of-self-2 : goal.invariant_of-self-2
 invariant_of-self-2 c =
+    let a = c.ready_spare.new.arena in
+    let b = c.take_place.new.arena in
     let ss = c.self.inside.groups.items in
-    let now = whole_grown c.self.inside.arena c.add_lists.new.arena c.add_slots.new.arena ss c.in_ok-lists.lists c.args.slots c.self.invariant c.in_ok-lists.ensures.ok c.in_ok-lists.ensures.lists c.in_ok-add_slots.ensures.ok c.requires.few c.new.result c.new.ensures in
-    rw (c.push_reserved.ensures.items, c.reserve.ensures.items) now
+    let rs = c.take_place.new.groups.items in
+    let s = c.index.result.now in
+    let place = c.in_ok-place.place in
+    let k = chosen place c.args.slots c.in_ok-from.from s a ss c.ready_spare.new.spare b rs (c.in_ok-from.ensures.keeps.whole ss c.self.invariant) c.in_ok-from.ensures.ok c.in_ok-place.ensures.ok c.index.ensures in
+    let d = c.take_slots.new.arena in
+    let taken = subst (λ (z : GroupLists). IsTaken c.args.slots z s.lists b d) (sym k.lists) c.take_slots.ensures in
+    let spare : c.vacant.result ≡ no_slot_taken k.part.lists (free_slots d k.part.lists) = c.vacant.ensures ∙ ap (λ (z : GroupLists). no_slot_taken z (free_slots d z)) (sym k.lists) in
+    let arena = arena_is d 0 (omega (arith, c.partition.ensures.families)) c.partition.ensures.lists in
+    taken_whole b d k.part c.vacant.result rs place c.args.slots s c.vacant-2.result k.placed.whole k.here k.empty taken arena spare c.vacant-2.ensures
 
 pub returns-clause-ok : goal.returns-clause-ok
 returns-clause-ok c =
+    let a = c.ready_spare.new.arena in
+    let b = c.take_place.new.arena in
     let ss = c.self.inside.groups.items in
-    let now = view_grown c.self.inside.arena c.add_lists.new.arena c.add_slots.new.arena ss c.in_ok-lists.lists c.args.slots c.self.invariant c.in_ok-lists.ensures.ok c.in_ok-lists.ensures.lists c.in_ok-add_slots.ensures.ok c.requires.few c.new.result c.new.ensures in
-    rw (c.push_reserved.ensures.items, c.reserve.ensures.items) (now ∙ ap (λ (v : TicketsView). record v { groups = v.groups ++ no_tickets_in c.args.slots ∷ [] }) c.self.view_is)
+    let rs = c.take_place.new.groups.items in
+    let s = c.index.result.now in
+    let place = c.in_ok-place.place in
+    let k = chosen place c.args.slots c.in_ok-from.from s a ss c.ready_spare.new.spare b rs (c.in_ok-from.ensures.keeps.whole ss c.self.invariant) c.in_ok-from.ensures.ok c.in_ok-place.ensures.ok c.index.ensures in
+    let d = c.take_slots.new.arena in
+    let taken = subst (λ (z : GroupLists). IsTaken c.args.slots z s.lists b d) (sym k.lists) c.take_slots.ensures in
+    let spare : c.vacant.result ≡ no_slot_taken k.part.lists (free_slots d k.part.lists) = c.vacant.ensures ∙ ap (λ (z : GroupLists). no_slot_taken z (free_slots d z)) (sym k.lists) in
+    let arena = arena_is d 0 (omega (arith, c.partition.ensures.families)) c.partition.ensures.lists in
+    let seen = c.in_ok-from.ensures.keeps.view ss c.self.invariant ∙ c.self.view_is in
+    let rooms : slots_of (view_of d (set rs place c.vacant-2.result)) ≡ slots_of (view_of a ss) + c.args.slots = omega (arith, shown_rooms d (set rs place c.vacant-2.result), shown_rooms a ss, k.placed.room, taken_rooms b d k.part c.vacant.result rs place c.args.slots s c.vacant-2.result k.placed.whole k.here k.empty taken arena spare c.vacant-2.ensures) in
+    subst (λ (v : TicketsView). HasPlace place c.args.slots v (view_of d (set rs place c.vacant-2.result))) seen (record {
+      vacant = k.placed.vacant;
+      here = taken_here b d k.part c.vacant.result rs place c.args.slots s c.vacant-2.result k.placed.whole k.here k.empty taken arena spare c.vacant-2.ensures;
+      others = λ g ne. taken_others b d k.part c.vacant.result rs place c.args.slots s c.vacant-2.result k.placed.whole k.here k.empty taken arena spare c.vacant-2.ensures g ne ∙ k.placed.others g ne;
+      limit = taken.limit ∙ k.limit;
+      slots = rooms;
+    })

@@ -1,0 +1,277 @@
+-- Spare slots and places are made ready.
+use Rattle.std.proofs.Common.{◌≡◌, ℕ, zero, suc, ◌+◌, ◌-◌, ◌<◌, ◌≤◌, inl, inr, List, [], ◌∷◌, ◌++◌, length, get_or, Option, Some, None, refl, ◌∙◌, sym, ap, subst, arith}
+use Rattle.std.specs.Prelude.{◌≢◌, slice_get}
+use Rattle.std.specs.Option.{option_map}
+use Rattle.std.proofs.lemmas.List.{get_or_past, length-map}
+use Rattle.std.proofs.lemmas.List.Sums.{sum_by-append, sum_by-cons}
+use Rattle.std.proofs.lemmas.Option.{slice_get-map}
+use Rattle.bh_base.specs.declared.ticket.Ticket.{Ticket}
+use Rattle.bh_slot_arena.specs.Slots.{lists_in}
+use Rattle.bh_cache.specs.declared.lists.GroupLists.{GroupLists}
+use Rattle.bh_cache.specs.Slots.{Slots, IsApart}
+use Rattle.bh_tickets.specs.declared.group_slots.GroupSlots.{GroupSlots}
+use Rattle.bh_tickets.specs.GroupSlots.{IsGroupSlots, no_slot_taken}
+use Rattle.bh_tickets.specs.Growth.{HasMoreLists, HasNewLists, IsGrown, IsReadyFor, lists_from}
+use Rattle.bh_tickets.specs.Same.{IsSame}
+use Rattle.bh_tickets.specs.Spare.{AreSpare, GetsPlace, HasRoomBeside, IsLeft, IsPlaced, IsVacant, KeepsGroups, StaysWhole, free_slots}
+use Rattle.bh_tickets.specs.TicketsView.{GroupTickets, TicketsView, no_tickets_in}
+use Rattle.bh_tickets.specs.Whole.{AreGroupSlots, IsWhole, group_of, groups_of, rooms, view_of, with_spare}
+use Rattle.bh_tickets.proofs.AddedGroup.{arena_more, get_append, map_same, same_more, view_more, whole_more}
+use Rattle.bh_tickets.proofs.NewGroup.{apart_back, grown_free, grown_limit, grown_same, grown_size, grown_vacant, new_apart, new_none, new_vacant}
+use Rattle.bh_tickets.proofs.Others.{group_same, slots_same}
+use Rattle.bh_tickets.proofs.Rebuilt.{rooms_first, spare_apart, spare_max, spare_slots, spare_vacant}
+use Rattle.bh_tickets.proofs.Vacant.{vacant_group}
+use Rattle.bh_tickets.proofs.Whole.{get_is, get_lt, group_is, groups_in}
+
+some_same : (s t : GroupSlots) → Some s ≡ Some t → s ≡ t
+some_same s t e = cc
+
+some_there : (p : GroupSlots) → Some p ≡ None → ⊥
+some_there p e = cc
+
+none_there : (p : GroupSlots) → None ≡ Some p → ⊥
+none_there p e = cc
+
+-- ---- what stays
+
+-- what is kept twice is kept
+pub keeps_both : (a b c : Slots) (p q r : Option GroupSlots) → KeepsGroups a p b q → KeepsGroups b q c r → KeepsGroups a p c r
+keeps_both a b c p q r f g = record {
+  whole = λ ss w. g.whole ss (f.whole ss w);
+  view = λ ss w. g.view ss (f.whole ss w) ∙ f.view ss w;
+}
+
+-- with some empty lists more, the spare slots and all groups are as they should be
+pub more_whole : (a b : Slots) (p : Option GroupSlots) (ss : List GroupSlots) → HasMoreLists a b → IsWhole a p ss → IsWhole b p ss
+more_whole a b p ss more whole = record {
+  all = whole_more a b (with_spare p ss) whole.all more;
+  slots = ap (λ (ps : List Ticket). length ps) more.lists.payloads ∙ whole.slots;
+  free = whole.free;
+  first = whole.first;
+}
+
+pub more_keeps : (a b : Slots) (p : Option GroupSlots) → HasMoreLists a b → KeepsGroups a p b p
+more_keeps a b p more = record {
+  whole = λ ss w. more_whole a b p ss more w;
+  view = λ ss w. view_more a b ss (groups_in w) more;
+}
+
+pub more_stays : (a b : Slots) (ss : List GroupSlots) → HasMoreLists a b → StaysWhole a ss b ss
+more_stays a b ss more = record {
+  whole = λ p w. more_whole a b (Some p) ss more w;
+  view = λ p w. view_more a b ss (groups_in w) more;
+}
+
+-- ---- new lists
+
+module _ (a b : Slots) (g : GroupLists) (more : HasNewLists 4 17 18 a b) (from : g ≡ lists_from (length (lists_in a 0)) (length (lists_in a 1)) (length (lists_in a 2))) (qs : List GroupSlots) (whole : AreGroupSlots a qs) where
+  new_group : IsGroupSlots b (no_slot_taken g 0)
+  new_group = subst (λ n. IsGroupSlots b (no_slot_taken g n)) (new_none a b g more from)
+      (vacant_group b g (new_vacant a b g more from) (arena_more 4 17 18 a b qs whole more) (omega (arith, new_none a b g more from)))
+
+  was_apart : (i : ℕ) (s : GroupSlots) → slice_get qs i ≡ Some s → IsApart s.lists g
+  was_apart i s e = let group = whole.each i s e in new_apart a b g more from s.lists group.there group.chained.lists.serials_there group.chained.lists.names_there
+
+  -- with a group more that has them, all groups are as they should be
+  pub whole_added : AreGroupSlots b (qs ++ no_slot_taken g 0 ∷ [])
+  whole_added = record {
+    arena = arena_more 4 17 18 a b qs whole more;
+    each = λ i s e. elim (get_append qs (no_slot_taken g 0) i s e) [
+      | inl k ↦ subst (IsGroupSlots b) (sym k.1) new_group
+      | inr k ↦ slots_same a b s (same_more 4 17 18 a b qs whole more i s k.1) whole.arena (whole.each i s k.1)
+    ];
+    apart = λ i j s r e f ne. elim (get_append qs (no_slot_taken g 0) i s e) [
+      | inl k ↦ elim (get_append qs (no_slot_taken g 0) j r f) [
+        | inl l ↦ absurd (ne (k.0 ∙ sym l.0))
+        | inr l ↦ apart_back r.lists s.lists (subst (λ (z : GroupSlots). IsApart r.lists z.lists) (sym k.1) (was_apart j r l.1))
+      ]
+      | inr k ↦ elim (get_append qs (no_slot_taken g 0) j r f) [
+        | inl l ↦ subst (λ (z : GroupSlots). IsApart s.lists z.lists) (sym l.1) (was_apart i s k.1)
+        | inr l ↦ whole.apart i j s r k.1 l.1 ne
+      ]
+    ];
+  }
+
+-- the spare slots get lists, while there is no group
+pub made_spare : (a b : Slots) (g : GroupLists) (p : Option GroupSlots) → p ≡ None → HasNewLists 4 17 18 a b → g ≡ lists_from (length (lists_in a 0)) (length (lists_in a 1)) (length (lists_in a 2)) → KeepsGroups a p b (Some (no_slot_taken g 0))
+made_spare a b g p none more from = record {
+  whole = λ ss w. made ss (w.first none) (subst (λ q. IsWhole a q ss) none w);
+  view = λ ss w. view_more a b ss (groups_in w) (record { first = 4; second = 17; third = 18; lists = more });
+}
+  where
+    alone : IsWhole a None [] → IsWhole b (Some (no_slot_taken g 0)) []
+    alone w = record {
+      all = whole_added a b g more from [] w.all;
+      slots = ap (λ (ps : List Ticket). length ps) more.payloads ∙ w.slots;
+      free = λ q e. let k : no_slot_taken g 0 ≡ q = some_same (no_slot_taken g 0) q e in subst (λ (z : GroupSlots). z ≡ no_slot_taken z.lists z.slots.max) k refl;
+      first = λ e. refl;
+    }
+
+    made : (ss : List GroupSlots) → ss ≡ [] → IsWhole a None ss → IsWhole b (Some (no_slot_taken g 0)) ss
+    made ss e w = subst (λ rs. IsWhole b (Some (no_slot_taken g 0)) rs) (sym e) (alone (subst (λ rs. IsWhole a None rs) e w))
+
+-- ---- a place
+
+-- one that a retired group left
+pub left_gets : (place : ℕ) (a : Slots) (ss : List GroupSlots) → IsLeft place ss → GetsPlace place a ss a ss
+left_gets place a ss left = record {
+  gets = λ p w. record {
+    entry = left.entry;
+    here = left.here;
+    empty = left.empty;
+    whole = w;
+    vacant = ap (λ (z : GroupTickets). z.room) (group_is a ss place left.entry left.here) ∙ left.empty;
+    others = λ g ne. refl;
+    room = refl;
+    limit = refl;
+  };
+}
+
+at_end : (ss : List GroupSlots) (r : GroupSlots) → slice_get (ss ++ r ∷ []) (length ss) ≡ Some r
+at_end [] r = refl
+at_end (y ∷ ys) r = at_end ys r
+
+not_at_end : (ss : List GroupSlots) (r : GroupSlots) (i : ℕ) → i ≢ length ss → slice_get (ss ++ r ∷ []) i ≡ slice_get ss i
+not_at_end [] r zero ne = absurd (ne refl)
+not_at_end [] r (suc i) ne = refl
+not_at_end (y ∷ ys) r zero ne = refl
+not_at_end (y ∷ ys) r (suc i) ne = not_at_end ys r i (λ e. ne (ap suc e))
+
+-- a new one behind the others
+pub new_gets : (a b : Slots) (g : GroupLists) (ss : List GroupSlots) → HasNewLists 4 17 18 a b → g ≡ lists_from (length (lists_in a 0)) (length (lists_in a 1)) (length (lists_in a 2)) → GetsPlace (length ss) a ss b (ss ++ no_slot_taken g 0 ∷ [])
+new_gets a b g ss more from = record {
+  gets = λ p w. record {
+    entry = no_slot_taken g 0;
+    here = at_end ss (no_slot_taken g 0);
+    empty = refl;
+    whole = record {
+      all = whole_added a b g more from (p ∷ ss) w.all;
+      slots = omega (arith, ap (λ (ps : List Ticket). length ps) more.payloads, w.slots, rooms_first p ss, rooms_first p (ss ++ no_slot_taken g 0 ∷ []), room_same);
+      free = w.free;
+      first = λ e. absurd (some_there p e);
+    };
+    vacant = ap (λ (z : GroupTickets). z.room) (get_or_past (groups_of a ss) (length ss) (no_tickets_in 0) (omega (arith, length-map ss (group_of a))));
+    others = λ j ne. slice_get-map (group_of b) (ss ++ no_slot_taken g 0 ∷ []) j ∙ ap (option_map (group_of b)) (not_at_end ss (no_slot_taken g 0) j ne) ∙ shown w j (slice_get ss j) refl ∙ sym (slice_get-map (group_of a) ss j);
+    room = room_same;
+    limit = more.limit;
+  };
+}
+  where
+    room_same : rooms (ss ++ no_slot_taken g 0 ∷ []) ≡ rooms ss
+    room_same = omega (arith, sum_by-append (λ (s : GroupSlots). s.slots.max) ss (no_slot_taken g 0 ∷ []), sum_by-cons (λ (s : GroupSlots). s.slots.max) (no_slot_taken g 0) [])
+
+    shown : {p : GroupSlots} → IsWhole a (Some p) ss → (j : ℕ) (k : Option GroupSlots) → slice_get ss j ≡ k → option_map (group_of b) k ≡ option_map (group_of a) k
+    shown w j None e = refl
+    shown w j (Some s) e =
+        let all = groups_in w in
+        ap Some (group_same a b s (same_more 4 17 18 a b ss all more j s e) all.arena (all.each j s e))
+
+-- ---- spare slots
+
+-- so many slots more are within the limit where no spare one counts, and the spare ones lie on the lists
+pub record AreReady (slots : ℕ) (a : Slots) (g : GroupLists) (spare : Option GroupSlots) : Type 0 where
+  pub groups : List GroupSlots
+  pub part : GroupSlots
+  pub is : spare ≡ Some part
+  pub whole : IsWhole a (Some part) groups
+  pub lists : part.lists ≡ g
+  pub within : rooms groups + slots ≤ a.limit
+
+pub ready : (slots : ℕ) (a b : Slots) (g : GroupLists) (p q : Option GroupSlots) → HasRoomBeside slots a p → KeepsGroups a p b q → AreSpare 0 g q → AreReady slots b g q
+ready slots a b g p q beside keeps are = record {
+  groups = beside.groups;
+  part = are.part;
+  is = are.is;
+  whole = subst (λ r. IsWhole b r beside.groups) are.is (keeps.whole beside.groups beside.whole);
+  lists = are.lists;
+  within = omega (arith, beside.within, ap (λ (v : TicketsView). v.limit) (keeps.view beside.groups beside.whole));
+}
+
+module _ (slots : ℕ) (a : Slots) (g : GroupLists) (spare : Option GroupSlots) (ready : AreReady slots a g spare) where
+  pub ready_vacant : IsVacant a g
+  ready_vacant = subst (IsVacant a) ready.lists (spare_vacant a ready.part ready.groups ready.whole)
+
+  pub ready_max : ready.part.slots.max ≡ free_slots a g
+  ready_max = spare_max a ready.part ready.groups ready.whole ∙ ap (free_slots a) ready.lists
+
+  pub ready_free : g.free < length (lists_in a 0)
+  ready_free = let k = ready_vacant in omega (arith, k.there, k.numbered.settled)
+
+  -- what is missing is within the limit
+  pub ready_for : free_slots a g < slots → IsReadyFor g (slots - free_slots a g) a
+  ready_for few =
+      let k = ready_vacant in
+      record {
+        first = ready_free;
+        second = k.chains.serials_there;
+        third = k.chains.names_there;
+        within = omega (arith, ready.within, spare_slots a ready.part ready.groups ready.whole, ready_max, few);
+      }
+
+  module _ (b : Slots) (count : ℕ) (grown : IsGrown g count a b) (few : free_slots a g + count ≤ 4096) where
+    more_spare : IsGroupSlots b (no_slot_taken g (free_slots b g))
+    more_spare = vacant_group b g (grown_vacant count g a b grown ready_vacant) grown.arena (omega (arith, few, grown_free count g a b grown ready_vacant))
+
+    same_grown : (ss : List GroupSlots) → IsWhole a (Some ready.part) ss → (j : ℕ) (s : GroupSlots) → slice_get ss j ≡ Some s → IsSame s.lists a b
+    same_grown ss w j s e = grown_same count g a b grown ready_vacant s.lists w.all.arena (subst (λ z. IsApart z s.lists) ready.lists (spare_apart a ready.part ss w j s e))
+
+    -- with so many slots more among the spare ones, all groups are as they were
+    pub grown_keeps : KeepsGroups a spare b (Some (no_slot_taken g (free_slots b g)))
+    grown_keeps = record {
+      whole = λ ss w. now ss (subst (λ r. IsWhole a r ss) ready.is w);
+      view = λ ss w. shown ss (subst (λ r. IsWhole a r ss) ready.is w);
+    }
+      where
+        now : (ss : List GroupSlots) → IsWhole a (Some ready.part) ss → IsWhole b (Some (no_slot_taken g (free_slots b g))) ss
+        now ss w = record {
+          all = record {
+            arena = grown.arena;
+            each = each;
+            apart = apart;
+          };
+          slots = omega (arith, grown_size count g a b grown ready_vacant, grown_free count g a b grown ready_vacant, spare_slots a ready.part ss w, ready_max, rooms_first (no_slot_taken g (free_slots b g)) ss);
+          free = λ q e. let k : no_slot_taken g (free_slots b g) ≡ q = some_same (no_slot_taken g (free_slots b g)) q e in subst (λ (z : GroupSlots). z ≡ no_slot_taken z.lists z.slots.max) k refl;
+          first = λ e. absurd (some_there (no_slot_taken g (free_slots b g)) e);
+        }
+          where
+            each : (i : ℕ) (s : GroupSlots) → slice_get (no_slot_taken g (free_slots b g) ∷ ss) i ≡ Some s → IsGroupSlots b s
+            each zero s e = subst (IsGroupSlots b) (some_same (no_slot_taken g (free_slots b g)) s e) more_spare
+            each (suc i) s e = slots_same a b s (same_grown ss w i s e) w.all.arena (w.all.each (suc i) s e)
+
+            beside : (i : ℕ) (s r : GroupSlots) → no_slot_taken g (free_slots b g) ≡ s → slice_get ss i ≡ Some r → IsApart s.lists r.lists
+            beside i s r k e = subst (λ (z : GroupLists). IsApart z r.lists) (ready.lists ∙ ap (λ (z : GroupSlots). z.lists) k) (spare_apart a ready.part ss w i r e)
+
+            apart : (i j : ℕ) (s r : GroupSlots) → slice_get (no_slot_taken g (free_slots b g) ∷ ss) i ≡ Some s → slice_get (no_slot_taken g (free_slots b g) ∷ ss) j ≡ Some r → i ≢ j → IsApart s.lists r.lists
+            apart zero zero s r e f ne = absurd (ne refl)
+            apart zero (suc j) s r e f ne = beside j s r (some_same (no_slot_taken g (free_slots b g)) s e) f
+            apart (suc i) zero s r e f ne = apart_back r.lists s.lists (beside i r s (some_same (no_slot_taken g (free_slots b g)) r f) e)
+            apart (suc i) (suc j) s r e f ne = w.all.apart (suc i) (suc j) s r e f ne
+
+        shown : (ss : List GroupSlots) → IsWhole a (Some ready.part) ss → view_of b ss ≡ view_of a ss
+        shown ss w = λ i. record { limit = grown_limit count g a b grown ready_vacant i; groups = map_same (group_of b) (group_of a) ss (λ j s e. group_same a b s (same_grown ss w j s e) w.all.arena (w.all.each (suc j) s e)) i }
+
+-- ---- a group is added
+
+-- the spare slots and the group's part, once both are ready
+pub record IsChosen (place slots : ℕ) (g : GroupLists) (s : GroupSlots) (a : Slots) (ss : List GroupSlots) (b : Slots) (rs : List GroupSlots) : Type 0 where
+  pub part : GroupSlots
+  pub placed : IsPlaced place a part ss b rs
+  pub limit : b.limit ≡ a.limit
+  pub here : slice_get rs place ≡ Some s
+  pub empty : s.slots.max ≡ 0
+  pub lists : part.lists ≡ g
+  pub enough : slots ≤ part.slots.max
+
+pub chosen : (place slots : ℕ) (g : GroupLists) (s : GroupSlots) (a : Slots) (ss : List GroupSlots) (spare : Option GroupSlots) (b : Slots) (rs : List GroupSlots) → IsWhole a spare ss → AreSpare slots g spare → GetsPlace place a ss b rs → s ≡ get_or rs place s → IsChosen place slots g s a ss b rs
+chosen place slots g s a ss spare b rs whole are got is =
+    let placed = got.gets are.part (subst (λ q. IsWhole a q ss) are.is whole) in
+    let here : slice_get rs place ≡ Some s = get_is rs place s (get_lt rs place placed.entry placed.here) is in
+    record {
+      part = are.part;
+      placed = placed;
+      limit = placed.limit;
+      here = here;
+      empty = ap (λ (z : GroupSlots). z.slots.max) (some_same s placed.entry (sym here ∙ placed.here)) ∙ placed.empty;
+      lists = are.lists;
+      enough = are.enough;
+    }

@@ -1,0 +1,55 @@
+use Rattle.std.proofs.Common.{◌<◌, length, set, Option, arith, ap, subst, ◌∙◌}
+use Rattle.std.specs.Prelude.{◌^◌}
+use Rattle.bh_cache.proofs.Walks.{arena_is}
+use Rattle.bh_tickets.specs.declared.group_slots.GroupSlots.{GroupSlots}
+use Rattle.bh_tickets.specs.TicketsView.{TicketsView, no_tickets_in}
+use Rattle.bh_tickets.specs.Whole.{IsWhole}
+use Rattle.bh_tickets.proofs.NewGroup.{apart_back}
+use Rattle.bh_tickets.proofs.Rebuilt.{given_view, given_whole, spare_apart, spare_vacant, whole_group}
+use Rattle.bh_tickets.proofs.Whole.{part_is}
+use Rattle.bh_tickets.proofs.tickets.Tickets.retire_group.Goals as goal
+
+pub give_slots-requires-clause-giver : goal.give_slots-requires-clause-giver
+give_slots-requires-clause-giver c =
+    let a = c.self.inside.arena in
+    let ss = c.self.inside.groups.items in
+    let s = c.index.result.now in
+    let whole = subst (λ (q : Option GroupSlots). IsWhole a q ss) c.in-Some.is c.self.invariant in
+    whole_group a c.in-Some.spare ss whole c.args.place s (part_is a ss c.args.self.now c.args.place s c.self.view_is c.requires c.index.ensures)
+
+pub give_slots-requires-clause-taker : goal.give_slots-requires-clause-taker
+give_slots-requires-clause-taker c =
+    let a = c.self.inside.arena in
+    let ss = c.self.inside.groups.items in
+    spare_vacant a c.in-Some.spare ss (subst (λ (q : Option GroupSlots). IsWhole a q ss) c.in-Some.is c.self.invariant)
+
+pub give_slots-requires-clause-apart : goal.give_slots-requires-clause-apart
+give_slots-requires-clause-apart c =
+    let a = c.self.inside.arena in
+    let ss = c.self.inside.groups.items in
+    let s = c.index.result.now in
+    let whole = subst (λ (q : Option GroupSlots). IsWhole a q ss) c.in-Some.is c.self.invariant in
+    apart_back c.in-Some.spare.lists s.lists (spare_apart a c.in-Some.spare ss whole c.args.place s (part_is a ss c.args.self.now c.args.place s c.self.view_is c.requires c.index.ensures))
+
+pub invariant_of-self : goal.invariant_of-self
+invariant_of-self c =
+    let a = c.self.inside.arena in
+    let b = c.give_slots.new.arena in
+    let ss = c.self.inside.groups.items in
+    let s = c.index.result.now in
+    let whole = subst (λ (q : Option GroupSlots). IsWhole a q ss) c.in-Some.is c.self.invariant in
+    let is = part_is a ss c.args.self.now c.args.place s c.self.view_is c.requires c.index.ensures in
+    let few : length b.payloads < 2 ^ 32 = omega (arith, c.partition.ensures.limit, c.partition.ensures.few) in
+    given_whole a b c.in-Some.spare c.vacant.result ss c.args.place s c.vacant-2.result whole is c.give_slots.ensures (arena_is b 0 (omega (arith, c.partition.ensures.families)) c.partition.ensures.lists) few c.vacant.ensures c.vacant-2.ensures
+
+pub returns : goal.returns
+returns c =
+    let a = c.self.inside.arena in
+    let b = c.give_slots.new.arena in
+    let ss = c.self.inside.groups.items in
+    let s = c.index.result.now in
+    let whole = subst (λ (q : Option GroupSlots). IsWhole a q ss) c.in-Some.is c.self.invariant in
+    let is = part_is a ss c.args.self.now c.args.place s c.self.view_is c.requires c.index.ensures in
+    let few : length b.payloads < 2 ^ 32 = omega (arith, c.partition.ensures.limit, c.partition.ensures.few) in
+    given_view a b c.in-Some.spare c.vacant.result ss c.args.place s c.vacant-2.result whole is c.give_slots.ensures (arena_is b 0 (omega (arith, c.partition.ensures.families)) c.partition.ensures.lists) few c.vacant.ensures c.vacant-2.ensures
+    ∙ ap (λ (v : TicketsView). record v { groups = set v.groups c.args.place (no_tickets_in 0) }) c.self.view_is

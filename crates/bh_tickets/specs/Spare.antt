@@ -1,0 +1,115 @@
+-- Slots without tickets, which go from one group to another.
+use Rattle.std.specs.Prelude.{◌≡◌, ◌≢◌, ℕ, zero, suc, ◌+◌, ◌<◌, ◌≤◌, Bool, true, false, ◌||◌, List, [], length, Option, Some, slice_get}
+use Rattle.bh_slot_arena.specs.Slots.{lists_in, slots_on}
+use Rattle.bh_cache.specs.declared.lists.GroupLists.{GroupLists}
+use Rattle.bh_cache.specs.Chains.{HasChains}
+use Rattle.bh_cache.specs.Slots.{Slots, is_live, is_on, IsApart}
+use Rattle.bh_tickets.specs.declared.group_slots.GroupSlots.{GroupSlots}
+use Rattle.bh_tickets.specs.GroupSlots.{IsNumbered}
+use Rattle.bh_tickets.specs.Same.{IsSame}
+use Rattle.bh_tickets.specs.TicketsView.{group_at}
+use Rattle.bh_tickets.specs.Whole.{IsWhole, groups_of, rooms, view_of}
+
+-- ---- a group without tickets
+
+-- the group's free slots lie on the last of its lists of the family, and no others lie on these
+pub record AreFreeOn (family first last : ℕ) (a : Slots) (g : GroupLists) : Type 0 where
+  pub placed : (x : ℕ) → is_on a 0 g.free x ≡ true → is_on a family last x ≡ true
+  pub owned : (l x : ℕ) → first ≤ l → l ≤ last → is_on a family l x ≡ true → is_on a 0 g.free x ≡ true
+
+-- the group's lists are there, and no slot on them has a ticket
+pub record IsVacant (a : Slots) (g : GroupLists) : Type 0 where
+  pub numbered : IsNumbered g
+  pub there : g.settled < length (lists_in a 0)
+  pub chains : HasChains a g
+  pub live : (x : ℕ) → is_live a g x ≡ false
+  pub serials : AreFreeOn 1 g.serials g.free1 a g
+  pub names : AreFreeOn 2 g.names g.free2 a g
+
+-- how many slots of the group have no ticket
+abbrev pub free_slots : Slots → GroupLists → ℕ
+free_slots a g = length (slots_on a 0 g.free)
+
+-- ---- slots go from group to group
+
+-- so many slots have gone from the one group to the other, neither of which has a ticket; all else is as it was
+pub record IsTaken (count : ℕ) (from to : GroupLists) (a b : Slots) : Type 0 where
+  pub giver : IsVacant b from
+  pub taker : IsVacant b to
+  pub left : free_slots b from + count ≡ free_slots a from
+  pub got : free_slots b to ≡ free_slots a to + count
+  pub same : (h : GroupLists) → IsApart from h → IsApart to h → IsSame h a b
+  pub slots : length b.payloads ≡ length a.payloads
+  pub limit : b.limit ≡ a.limit
+
+-- all slots of a group have gone to one without tickets; all else is as it was
+pub record IsGiven (s : GroupSlots) (to : GroupLists) (a b : Slots) : Type 0 where
+  pub giver : IsVacant b s.lists
+  pub taker : IsVacant b to
+  pub none : free_slots b s.lists ≡ 0
+  pub got : free_slots b to ≡ free_slots a to + s.slots.max
+  pub same : (h : GroupLists) → IsApart s.lists h → IsApart to h → IsSame h a b
+  pub slots : length b.payloads ≡ length a.payloads
+  pub limit : b.limit ≡ a.limit
+
+-- the slot is on one of so many lists of the family
+abbrev pub on_run : Slots → ℕ → ℕ → ℕ → ℕ → Bool
+on_run a family first zero x = false
+on_run a family first (suc n) x = on_run a family first n x || is_on a family (first + n) x
+
+-- what was on so many lists of the family is on another; all else is as it was
+pub record IsGathered (family first count to : ℕ) (a b : Slots) : Type 0 where
+  pub payloads : b.payloads ≡ a.payloads
+  pub limit : b.limit ≡ a.limit
+  pub families : length b.families ≡ length a.families
+  pub others : (f : ℕ) → f ≢ family → lists_in b f ≡ lists_in a f
+  pub lists : length (lists_in b family) ≡ length (lists_in a family)
+  pub gone : (l : ℕ) → first ≤ l → l < first + count → slots_on b family l ≡ []
+  pub kept : (l : ℕ) → (first ≤ l → l < first + count → ⊥) → l ≢ to → slots_on b family l ≡ slots_on a family l
+  pub on : (x : ℕ) → is_on b family to x ≡ (is_on a family to x || on_run a family first count x)
+
+-- ---- what becomes of all groups
+
+-- whatever the groups are, they and the spare slots are as they should be still, and contracts see of the groups what they saw
+pub record KeepsGroups (a : Slots) (spare : Option GroupSlots) (b : Slots) (rest : Option GroupSlots) : Type 0 where
+  pub whole : (ss : List GroupSlots) → IsWhole a spare ss → IsWhole b rest ss
+  pub view : (ss : List GroupSlots) → IsWhole a spare ss → view_of b ss ≡ view_of a ss
+
+-- there are groups, and so many slots more are within the limit where no spare slot counts
+pub record HasRoomBeside (slots : ℕ) (a : Slots) (spare : Option GroupSlots) : Type 0 where
+  pub groups : List GroupSlots
+  pub whole : IsWhole a spare groups
+  pub within : rooms groups + slots ≤ a.limit
+
+-- the spare slots lie on the lists, and are so many at least
+pub record AreSpare (slots : ℕ) (g : GroupLists) (spare : Option GroupSlots) : Type 0 where
+  pub part : GroupSlots
+  pub is : spare ≡ Some part
+  pub lists : part.lists ≡ g
+  pub enough : slots ≤ part.slots.max
+
+-- the group at the place has no slot
+pub record IsLeft (place : ℕ) (ss : List GroupSlots) : Type 0 where
+  pub entry : GroupSlots
+  pub here : slice_get ss place ≡ Some entry
+  pub empty : entry.slots.max ≡ 0
+
+-- a group without slots is at the place, which no group had; all else is as it was
+pub record IsPlaced (place : ℕ) (a : Slots) (p : GroupSlots) (ss : List GroupSlots) (b : Slots) (rs : List GroupSlots) : Type 0 where
+  pub entry : GroupSlots
+  pub here : slice_get rs place ≡ Some entry
+  pub empty : entry.slots.max ≡ 0
+  pub whole : IsWhole b (Some p) rs
+  pub vacant : (group_at (view_of a ss) place).room ≡ 0
+  pub others : (g : ℕ) → g ≢ place → slice_get (groups_of b rs) g ≡ slice_get (groups_of a ss) g
+  pub room : rooms rs ≡ rooms ss
+  pub limit : b.limit ≡ a.limit
+
+-- whatever the spare slots are, the place is got
+pub record GetsPlace (place : ℕ) (a : Slots) (ss : List GroupSlots) (b : Slots) (rs : List GroupSlots) : Type 0 where
+  pub gets : (p : GroupSlots) → IsWhole a (Some p) ss → IsPlaced place a p ss b rs
+
+-- whatever the spare slots are, the groups are as they should be still, and contracts see of them what they saw
+pub record StaysWhole (a : Slots) (ss : List GroupSlots) (b : Slots) (rs : List GroupSlots) : Type 0 where
+  pub whole : (p : GroupSlots) → IsWhole a (Some p) ss → IsWhole b (Some p) rs
+  pub view : (p : GroupSlots) → IsWhole a (Some p) ss → view_of b rs ≡ view_of a ss

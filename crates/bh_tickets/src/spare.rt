@@ -1,0 +1,171 @@
+//! The slots of retired groups, and how groups take them.
+
+ghost use Rattle.std.specs.Prelude.{◌≡◌, ◌≢◌, ◌+◌, ◌<◌, ◌≤◌, ◌^◌, length, true, IfOk, IfSome, OnErr, Some};
+ghost use Rattle.bh_base.specs.declared.ticket.Ticket.{Ticket};
+ghost use Rattle.bh_slot_arena.specs.Slots.{lists_in};
+ghost use Rattle.bh_cache.specs.Slots.{IsApart};
+ghost use Rattle.bh_tickets.specs.GroupSlots.{IsGroupSlots, no_slot_taken};
+ghost use Rattle.bh_tickets.specs.Spare.{AreSpare, GetsPlace, HasRoomBeside, IsGathered, IsGiven, IsLeft, IsTaken, IsVacant, KeepsGroups, StaysWhole, free_slots};
+
+use crate::group_slots::GroupSlots;
+use crate::growth::{add_lists, add_slots, blank_ticket};
+use bh_base::Ticket;
+use bh_cache::{GroupLists, place_free};
+use bh_slot_arena::Arena;
+use std::alloc::AllocError;
+
+/// What a group keeps that has no ticket.
+pub fn vacant(arena: &Arena<Ticket, 3>, lists: &GroupLists) -> GroupSlots
+    requires { lists.now.free < length (lists_in arena.now 0) }
+    ensures { result ≡ no_slot_taken lists.now (free_slots arena.now lists.now) }
+{
+    GroupSlots::new(*lists, arena.len_of(0, lists.free) as u64)
+}
+
+/// The lists of spare slots, of which there are so many then at least: what is missing is new. Refused, the arena may
+/// have some empty lists more.
+pub fn ready_spare(
+    arena: &mut Arena<Ticket, 3>,
+    spare: &mut Option<GroupSlots>,
+    slots: u64,
+) -> Result<GroupLists, AllocError>
+    requires few { slots ≤ 4096 }
+    requires room { HasRoomBeside slots arena.old spare.old }
+    ensures keeps { KeepsGroups arena.old spare.old arena.new spare.new }
+    ensures ok { IfOk result (λ lists. AreSpare slots lists spare.new) }
+{
+    let lists = spare_lists(arena, spare)?;
+    let there = arena.len_of(0, lists.free) as u64;
+    if there < slots {
+        add_slots(arena, &lists, (slots - there) as u32)?;
+        *spare = Some(vacant(arena, &lists));
+    }
+    Ok(lists)
+}
+
+/// The lists of spare slots, which are made where there are none. Refused, the arena may have some empty lists more.
+fn spare_lists(
+    arena: &mut Arena<Ticket, 3>,
+    spare: &mut Option<GroupSlots>,
+) -> Result<GroupLists, AllocError>
+    ensures keeps { KeepsGroups arena.old spare.old arena.new spare.new }
+    ensures ok { IfOk result (λ lists. AreSpare 0 lists spare.new) }
+{
+    if let Some(part) = *spare {
+        return Ok(part.lists);
+    }
+    let lists = add_lists(arena)?;
+    *spare = Some(GroupSlots::new(lists, 0));
+    Ok(lists)
+}
+
+/// A place for a group, with lists and no slot: one that a retired group left, else a new one behind the others. Refused,
+/// the arena may have some empty lists more.
+pub fn take_place(
+    arena: &mut Arena<Ticket, 3>,
+    groups: &mut Vec<GroupSlots>,
+) -> Result<usize, AllocError>
+    ensures ok { IfOk result (λ place. GetsPlace place arena.old groups.old.items arena.new groups.new.items) }
+    ensures err { OnErr result (StaysWhole arena.old groups.old.items arena.new groups.new.items) }
+{
+    if let Some(place) = left_place(groups) {
+        return Ok(place);
+    }
+    groups.reserve(1)?;
+    let lists = add_lists(arena)?;
+    let place = groups.len();
+    groups.push_reserved(GroupSlots::new(lists, 0));
+    Ok(place)
+}
+
+/// A place whose group has no slot.
+fn left_place(groups: &[GroupSlots]) -> Option<usize>
+    ensures { IfSome result (λ place. IsLeft place groups.now) }
+{
+    for (place, group) in groups.iter().enumerate() {
+        if has_no_slots(group) {
+            return Some(place);
+        }
+    }
+    None
+}
+
+/// Whether the group has no slot.
+fn has_no_slots(group: &GroupSlots) -> bool
+    ensures { result ≡ true → group.now.slots.max ≡ 0 }
+{
+    let mut slots = group.slots;
+    slots.taken() == 0 && !slots.try_take()
+}
+
+/// So many slots go from one group to another, neither of which has a ticket.
+pub fn take_slots(arena: &mut Arena<Ticket, 3>, from: &GroupLists, to: &GroupLists, count: u64)
+    requires giver { IsVacant arena.old from.now }
+    requires taker { IsVacant arena.old to.now }
+    requires apart { IsApart from.now to.now }
+    requires enough { count ≤ free_slots arena.old from.now }
+    ensures { IsTaken count from.now to.now arena.old arena.new }
+{
+    for _ in 0..count {
+        take_slot(arena, from, to);
+    }
+}
+
+/// A slot goes from one group to another, neither of which has a ticket. Nothing of the tickets that it had is left.
+fn take_slot(arena: &mut Arena<Ticket, 3>, from: &GroupLists, to: &GroupLists)
+    requires giver { IsVacant arena.old from.now }
+    requires taker { IsVacant arena.old to.now }
+    requires apart { IsApart from.now to.now }
+    requires enough { 0 < free_slots arena.old from.now }
+    ensures { IsTaken 1 from.now to.now arena.old arena.new }
+{
+    let Some(slot) = arena.front(0, from.free) else {
+        return;
+    };
+    arena.partition(0);
+    arena.partition(1);
+    arena.partition(2);
+    arena.set(slot, blank_ticket());
+    arena.move_to_back(0, slot, to.free);
+    place_free(arena, to, slot);
+}
+
+/// All slots of a group go to one without tickets, and have none then. It takes no memory.
+pub fn give_slots(arena: &mut Arena<Ticket, 3>, group: &GroupSlots, to: &GroupLists)
+    requires giver { IsGroupSlots arena.old group.now }
+    requires taker { IsVacant arena.old to.now }
+    requires apart { IsApart group.now.lists to.now }
+    ensures { IsGiven group.now to.now arena.old arena.new }
+{
+    let from = group.lists;
+    is_number(from.settled);
+    is_number(from.free1);
+    is_number(from.free2);
+    arena.partition(0);
+    gather(arena, 0, from.free, 4, to.free);
+    gather(arena, 1, from.serials, 17, to.free1);
+    gather(arena, 2, from.names, 18, to.free2);
+    arena.partition(0);
+}
+
+/// The law of numbers: each is below 2^64. The call does nothing; its contract is the law.
+fn is_number(number: usize)
+    ensures { number < 2 ^ 64 }
+{
+    let _ = number;
+}
+
+/// What is on so many lists, from the first on, goes to the end of another.
+fn gather(arena: &mut Arena<Ticket, 3>, family: usize, first: usize, count: usize, to: usize)
+    requires family { family < 3 }
+    requires there { first + count ≤ length (lists_in arena.old family) }
+    requires few { first + count ≤ 2 ^ 64 }
+    requires to { to < length (lists_in arena.old family) }
+    requires apart { first ≤ to → to < first + count → ⊥ }
+    ensures { IsGathered family first count to arena.old arena.new }
+{
+    arena.partition(family);
+    for place in 0..count {
+        arena.append(family, first + place, to);
+    }
+}
