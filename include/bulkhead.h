@@ -1,7 +1,8 @@
 /* The command service bulkhead, for programs in C and for all that can call C.
  *
  * A service has groups. It is handed steps, each with a moment, and gives a reply to each; it knows no clock, starts no
- * thread and calls nothing back. docs/FORMATS.md tells the settings file, the lines and the replies, and
+ * thread and calls nothing back. Its first groups are those of the settings file; a line may register further ones, and
+ * retire a group that nobody uses. docs/FORMATS.md tells the settings file, the lines and the replies, and
  * docs/DEFINITIONS.md what each step does.
  *
  * What every call keeps to:
@@ -38,7 +39,7 @@ extern "C" {
 #define BULKHEAD_NO_MEMORY 2u         /* memory was refused */
 #define BULKHEAD_NO_ROOM 3u           /* the buffer is too short; the length that suffices was written */
 #define BULKHEAD_BAD_LINE 4u          /* the line is of more than 1,024 bytes, or not UTF-8 */
-#define BULKHEAD_NO_SUCH_GROUP 5u     /* no group has the name */
+#define BULKHEAD_NO_SUCH_GROUP 5u     /* no group that is there has the name */
 #define BULKHEAD_NOT_TEXT 6u          /* a text is not UTF-8 */
 #define BULKHEAD_TOO_LONG 7u          /* a text of a step is longer than it may be */
 #define BULKHEAD_NO_SUCH_OPERATION 8u /* no operation has the number */
@@ -67,7 +68,8 @@ typedef struct bulkhead_service {
 
 /* A step. Texts are UTF-8 and have no zero at their end; a text may have zeros in it. */
 typedef struct bulkhead_step {
-    uint64_t group;       /* the number of the group, from 0 in the order of the settings file */
+    uint64_t group;       /* the number of the group, from 0 in the order of the settings file; those that lines register
+                           * have the numbers that follow, and no number is given twice */
     uint64_t moment;      /* the moment in milliseconds; one before the group's latest counts as that one */
     uint64_t ticket;      /* the number of a ticket, as a reply had it */
     uint64_t context;     /* the number of a request context */
@@ -102,7 +104,7 @@ typedef struct bulkhead_step {
 #define BULKHEAD_CLOSED 20u          /* tickets are cached no longer [number: how many] */
 #define BULKHEAD_METRICS 21u         /* the metrics of the command [metrics] */
 #define BULKHEAD_WORN 22u            /* the group has done all the steps that it may; nothing changed */
-#define BULKHEAD_NO_GROUP 23u        /* no group has the number; nothing changed */
+#define BULKHEAD_NO_GROUP 23u        /* no group has the number, or it was retired; nothing changed */
 #define BULKHEAD_NO_COMMAND 24u      /* the group has no such command; nothing changed */
 
 /* Why a fallback is due. */
@@ -178,15 +180,15 @@ uint32_t bulkhead_open(bulkhead_service *service, const uint8_t *settings, size_
 /* Closes a service and gives its memory back. */
 void bulkhead_close(bulkhead_service *service);
 
-/* Writes the number of the group of the name to `number`.
+/* Writes the number of the group of the name to `number`: where groups had the name one after another, that of the last.
  *
- * BULKHEAD_NO_SUCH_GROUP; BULKHEAD_NOT_TEXT. */
+ * BULKHEAD_NO_SUCH_GROUP, also where that group was retired; BULKHEAD_NOT_TEXT. */
 uint32_t bulkhead_group(bulkhead_service *service, const uint8_t *name, size_t name_length, uint64_t *number);
 
 /* Writes the number of the command of the name in the group of the number to `number`. The name of the group is that of
  * its own command, number 0.
  *
- * BULKHEAD_NO_SUCH_COMMAND, also where there is no such group; BULKHEAD_NOT_TEXT. */
+ * BULKHEAD_NO_SUCH_COMMAND, also where there is no such group or it was retired; BULKHEAD_NOT_TEXT. */
 uint32_t bulkhead_command(bulkhead_service *service, uint64_t group, const uint8_t *name, size_t name_length,
                           uint8_t *number);
 
@@ -196,12 +198,13 @@ uint32_t bulkhead_command(bulkhead_service *service, uint64_t group, const uint8
  * and BULKHEAD_NOT_TEXT, in this order. */
 uint32_t bulkhead_make_step(bulkhead_service *service, const bulkhead_step *step, bulkhead_reply *reply);
 
-/* Answers a line as the program does (`bulkhead run`): a line that says a step by its reply, any other by its fault. The
- * line is given without its line feed and without the carriage return before that. The answer, with its line feed, stands
- * at `answer`, and its length at `length`.
+/* Answers a line as the program does (`bulkhead run`): a line that says a step by its reply, one that registers or retires
+ * a group by whether it did, any other by its fault. The line is given without its line feed and without the carriage
+ * return before that. The answer, with its line feed, stands at `answer`, and its length at `length`.
  *
  * BULKHEAD_BAD_LINE: where the program would stop. BULKHEAD_NO_ROOM: `answer_room` is below BULKHEAD_ANSWER_ROOM, which
- * stands at `length` then. BULKHEAD_NO_MEMORY: the memory for the longest answer is taken before the step is made. */
+ * stands at `length` then. BULKHEAD_NO_MEMORY: the memory for the longest answer is taken before anything is done, and
+ * that for a new group before the group is there. */
 uint32_t bulkhead_line(bulkhead_service *service, const uint8_t *line, size_t line_length,
                        uint8_t *answer, size_t answer_room, size_t *length);
 

@@ -80,7 +80,7 @@ class BadLine(Error):
 
 
 class NoSuchGroup(Error):
-    """No group has the name."""
+    """No group that is there has the name: none had it, or the last that had it was retired."""
 
 
 class NoSuchCommand(Error):
