@@ -145,19 +145,19 @@ impl Service {
             &mut self.scratch,
             text,
         ) {
-            Ok(Ok(act)) => self.line_of_act(act, buffer, needed),
+            Ok(Ok(act)) => self.line_of_act(&act, buffer, needed),
             Ok(Err(fault)) => self.line_of_fault(fault, buffer, needed),
             Err(_) => Outcome::NoMemory,
         }
     }
 
     /// Does what a line asks for, and writes the line of what is told in front of the buffer.
-    fn line_of_act(&mut self, act: LineAct, buffer: &mut [u8], needed: &mut usize) -> Outcome
-        requires act { IsActOf (settings_view self.old.settings) self.old.groups.entries act }
+    fn line_of_act(&mut self, act: &LineAct, buffer: &mut [u8], needed: &mut usize) -> Outcome
+        requires act { IsActOf (settings_view self.old.settings) self.old.groups.entries act.now }
         requires empty { self.old.answer.items ≡ [] }
         requires room { vec_len self.old.answer + 2048 ≤ vec_capacity self.old.answer }
         requires buffer { 2048 ≤ length buffer.old }
-        ensures told { ActTold (settings_view self.old.settings) act self.old.groups self.new.groups buffer.old buffer.new needed.new result }
+        ensures told { ActTold (settings_view self.old.settings) act.now self.old.groups self.new.groups buffer.old buffer.new needed.new result }
         ensures settings { self.new.settings ≡ self.old.settings }
     {
         let Ok(told) = self.groups.act(&self.settings, act) else {

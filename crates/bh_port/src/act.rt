@@ -113,22 +113,22 @@ fn retirement(groups: &Groups, name: &str) -> Result<LineAct, Fault>
 impl Groups {
     /// Does what a line asks for, and says what the line is told. It fails only for want of memory, and nothing has changed
     /// then; a step and a retirement need none.
-    pub fn act(&mut self, settings: &Settings, act: LineAct) -> Result<Told, AllocError>
-        requires { IsActOf (settings_view settings.now) self.old.entries act }
+    pub fn act(&mut self, settings: &Settings, act: &LineAct) -> Result<Told, AllocError>
+        requires { IsActOf (settings_view settings.now) self.old.entries act.now }
         ensures told { IfOk result (λ told. (before : Course) → GroupsShow (settings_view settings.now) self.old before →
-            told ≡ told_by (settings_view settings.now) before act) }
+            told ≡ told_by (settings_view settings.now) before act.now) }
         ensures agrees { OnOk result ((before : Course) → GroupsShow (settings_view settings.now) self.old before →
-            GroupsShow (settings_view settings.now) self.new (with_act (settings_view settings.now) before act)) }
+            GroupsShow (settings_view settings.now) self.new (with_act (settings_view settings.now) before act.now)) }
         ensures err { OnErr result (self.new ≡ self.old) }
     {
         match act {
             LineAct::Step(step) => Ok(self.step(settings, step)),
             LineAct::Register { name, like } => {
-                self.register(settings, name, like)?;
-                Ok(Told::Registered(name))
+                self.register(settings, *name, *like)?;
+                Ok(Told::Registered(*name))
             }
             LineAct::Retire(group) => {
-                if self.retire(group) {
+                if self.retire(*group) {
                     Ok(Told::Retired)
                 } else {
                     Ok(Told::Held)
@@ -138,13 +138,13 @@ impl Groups {
     }
 
     /// Makes a step, and says what its line is told.
-    fn step(&mut self, settings: &Settings, step: Step) -> Told
-        ensures step { (reply : ReplyValue) × IsStep self.old.core step reply self.new.core
-            × (result ≡ told_reply (settings_view settings.now) self.old.entries step.group.0 reply) }
+    fn step(&mut self, settings: &Settings, step: &Step) -> Told
+        ensures step { (reply : ReplyValue) × IsStep self.old.core step.entry.now reply self.new.core
+            × (result ≡ told_reply (settings_view settings.now) self.old.entries step.entry.now.group.0 reply) }
         ensures entries { self.new.entries ≡ self.old.entries }
     {
         let group = step.group;
-        let reply = self.apply(step);
+        let reply = self.apply(*step);
         let command = told_command(settings, self, group, &reply);
         Told::Reply { reply, command }
     }

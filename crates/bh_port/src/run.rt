@@ -114,19 +114,19 @@ impl Run {
         ensures left { self.new.buffer ≡ self.old.buffer }
     {
         match line_act(self.alloc, settings, &self.groups, &mut self.scratch, line) {
-            Ok(Ok(act)) => self.answer_act(settings, act),
+            Ok(Ok(act)) => self.answer_act(settings, &act),
             Ok(Err(fault)) => self.answer_fault(fault),
             Err(error) => Err(error),
         }
     }
 
     /// Does what a line asks for, and puts the line of what is told behind what is to be written.
-    fn answer_act(&mut self, settings: &Settings, act: LineAct) -> Result<(), AllocError>
-        requires { IsActOf (settings_view settings.now) self.old.groups.entries act }
+    fn answer_act(&mut self, settings: &Settings, act: &LineAct) -> Result<(), AllocError>
+        requires { IsActOf (settings_view settings.now) self.old.groups.entries act.now }
         ensures wrote { OnOk result ((before : Course) → GroupsShow (settings_view settings.now) self.old.groups before →
-            self.new.out.items ≡ self.old.out.items ++ told_line (told_by (settings_view settings.now) before act)) }
+            self.new.out.items ≡ self.old.out.items ++ told_line (told_by (settings_view settings.now) before act.now)) }
         ensures agrees { OnOk result ((before : Course) → GroupsShow (settings_view settings.now) self.old.groups before →
-            GroupsShow (settings_view settings.now) self.new.groups (with_act (settings_view settings.now) before act)) }
+            GroupsShow (settings_view settings.now) self.new.groups (with_act (settings_view settings.now) before act.now)) }
         ensures kept { OnErr result (self.new.out.items ≡ self.old.out.items) }
         ensures left { self.new.buffer ≡ self.old.buffer }
     {
