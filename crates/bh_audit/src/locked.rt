@@ -219,12 +219,9 @@ impl<const A: u32> Locked<A> {
         ensures known { (v : View) → view_at self.now.book.groups group.0 ≡ Some v → result ≡ workers_of v.present.props }
         ensures unknown { view_at self.now.book.groups group.0 ≡ None → result ≡ 0 }
     {
-        if !self.book.is_registered(group) {
-            return 0;
-        }
         match self.book.core().props(group) {
-            Some((props, _)) => workers_of(props),
-            None => 0,
+            Some((props, _)) if self.book.is_registered(group) => workers_of(props),
+            _ => 0,
         }
     }
 }

@@ -138,16 +138,20 @@ impl Service {
         if self.answer.reserve(ANSWER_ROOM).is_err() {
             return Outcome::NoMemory;
         }
-        match line_act(
+        let mut act = LineAct::Retire(GroupId(0));
+        let Ok(said) = line_act(
             self.alloc,
             &self.settings,
             &self.groups,
             &mut self.scratch,
             text,
-        ) {
-            Ok(Ok(act)) => self.line_of_act(&act, buffer, needed),
-            Ok(Err(fault)) => self.line_of_fault(fault, buffer, needed),
-            Err(_) => Outcome::NoMemory,
+            &mut act,
+        ) else {
+            return Outcome::NoMemory;
+        };
+        match said {
+            Ok(()) => self.line_of_act(&act, buffer, needed),
+            Err(fault) => self.line_of_fault(fault, buffer, needed),
         }
     }
 

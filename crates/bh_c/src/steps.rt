@@ -9,7 +9,7 @@ ghost use Rattle.bh_c.specs.Given.{made_in, step_in, step_of};
 use crate::given::{GivenStep, OpNumber, op_number, text_in};
 use crate::outcome::Outcome;
 use crate::told::ToldReply;
-use bh_base::{FallbackEnd, GroupId, Op, Request, Step};
+use bh_base::{FallbackEnd, GroupId, Op, Reply, Request};
 use bh_port::groups::Groups;
 
 /// Makes the step that is given, and tells its reply; or says why none is given, and does nothing: the operation is
@@ -54,7 +54,7 @@ fn make_numbered(
 fn start(groups: &mut Groups, given: &GivenStep, told: &mut ToldReply) -> Outcome
     ensures { StepTold (made_in OpNumber.Start given.now) groups.old groups.new told.old told.new result }
 {
-    make(groups, given, Op::Start, told)
+    make(groups, given, &Op::Start, told)
 }
 
 /// The end of a run without a body.
@@ -63,7 +63,7 @@ fn fail(groups: &mut Groups, given: &GivenStep, bad: bool, told: &mut ToldReply)
     ensures { StepTold (Ok (step_of given.now (Op.Fail given.now.ticket bad))) groups.old groups.new told.old told.new result }
 {
     let serial = given.ticket;
-    make(groups, given, Op::Fail { serial, bad }, told)
+    make(groups, given, &Op::Fail { serial, bad }, told)
 }
 
 /// Times out what is due.
@@ -71,7 +71,7 @@ fn fail(groups: &mut Groups, given: &GivenStep, bad: bool, told: &mut ToldReply)
 fn expire(groups: &mut Groups, given: &GivenStep, told: &mut ToldReply) -> Outcome
     ensures { StepTold (made_in OpNumber.Expire given.now) groups.old groups.new told.old told.new result }
 {
-    make(groups, given, Op::Expire, told)
+    make(groups, given, &Op::Expire, told)
 }
 
 /// A holder asks for the answer.
@@ -80,7 +80,7 @@ fn collect(groups: &mut Groups, given: &GivenStep, told: &mut ToldReply) -> Outc
     ensures { StepTold (made_in OpNumber.Collect given.now) groups.old groups.new told.old told.new result }
 {
     let serial = given.ticket;
-    make(groups, given, Op::Collect { serial }, told)
+    make(groups, given, &Op::Collect { serial }, told)
 }
 
 /// A fallback that failed.
@@ -105,7 +105,7 @@ fn close(groups: &mut Groups, given: &GivenStep, told: &mut ToldReply) -> Outcom
     ensures { StepTold (made_in OpNumber.Close given.now) groups.old groups.new told.old told.new result }
 {
     let context = given.context;
-    make(groups, given, Op::Close { context }, told)
+    make(groups, given, &Op::Close { context }, told)
 }
 
 /// Asks for the metrics.
@@ -114,7 +114,7 @@ fn read(groups: &mut Groups, given: &GivenStep, told: &mut ToldReply) -> Outcome
     ensures { StepTold (made_in OpNumber.Read given.now) groups.old groups.new told.old told.new result }
 {
     let command = given.command;
-    make(groups, given, Op::Read { command }, told)
+    make(groups, given, &Op::Read { command }, told)
 }
 
 /// A submit that shares nothing.
@@ -129,7 +129,7 @@ fn submit(groups: &mut Groups, given: &GivenStep, told: &mut ToldReply) -> Outco
                 cache: None,
                 arg,
             };
-            make(groups, given, Op::Submit(request), told)
+            make(groups, given, &Op::Submit(request), told)
         }
         Err(outcome) => outcome,
     }
@@ -151,7 +151,7 @@ fn submit_shared(groups: &mut Groups, given: &GivenStep, told: &mut ToldReply) -
                 cache: Some((given.context, key)),
                 arg,
             };
-            make(groups, given, Op::Submit(request), told)
+            make(groups, given, &Op::Submit(request), told)
         }
         Err(outcome) => outcome,
     }
@@ -164,7 +164,7 @@ fn finish(groups: &mut Groups, given: &GivenStep, told: &mut ToldReply) -> Outco
 {
     let serial = given.ticket;
     match text_in::<256>(&given.text, given.text_length) {
-        Ok(body) => make(groups, given, Op::Finish { serial, body }, told),
+        Ok(body) => make(groups, given, &Op::Finish { serial, body }, told),
         Err(outcome) => outcome,
     }
 }
@@ -191,19 +191,16 @@ fn end_fallback(
     ensures { StepTold (Ok (step_of given.now (Op.FallbackDone given.now.ticket end))) groups.old groups.new told.old told.new result }
 {
     let serial = given.ticket;
-    make(groups, given, Op::FallbackDone { serial, end }, told)
+    make(groups, given, &Op::FallbackDone { serial, end }, told)
 }
 
 /// Makes a step, and tells its reply.
 #[inline(never)]
-fn make(groups: &mut Groups, given: &GivenStep, op: Op, told: &mut ToldReply) -> Outcome
-    ensures { StepTold (Ok (step_of given.now op)) groups.old groups.new told.old told.new result }
+fn make(groups: &mut Groups, given: &GivenStep, op: &Op, told: &mut ToldReply) -> Outcome
+    ensures { StepTold (Ok (step_of given.now op.now)) groups.old groups.new told.old told.new result }
 {
-    let reply = groups.apply(Step {
-        group: GroupId(given.group),
-        now: given.moment,
-        op,
-    });
+    let mut reply = Reply::NoGroup;
+    groups.apply_to(GroupId(given.group), given.moment, op, &mut reply);
     told.show(&reply);
     Outcome::Done
 }

@@ -55,7 +55,8 @@ impl ControlLine {
         ensures asked { IfOk result (λ said. said ≡ control_line (C.names control.now) line.now) }
         ensures group { IfOk result (λ said. IfOk said (IsOfGroups (length (C.names control.now).groups))) }
     {
-        if let Some(object) = FlatObject::parse(line, scratch)? {
+        let mut object = FlatObject::new();
+        if object.read(line, scratch)? {
             return Ok(control_line_at(control, Members::Flat(&object)));
         }
         match value_of(alloc, line)? {

@@ -78,26 +78,28 @@ impl Group {
         self.number
     }
 
-    /// One step at the moment, in place.
-    pub fn apply(&mut self, tickets: &mut Tickets, op: &Op, now: Moment) -> Reply
+    /// One step at the moment, in place. Like every function of an operation it writes the reply where the caller keeps it,
+    /// since a reply is too long to be copied at each return.
+    pub fn apply(&mut self, tickets: &mut Tickets, op: &Op, now: Moment, reply: &mut Reply)
         requires has { HasTickets tickets.old self.old }
         requires steady { IsSteady (view_in tickets.old self.old) }
         ensures has { HasTickets tickets.new self.new }
         ensures steady { IsSteady (view_in tickets.new self.new) }
-        ensures reply { result ≡ view_reply (view_in tickets.old self.old) op.now now }
+        ensures reply { reply.new ≡ view_reply (view_in tickets.old self.old) op.now now }
         ensures view { view_in tickets.new self.new ≡ view_after (view_in tickets.old self.old) op.now now }
         ensures left { Leaves tickets.old self.old tickets.new self.new }
     {
         if !self.is_known(op) {
-            return Reply::NoCommand;
+            *reply = Reply::NoCommand;
+            return;
         }
         if self.steps == self.limit {
-            return Reply::Worn;
+            *reply = Reply::Worn;
+            return;
         }
         self.begin(now);
-        let reply = self.act(tickets, op);
+        self.act(tickets, op, reply);
         tickets.release(self.number);
-        reply
     }
 
     /// How many commands the group has.
@@ -145,44 +147,44 @@ impl Group {
     }
 
     /// The case of the operation, in a step that has begun.
-    fn act(&mut self, tickets: &mut Tickets, op: &Op) -> Reply
+    fn act(&mut self, tickets: &mut Tickets, op: &Op, reply: &mut Reply)
         requires has { HasTickets tickets.old self.old }
         requires bounded { IsBounded (view_in tickets.old self.old) }
         requires known { is_known op.now self.old.props ≡ true }
-        ensures done { IsDone (view_in tickets.old self.old) op.now result (view_in tickets.new self.new) }
+        ensures done { IsDone (view_in tickets.old self.old) op.now reply.new (view_in tickets.new self.new) }
         ensures left { Leaves tickets.old self.old tickets.new self.new }
     {
         match op {
-            Op::Submit(request) => self.submit(tickets, request),
-            Op::Start => self.start(tickets),
-            Op::Finish { serial, body } => self.finish(tickets, *serial, body),
-            Op::Fail { serial, bad } => self.fail(tickets, *serial, *bad),
-            Op::Expire => self.expire(tickets),
-            Op::Collect { serial } => self.collect(tickets, *serial),
-            Op::FallbackDone { serial, end } => self.fallback_done(tickets, *serial, end),
-            Op::Close { context } => self.close(tickets, *context),
-            Op::Read { command } => self.read(tickets, *command),
+            Op::Submit(request) => self.submit(tickets, request, reply),
+            Op::Start => self.start(tickets, reply),
+            Op::Finish { serial, body } => self.finish(tickets, *serial, body, reply),
+            Op::Fail { serial, bad } => self.fail(tickets, *serial, *bad, reply),
+            Op::Expire => self.expire(tickets, reply),
+            Op::Collect { serial } => self.collect(tickets, *serial, reply),
+            Op::FallbackDone { serial, end } => self.fallback_done(tickets, *serial, end, reply),
+            Op::Close { context } => self.close(tickets, *context, reply),
+            Op::Read { command } => self.read(tickets, *command, reply),
         }
     }
 
     /// A request context ends: no ticket of the group is cached in it any more.
-    fn close(&self, tickets: &mut Tickets, context: u64) -> Reply
+    fn close(&self, tickets: &mut Tickets, context: u64, reply: &mut Reply)
         requires { HasTickets tickets.old self.now }
-        ensures done { IsDone (view_in tickets.old self.now) (op.Close context) result (view_in tickets.new self.now) }
+        ensures done { IsDone (view_in tickets.old self.now) (op.Close context) reply.new (view_in tickets.new self.now) }
         ensures left { Leaves tickets.old self.now tickets.new self.now }
     {
-        Reply::Closed(tickets.close(self.number, context))
+        *reply = Reply::Closed(tickets.close(self.number, context));
     }
 
     /// The metrics of the command at the step's moment.
-    fn read(&self, tickets: &Tickets, command: u8) -> Reply
+    fn read(&self, tickets: &Tickets, command: u8, reply: &mut Reply)
         requires has { HasTickets tickets.now self.now }
         requires known { command < command_count self.now.props }
-        ensures { IsDone (view_in tickets.now self.now) (op.Read command) result (view_in tickets.now self.now) }
+        ensures { IsDone (view_in tickets.now self.now) (op.Read command) reply.new (view_in tickets.now self.now) }
     {
         let own = &self.commands[command as usize];
         let rolling = own.history.rolling(self.latest);
-        Reply::Metrics(Metrics {
+        *reply = Reply::Metrics(Metrics {
             circuit: own.circuit.state(),
             counts: rolling.counts,
             errors: rolling.health.errors,
@@ -191,7 +193,7 @@ impl Group {
             busy: tickets.busy_count(self.number, command),
             queued: tickets.queued_count(self.number, command),
             free: self.slots() - tickets.len(self.number),
-        })
+        });
     }
 
     /// Adds an event of the command at the step's moment.

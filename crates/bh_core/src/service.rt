@@ -14,7 +14,7 @@ mod looks;
 
 use crate::command::new_commands;
 use crate::group::Group;
-use bh_base::{GroupId, GroupProps, Reply, Step, push_within};
+use bh_base::{GroupId, GroupProps, Moment, Op, Reply, Step, push_within};
 use bh_tickets::Tickets;
 use entry::Entry;
 use std::alloc::{AllocError, Global};
@@ -160,13 +160,24 @@ impl Core {
     pub fn apply(&mut self, step: Step) -> Reply
         ensures { IsStep self.old step result self.new }
     {
-        let place = step.group.0;
+        let mut reply = Reply::NoGroup;
+        self.apply_to(step.group, step.now, &step.op, &mut reply);
+        reply
+    }
+
+    /// One step of the group, as `apply` makes it, whose reply is written where the caller keeps it: so neither the
+    /// operation nor the reply, of some 300 bytes each, is copied on the way.
+    pub fn apply_to(&mut self, group: GroupId, now: Moment, op: &Op, reply: &mut Reply)
+        ensures { IsStep self.old (record { group = group; now = now; op = op.now }) reply.new self.new }
+    {
+        let place = group.0;
         if place >= self.groups.len() as u64 {
-            return Reply::NoGroup;
+            *reply = Reply::NoGroup;
+            return;
         }
         match &mut self.groups[place as usize] {
-            Entry::Live(group) => group.apply(&mut self.tickets, &step.op, step.now),
-            Entry::Retired(_) => Reply::NoGroup,
+            Entry::Live(group) => group.apply(&mut self.tickets, op, now, reply),
+            Entry::Retired(_) => *reply = Reply::NoGroup,
         }
     }
 

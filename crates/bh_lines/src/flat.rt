@@ -2,7 +2,7 @@
 //!
 //! Nearly every line is one, and its members borrow from the line; any other line is read as a tree.
 
-ghost use Rattle.std.specs.Prelude.{◌≡◌, ◌<◌, ◌==◌, ◌&&◌, Bool, false, List, [], length, slice_index, Some, is_some, option_map, IfOk, IfSome, MatchOption, OnSome};
+ghost use Rattle.std.specs.Prelude.{◌≡◌, ◌<◌, ◌==◌, ◌&&◌, Bool, false, true, List, [], length, slice_index, Some, is_some, option_map, IfOk, IfSome, MatchOption, OnSome};
 ghost use Rattle.json.specs.Lex.{tokens};
 ghost use Rattle.json.specs.Token.{Token as JsonToken};
 ghost use Rattle.serde_json.specs.Data.{unsigned};
@@ -42,28 +42,34 @@ pub struct FlatObject<'a> {
 }
 
 impl<'a> FlatObject<'a> {
-    /// The object that a line is, where it is one of at most eight members and each is a scalar; else `None`, which says
-    /// no more of the line.
+    /// An object without members.
+    pub fn new() -> FlatObject<'a>
+        ensures { result.members.items ≡ [] }
+    {
+        FlatObject {
+            members: ArrayVec::new(),
+        }
+    }
+
+    /// Becomes the object that a line is, and says whether it is one of at most eight members, each a scalar; where it
+    /// is not, this says no more of the line, and the members mean nothing.
     ///
     /// It fails only for want of memory: the scratch grows to the length of the line.
-    pub fn parse(
-        line: &'a str,
-        scratch: &'a mut Scratch,
-    ) -> Result<Option<FlatObject<'a>>, AllocError>
-        ensures found { IfOk result (λ object. is_some object ≡ is_flat (tokens line.now)) }
-        ensures value { IfOk result (λ object. IfSome object (λ object. read line.now ≡ Some (flat_data object.members.items))) }
+    pub fn read(&mut self, line: &'a str, scratch: &'a mut Scratch) -> Result<bool, AllocError>
+        ensures found { IfOk result (λ found. found ≡ is_flat (tokens line.now)) }
+        ensures value { IfOk result (λ found. found ≡ true → read line.now ≡ Some (flat_data self.new.members.items)) }
     {
         let mut reader = Reader::new(line, scratch)?;
         let Some(Token::BeginObject) = reader.next() else {
-            return Ok(None);
+            return Ok(false);
         };
-        let mut members = ArrayVec::new();
-        let Some(()) = next_members(&mut reader, &mut members) else {
-            return Ok(None);
+        self.members.clear();
+        let Some(()) = next_members(&mut reader, &mut self.members) else {
+            return Ok(false);
         };
         match reader.next() {
-            Some(_) => Ok(None),
-            None => Ok(Some(FlatObject { members })),
+            Some(_) => Ok(false),
+            None => Ok(true),
         }
     }
 

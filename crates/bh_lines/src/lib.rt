@@ -17,5 +17,5 @@ pub use fault::{Fault, put_fault};
 pub use front::{FrontLine, end_line, front_line};
 pub use lines::{last_line, next_line};
 pub use port_error::PortError;
-pub use replies::{json_line, put_error};
-pub use told::{Told, put_reply, put_told, put_told_within};
+pub use replies::{json_line, put_error, put_reply};
+pub use told::{Told, put_told, put_told_within};

@@ -4,7 +4,7 @@ ghost use Rattle.std.specs.Prelude.{◌≡◌, ◌≤◌, ◌++◌, ◌∷◌, [
 ghost use Rattle.json.specs.Print.{print};
 ghost use Rattle.serde_json.specs.View.{view};
 ghost use Rattle.serde_json.specs.Written.{has_float};
-ghost use Rattle.bh_lines.specs.ReplyLine.{cause_word, fallback_word, circuit_word, named, numbered, fallback_due_data, assigned_data, expired_data, run_fallback_data, closed_data, value_data, fallback_value_data, error_answer_data, events_data, metrics_data, answer_data, reply_data, json_line};
+ghost use Rattle.bh_lines.specs.ReplyLine.{cause_word, fallback_word, circuit_word, named, numbered, fallback_due_data, assigned_data, expired_data, run_fallback_data, closed_data, value_data, fallback_value_data, error_answer_data, events_data, metrics_data, answer_data, reply_data, reply_line, json_line};
 ghost use Rattle.bh_lines.specs.FaultLine.{error_data};
 ghost use Rattle.bh_lines.specs.Bounded.{IsShortAnswer, IsShortName, IsShortReply};
 ghost use Rattle.bh_lines.specs.Sent.{Sends, data_tokens, counts_tokens};
@@ -28,6 +28,27 @@ pub fn put_error(alloc: Global, bytes: &mut Vec<u8>, why: &str) -> Result<(), Al
     let mut writer = Writer::new(mem::replace(bytes, Vec::new(alloc)));
     let members = [Member::Text("error", why)];
     let written = write_object(&mut writer, &members);
+    *bytes = writer.into_inner();
+    end_line(bytes, start, written)
+}
+
+/// Puts the line of a reply, with its line feed, behind the bytes. It fails only for want of memory, and leaves the bytes
+/// as they were then.
+///
+/// `command` is the name of the further command whose run is assigned: it stands in the line of `Assigned`, and in no
+/// other.
+pub fn put_reply(
+    alloc: Global,
+    bytes: &mut Vec<u8>,
+    reply: &Reply,
+    command: Option<&Text<32>>,
+) -> Result<(), AllocError>
+    ensures ok { OnOk result (bytes.new.items ≡ bytes.old.items ++ reply_line (option_copied command.entry) reply.now) }
+    ensures err { OnErr result (bytes.new.items ≡ bytes.old.items) }
+{
+    let start = bytes.len();
+    let mut writer = Writer::new(mem::replace(bytes, Vec::new(alloc)));
+    let written = write_reply(&mut writer, reply, command);
     *bytes = writer.into_inner();
     end_line(bytes, start, written)
 }

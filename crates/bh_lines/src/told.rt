@@ -1,8 +1,7 @@
 //! What a line of a script is told, printed as a line of compact JSON with its members in the order of their names.
 
-ghost use Rattle.std.specs.Prelude.{◌≡◌, ◌+◌, ◌≤◌, ◌++◌, ◌∷◌, [], length, take, option_copied, IsOk, OnErr, OnOk, vec_capacity, vec_len};
+ghost use Rattle.std.specs.Prelude.{◌≡◌, ◌+◌, ◌≤◌, ◌++◌, ◌∷◌, [], length, take, IsOk, OnErr, OnOk, vec_capacity, vec_len};
 ghost use Rattle.bh_lines.specs.Bounded.{IsShortTold};
-ghost use Rattle.bh_lines.specs.ReplyLine.{reply_line};
 ghost use Rattle.bh_lines.specs.Sent.{Sends, data_tokens};
 ghost use Rattle.bh_lines.specs.ToldLine.{registered_data, told_data, told_line};
 
@@ -49,26 +48,6 @@ pub fn put_told_within(alloc: Global, bytes: &mut Vec<u8>, told: &Told)
     ensures length { length (told_line told.now) ≤ 2048 }
 {
     put_object(alloc, bytes, told).unwrap();
-}
-
-/// Puts the line of a reply, with its line feed, behind the bytes. It fails only for want of memory, and leaves the bytes
-/// as they were then.
-///
-/// `command` is the name of the further command whose run is assigned, as in `Told::Reply`.
-pub fn put_reply(
-    alloc: Global,
-    bytes: &mut Vec<u8>,
-    reply: &Reply,
-    command: Option<&Text<32>>,
-) -> Result<(), AllocError>
-    ensures ok { OnOk result (bytes.new.items ≡ bytes.old.items ++ reply_line (option_copied command.entry) reply.now) }
-    ensures err { OnErr result (bytes.new.items ≡ bytes.old.items) }
-{
-    let told = Told::Reply {
-        reply: *reply,
-        command: command.copied(),
-    };
-    put_told(alloc, bytes, &told)
 }
 
 /// Puts the line of what is told, without its line feed, behind the bytes. It fails only for want of memory, and not where

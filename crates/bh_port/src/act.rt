@@ -1,20 +1,20 @@
 //! What a line asks of the groups of a run, and what it is told.
 
-ghost use Rattle.std.specs.Prelude.{◌≡◌, IfOk, OnErr, OnOk};
-ghost use Rattle.bh_base.specs.declared.reply.Reply.{Reply as ReplyValue};
-ghost use Rattle.bh_core.specs.Step.{IsStep};
+ghost use Rattle.std.specs.Prelude.{◌≡◌, Err, IfOk, MatchResult, None, Ok, OnErr, OnOk};
 ghost use Rattle.bh_lines.specs.Flat.{members_data};
 ghost use Rattle.bh_lines.specs.ScriptLine.{asked_at};
 ghost use Rattle.bh_props.specs.SettingsView.{SettingsView};
 ghost use Rattle.bh_props.specs.Shown.{settings_view};
 ghost use Rattle.bh_port.specs.Course.{Course, IsActOf, act_asked, is_free, line_act, registration, retirement};
 ghost use Rattle.bh_port.specs.Script.{GroupsShow};
-ghost use Rattle.bh_port.specs.Text.{told_by, told_reply, with_act};
+ghost use Rattle.bh_port.specs.Text.{told_by, with_act};
+ghost use Rattle.bh_port.specs.declared.act.LineAct.TheVariants as act;
+ghost use Rattle.bh_lines.specs.declared.told.Told.TheVariants as told;
 
 use crate::commands::{further_command, told_command};
 use crate::groups::Groups;
 use crate::steps::{group_number, step_of};
-use bh_base::{GroupId, Step, Text};
+use bh_base::{GroupId, Reply, Step, Text};
 use bh_core::MOST_GROUPS;
 use bh_lines::flat::FlatObject;
 use bh_lines::members::{Members, value_of};
@@ -34,7 +34,8 @@ pub enum LineAct {
     Retire(GroupId),
 }
 
-/// What a line asks for in a service that has these groups, or its fault. It fails only for want of memory.
+/// Tells what a line asks for in a service that has these groups, or answers its fault; nothing is told then. It is told
+/// where the caller keeps it, since a step is too long to be copied at each return. It fails only for want of memory.
 #[tactic(auto, unfolding(bh_lines::specs::ScriptLine::line_asked, crate::specs::Course::line_act))]
 pub fn line_act(
     alloc: Global,
@@ -42,32 +43,41 @@ pub fn line_act(
     groups: &Groups,
     scratch: &mut Scratch,
     line: &str,
-) -> Result<Result<LineAct, Fault>, AllocError>
-    ensures said { IfOk result (λ said. said ≡ line_act (settings_view settings.now) groups.now.entries line.now) }
-    ensures act { IfOk result (λ said. IfOk said (IsActOf (settings_view settings.now) groups.now.entries)) }
+    act: &mut LineAct,
+) -> Result<Result<(), Fault>, AllocError>
+    ensures said { IfOk result (λ said. MatchResult said
+        (λ _. line_act (settings_view settings.now) groups.now.entries line.now ≡ Ok act.new)
+        (λ fault. line_act (settings_view settings.now) groups.now.entries line.now ≡ Err fault)) }
+    ensures act { IfOk result (λ said. OnOk said (IsActOf (settings_view settings.now) groups.now.entries act.new)) }
 {
-    if let Some(object) = FlatObject::parse(line, scratch)? {
-        return Ok(act_at(settings, groups, Members::Flat(&object)));
+    let mut object = FlatObject::new();
+    if object.read(line, scratch)? {
+        return Ok(act_at(settings, groups, Members::Flat(&object), act));
     }
     match value_of(alloc, line)? {
-        Some(value) => Ok(act_at(settings, groups, Members::Tree(&value))),
+        Some(value) => Ok(act_at(settings, groups, Members::Tree(&value), act)),
         None => Ok(Err(Fault::Syntax)),
     }
 }
 
-/// What the members ask for, or the fault.
-fn act_at(settings: &Settings, groups: &Groups, members: Members<'_>) -> Result<LineAct, Fault>
-    ensures said { result ≡ act_asked (settings_view settings.now) groups.now.entries (asked_at (members_data members.entry)) }
-    ensures act { IfOk result (IsActOf (settings_view settings.now) groups.now.entries) }
+/// Tells what the members ask for, or answers the fault.
+fn act_at(
+    settings: &Settings,
+    groups: &Groups,
+    members: Members<'_>,
+    act: &mut LineAct,
+) -> Result<(), Fault>
+    ensures said { MatchResult result
+        (λ _. act_asked (settings_view settings.now) groups.now.entries (asked_at (members_data members.entry)) ≡ Ok act.new)
+        (λ fault. act_asked (settings_view settings.now) groups.now.entries (asked_at (members_data members.entry)) ≡ Err fault) }
+    ensures act { OnOk result (IsActOf (settings_view settings.now) groups.now.entries act.new) }
 {
     match asked_at(members)? {
-        ScriptLine::Step(said) => {
-            let step = step_of(settings, groups, said)?;
-            Ok(LineAct::Step(step))
-        }
-        ScriptLine::Register { group, like } => registration(settings, groups, group, like),
-        ScriptLine::Retire { group } => retirement(groups, group),
+        ScriptLine::Step(said) => *act = LineAct::Step(step_of(settings, groups, &said)?),
+        ScriptLine::Register { group, like } => *act = registration(settings, groups, group, like)?,
+        ScriptLine::Retire { group } => *act = retirement(groups, group)?,
     }
+    Ok(())
 }
 
 /// A new group of the name, like the group of the settings that has the other one. `Name` comes where it cannot have the
@@ -122,7 +132,11 @@ impl Groups {
         ensures err { OnErr result (self.new ≡ self.old) }
     {
         match act {
-            LineAct::Step(step) => Ok(self.step(settings, step)),
+            LineAct::Step(step) => {
+                let mut reply = Reply::NoGroup;
+                let command = self.make_step(settings, step, &mut reply);
+                Ok(Told::Reply { reply, command })
+            }
             LineAct::Register { name, like } => {
                 self.register(settings, *name, *like)?;
                 Ok(Told::Registered(*name))
@@ -137,15 +151,21 @@ impl Groups {
         }
     }
 
-    /// Makes a step, and says what its line is told.
-    fn step(&mut self, settings: &Settings, step: &Step) -> Told
-        ensures step { (reply : ReplyValue) × IsStep self.old.core step.entry.now reply self.new.core
-            × (result ≡ told_reply (settings_view settings.now) self.old.entries step.entry.now.group.0 reply) }
-        ensures entries { self.new.entries ≡ self.old.entries }
+    /// Makes the step that a line asks for, writes its reply where the caller keeps it, and answers the name of the further
+    /// command whose run is assigned, as in `Told::Reply`: a line is told both.
+    pub(crate) fn make_step(
+        &mut self,
+        settings: &Settings,
+        step: &Step,
+        reply: &mut Reply,
+    ) -> Option<Text<32>>
+        requires { IsActOf (settings_view settings.now) self.old.entries (act.Step step.now) }
+        ensures told { (before : Course) → GroupsShow (settings_view settings.now) self.old before →
+            told.Reply reply.new result ≡ told_by (settings_view settings.now) before (act.Step step.entry.now) }
+        ensures agrees { (before : Course) → GroupsShow (settings_view settings.now) self.old before →
+            GroupsShow (settings_view settings.now) self.new (with_act (settings_view settings.now) before (act.Step step.entry.now)) }
     {
-        let group = step.group;
-        let reply = self.apply(*step);
-        let command = told_command(settings, self, group, &reply);
-        Told::Reply { reply, command }
+        self.apply_to(step.group, step.now, &step.op, reply);
+        told_command(settings, self, step.group, reply)
     }
 }

@@ -15,7 +15,7 @@ ghost use Rattle.bh_port.specs.Kept.{AreNumbered};
 ghost use Rattle.bh_port.specs.Script.{GroupsShow};
 
 use crate::script::{open, step_limit};
-use bh_base::{GroupId, Reply, Step, Text};
+use bh_base::{GroupId, Moment, Op, Reply, Text};
 use bh_core::{Core, RegisterError, RetireError};
 use bh_lines::PortError;
 use bh_props::Settings;
@@ -114,13 +114,13 @@ impl Groups {
         if entry.live { Some(entry) } else { None }
     }
 
-    /// One step of its group, as `Core::apply` makes it. A step of a group that is not there is answered `NoGroup` and
+    /// One step of the group, as `Core::apply_to` makes it. A step of a group that is not there is answered `NoGroup` and
     /// changes nothing.
-    pub fn apply(&mut self, step: Step) -> Reply
-        ensures step { IsStep self.old.core step result self.new.core }
+    pub fn apply_to(&mut self, group: GroupId, now: Moment, op: &Op, reply: &mut Reply)
+        ensures step { IsStep self.old.core (record { group = group; now = now; op = op.now }) reply.new self.new.core }
         ensures entries { self.new.entries ≡ self.old.entries }
     {
-        self.core.apply(step)
+        self.core.apply_to(group, now, op, reply);
     }
 
     /// Registers a group of the name, with the properties of the group of the settings at the place. It fails only for

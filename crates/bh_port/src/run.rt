@@ -1,6 +1,7 @@
 //! A run of a script: lines are answered as they come, each by the line of what it is told or of its fault.
 
-ghost use Rattle.std.specs.Prelude.{◌≡◌, ◌⊎◌, ◌++◌, ℕ, List, false, Some, Err, OnOk, OnErr, IfErr};
+ghost use Rattle.std.specs.Prelude.{◌≡◌, ◌⊎◌, ◌++◌, ℕ, List, false, Some, Err, OnOk, OnErr, IfErr, option_copied};
+ghost use Rattle.bh_lines.specs.ReplyLine.{reply_line};
 ghost use Rattle.bh_props.specs.Shown.{settings_view};
 ghost use Rattle.bh_lines.specs.Lines.{cut, has_line};
 ghost use Rattle.bh_lines.specs.Taken.{IsMemoryOrLine};
@@ -13,7 +14,8 @@ ghost use Rattle.bh_port.specs.Script.{GroupsShow, AnswersLine, ScriptAnswered, 
 
 use crate::act::{LineAct, line_act};
 use crate::groups::Groups;
-use bh_lines::{Fault, PortError, Told, last_line, next_line, put_fault, put_told};
+use bh_base::{Reply, Text};
+use bh_lines::{Fault, PortError, Told, last_line, next_line, put_fault, put_reply, put_told};
 use bh_props::Settings;
 use bh_streams::{WatchedWriter, write};
 use bytes::BytesMut;
@@ -21,13 +23,15 @@ use json::Scratch;
 use std::alloc::{AllocError, Global};
 use std::io::Write;
 
-/// A run of a script: the groups, the bytes whose line has not ended, the answers that are to be written at once, the
-/// last of them by itself, and what reading a line takes in memory.
+/// A run of a script: the groups, the bytes whose line has not ended, what the last line asked for, the reply to the last
+/// step, the answers that are to be written at once, the last of them by itself, and what reading a line takes in memory.
 #[derive(Drop)]
 pub struct Run {
     pub alloc: Global,
     pub groups: Groups,
     pub buffer: BytesMut,
+    pub act: LineAct,
+    pub reply: Reply,
     pub out: Vec<u8>,
     /// The library's writer clears as many bytes beyond its text as stand before it, so an answer is put here first.
     pub answer: Vec<u8>,
@@ -113,24 +117,41 @@ impl Run {
         ensures kept { OnErr result (self.new.out.items ≡ self.old.out.items) }
         ensures left { self.new.buffer ≡ self.old.buffer }
     {
-        match line_act(self.alloc, settings, &self.groups, &mut self.scratch, line) {
-            Ok(Ok(act)) => self.answer_act(settings, &act),
-            Ok(Err(fault)) => self.answer_fault(fault),
-            Err(error) => Err(error),
+        let said = line_act(
+            self.alloc,
+            settings,
+            &self.groups,
+            &mut self.scratch,
+            line,
+            &mut self.act,
+        )?;
+        match said {
+            Ok(()) => self.answer_act(settings),
+            Err(fault) => self.answer_fault(fault),
         }
     }
 
-    /// Does what a line asks for, and puts the line of what is told behind what is to be written.
-    fn answer_act(&mut self, settings: &Settings, act: &LineAct) -> Result<(), AllocError>
-        requires { IsActOf (settings_view settings.now) self.old.groups.entries act.now }
+    /// Does what the last line asked for, and puts the line of what is told behind what is to be written.
+    fn answer_act(&mut self, settings: &Settings) -> Result<(), AllocError>
+        requires { IsActOf (settings_view settings.now) self.old.groups.entries self.old.act }
         ensures wrote { OnOk result ((before : Course) → GroupsShow (settings_view settings.now) self.old.groups before →
-            self.new.out.items ≡ self.old.out.items ++ told_line (told_by (settings_view settings.now) before act.now)) }
+            self.new.out.items ≡ self.old.out.items ++ told_line (told_by (settings_view settings.now) before self.old.act)) }
         ensures agrees { OnOk result ((before : Course) → GroupsShow (settings_view settings.now) self.old.groups before →
-            GroupsShow (settings_view settings.now) self.new.groups (with_act (settings_view settings.now) before act.now)) }
+            GroupsShow (settings_view settings.now) self.new.groups (with_act (settings_view settings.now) before self.old.act)) }
         ensures kept { OnErr result (self.new.out.items ≡ self.old.out.items) }
         ensures left { self.new.buffer ≡ self.old.buffer }
     {
-        let Ok(told) = self.groups.act(settings, act) else {
+        if let LineAct::Step(step) = &self.act {
+            let command = self.groups.make_step(settings, step, &mut self.reply);
+            return append_reply(
+                self.alloc,
+                &mut self.answer,
+                &mut self.out,
+                &self.reply,
+                command.as_ref(),
+            );
+        }
+        let Ok(told) = self.groups.act(settings, &self.act) else {
             return Err(AllocError);
         };
         append_told(self.alloc, &mut self.answer, &mut self.out, &told)
@@ -145,6 +166,22 @@ impl Run {
     {
         append_fault(self.alloc, &mut self.answer, &mut self.out, fault)
     }
+}
+
+/// Puts the line of a reply behind the bytes, by way of a buffer for one line.
+fn append_reply(
+    alloc: Global,
+    line: &mut Vec<u8>,
+    bytes: &mut Vec<u8>,
+    reply: &Reply,
+    command: Option<&Text<32>>,
+) -> Result<(), AllocError>
+    ensures ok { OnOk result (bytes.new.items ≡ bytes.old.items ++ reply_line (option_copied command.entry) reply.now) }
+    ensures err { OnErr result (bytes.new.items ≡ bytes.old.items) }
+{
+    line.clear();
+    put_reply(alloc, line, reply, command)?;
+    bytes.extend_from_slice(line.as_slice())
 }
 
 /// Puts the line of what is told behind the bytes, by way of a buffer for one line.

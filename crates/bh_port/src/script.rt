@@ -7,9 +7,11 @@ ghost use Rattle.bh_lines.specs.Lines.{cut};
 ghost use Rattle.bh_streams.specs.Watched.{reader_of, reads_of, bytes_left, HasRead, OneFailed, NoneFailed, writer_of, bytes_held, OneRefused, NoneRefused};
 ghost use Rattle.bh_port.specs.Script.{ScriptHasAnswered, ScriptOutcome};
 
+use crate::act::LineAct;
 use crate::groups::Groups;
 use crate::reader::fill;
 use crate::run::Run;
+use bh_base::{GroupId, Reply};
 use bh_core::Core;
 use bh_lines::PortError;
 use bh_props::Settings;
@@ -65,6 +67,8 @@ pub fn script<R: Read, W: Write>(
         alloc,
         groups,
         buffer: BytesMut::new(alloc),
+        act: LineAct::Retire(GroupId(0)),
+        reply: Reply::NoGroup,
         out: Vec::new(alloc),
         answer: Vec::new(alloc),
         scratch: Scratch::new(alloc),

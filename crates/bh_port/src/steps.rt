@@ -18,19 +18,18 @@ use indexmap::IndexMap;
 pub(crate) fn step_of(
     settings: &Settings,
     groups: &Groups,
-    said: StepLine<'_>,
+    said: &StepLine<'_>,
 ) -> Result<Step, Fault>
-    ensures said { result ≡ step_of (settings_view settings.now) groups.now.entries (step_view said.entry) }
+    ensures said { result ≡ step_of (settings_view settings.now) groups.now.entries (step_view said.entry.now) }
     ensures group { IfOk result (λ step. IsSome (entry_at groups.now.entries step.group.0)) }
 {
     let number = groups.number(said.group).ok_or(Fault::Group)?;
     let group = GroupId(number);
     let command = command_said(settings, groups, group, said.op.command())?;
-    let op = if_short(command, said.op)?;
     Ok(Step {
         group,
         now: said.now,
-        op,
+        op: if_short(command, said.op)?,
     })
 }
 

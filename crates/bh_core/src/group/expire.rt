@@ -17,10 +17,10 @@ use bh_tickets::{DueRule, Tickets};
 
 impl Group {
     /// Each ticket that is due times out, one command after the other.
-    pub fn expire(&mut self, tickets: &mut Tickets) -> Reply
+    pub fn expire(&mut self, tickets: &mut Tickets, reply: &mut Reply)
         requires has { HasTickets tickets.old self.old }
         requires bounded { IsBounded (view_in tickets.old self.old) }
-        ensures done { IsDone (view_in tickets.old self.old) op.Expire result (view_in tickets.new self.new) }
+        ensures done { IsDone (view_in tickets.old self.old) op.Expire reply.new (view_in tickets.new self.new) }
         ensures left { Leaves tickets.old self.old tickets.new self.new }
     {
         self.time_out_tests(tickets);
@@ -28,7 +28,7 @@ impl Group {
         for command in 0..self.command_count() {
             count += self.time_out(tickets, command);
         }
-        Reply::Expired(count)
+        *reply = Reply::Expired(count);
     }
 
     /// Which tickets of the command are due at the latest moment.

@@ -16,28 +16,30 @@ use bh_tickets::Tickets;
 
 impl Group {
     /// One holder of the ticket asks for its answer.
-    pub fn collect(&mut self, tickets: &mut Tickets, serial: Serial) -> Reply
+    pub fn collect(&mut self, tickets: &mut Tickets, serial: Serial, reply: &mut Reply)
         requires has { HasTickets tickets.old self.old }
         requires bounded { IsBounded (view_in tickets.old self.old) }
-        ensures done { IsDone (view_in tickets.old self.old) (op.Collect serial) result (view_in tickets.new self.new) }
+        ensures done { IsDone (view_in tickets.old self.old) (op.Collect serial) reply.new (view_in tickets.new self.new) }
         ensures left { Leaves tickets.old self.old tickets.new self.new }
     {
         match tickets.find_held(self.number, serial) {
-            None => Reply::NoTicket,
+            None => *reply = Reply::NoTicket,
             Some(slot) => {
                 let ticket = tickets.get(self.number, slot);
                 let command = ticket.command;
                 match ticket.state {
                     TicketState::Answered(answer) => {
                         tickets.release_holder(self.number, slot);
-                        return Reply::Answered(answer);
+                        *reply = Reply::Answered(answer);
+                        return;
                     }
-                    TicketState::NeedsFallback(cause) => return self.fall_back(
-                        tickets, serial, slot, command, cause,
-                    ),
-                    TicketState::Queued => return Reply::Pending,
-                    TicketState::Running => return Reply::Pending,
-                    TicketState::InFallback(_) => return Reply::Pending,
+                    TicketState::NeedsFallback(cause) => {
+                        self.fall_back(tickets, serial, slot, command, cause, reply);
+                        return;
+                    }
+                    TicketState::Queued => *reply = Reply::Pending,
+                    TicketState::Running => *reply = Reply::Pending,
+                    TicketState::InFallback(_) => *reply = Reply::Pending,
                 }
             }
         }
@@ -51,12 +53,13 @@ impl Group {
         slot: u32,
         command: u8,
         cause: Cause,
-    ) -> Reply
+        reply: &mut Reply,
+    )
         requires has { HasTickets tickets.old self.old }
         requires bounded { IsBounded (view_in tickets.old self.old) }
         requires held { IsFirstAt (is_held_at serial) (group_at tickets.old self.old.number) slot }
         requires known { command < command_count self.old.props }
-        ensures done { IsDoneBy (view_in tickets.old self.old) (collected_in (ticket.NeedsFallback cause) command serial (view_in tickets.old self.old).present) result (view_in tickets.new self.new) }
+        ensures done { IsDoneBy (view_in tickets.old self.old) (collected_in (ticket.NeedsFallback cause) command serial (view_in tickets.old self.old).present) reply.new (view_in tickets.new self.new) }
         ensures left { Leaves tickets.old self.old tickets.new self.new }
     {
         let own = self.props.command(command);
@@ -64,17 +67,19 @@ impl Group {
             let answer = error(cause, FallbackFault::Disabled);
             tickets.answer_holder(self.number, slot, &answer);
             self.record(command, EventKind::ExceptionThrown);
-            return Reply::Answered(answer);
+            *reply = Reply::Answered(answer);
+            return;
         }
         if tickets.in_fallback_count(self.number, command) >= own.fallback_permits {
             let answer = error(cause, FallbackFault::Rejected);
             tickets.answer_holder(self.number, slot, &answer);
             self.record(command, EventKind::FallbackRejection);
             self.record(command, EventKind::ExceptionThrown);
-            return Reply::Answered(answer);
+            *reply = Reply::Answered(answer);
+            return;
         }
         tickets.start_fallback(self.number, slot, cause);
-        Reply::RunFallback(cause)
+        *reply = Reply::RunFallback(cause);
     }
 
     /// The end of a ticket's fallback is told.
@@ -83,22 +88,24 @@ impl Group {
         tickets: &mut Tickets,
         serial: Serial,
         end: &FallbackEnd,
-    ) -> Reply
+        reply: &mut Reply,
+    )
         requires has { HasTickets tickets.old self.old }
         requires bounded { IsBounded (view_in tickets.old self.old) }
-        ensures done { IsDone (view_in tickets.old self.old) (op.FallbackDone serial end.now) result (view_in tickets.new self.new) }
+        ensures done { IsDone (view_in tickets.old self.old) (op.FallbackDone serial end.now) reply.new (view_in tickets.new self.new) }
         ensures left { Leaves tickets.old self.old tickets.new self.new }
     {
         match tickets.find_in_fallback(self.number, serial) {
-            None => Reply::NotInFallback,
+            None => *reply = Reply::NotInFallback,
             Some(slot) => {
                 let ticket = tickets.get(self.number, slot);
                 let command = ticket.command;
                 match ticket.state {
-                    TicketState::InFallback(cause) => return self.end_fallback(
-                        tickets, serial, slot, command, cause, end,
-                    ),
-                    _ => return Reply::NotInFallback,
+                    TicketState::InFallback(cause) => {
+                        self.end_fallback(tickets, serial, slot, command, cause, end, reply);
+                        return;
+                    }
+                    _ => *reply = Reply::NotInFallback,
                 }
             }
         }
@@ -113,12 +120,13 @@ impl Group {
         command: u8,
         cause: Cause,
         end: &FallbackEnd,
-    ) -> Reply
+        reply: &mut Reply,
+    )
         requires has { HasTickets tickets.old self.old }
         requires bounded { IsBounded (view_in tickets.old self.old) }
         requires known { command < command_count self.old.props }
         requires found { IsFirstAt (is_in_fallback_at serial) (group_at tickets.old self.old.number) slot }
-        ensures done { IsDoneBy (view_in tickets.old self.old) (fallback_done_in (ticket.InFallback cause) command serial end.now (view_in tickets.old self.old).present) result (view_in tickets.new self.new) }
+        ensures done { IsDoneBy (view_in tickets.old self.old) (fallback_done_in (ticket.InFallback cause) command serial end.now (view_in tickets.old self.old).present) reply.new (view_in tickets.new self.new) }
         ensures left { Leaves tickets.old self.old tickets.new self.new }
     {
         let answer = fallback_answer(end, cause);
@@ -126,17 +134,20 @@ impl Group {
         match end {
             FallbackEnd::Success(_) => {
                 self.record(command, EventKind::FallbackSuccess);
-                return Reply::Done;
+                *reply = Reply::Done;
+                return;
             }
             FallbackEnd::Failure => {
                 self.record(command, EventKind::FallbackFailure);
                 self.record(command, EventKind::ExceptionThrown);
-                return Reply::Done;
+                *reply = Reply::Done;
+                return;
             }
             FallbackEnd::Missing => {
                 self.record(command, EventKind::FallbackMissing);
                 self.record(command, EventKind::ExceptionThrown);
-                return Reply::Done;
+                *reply = Reply::Done;
+                return;
             }
         }
     }

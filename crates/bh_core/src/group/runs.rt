@@ -17,28 +17,29 @@ use bh_tickets::{Tickets, is_running};
 
 impl Group {
     /// The first queued ticket runs, where a worker is free.
-    pub fn start(&self, tickets: &mut Tickets) -> Reply
+    pub fn start(&self, tickets: &mut Tickets, reply: &mut Reply)
         requires has { HasTickets tickets.old self.now }
         requires bounded { IsBounded (view_in tickets.old self.now) }
-        ensures done { IsDone (view_in tickets.old self.now) op.Start result (view_in tickets.new self.now) }
+        ensures done { IsDone (view_in tickets.old self.now) op.Start reply.new (view_in tickets.new self.now) }
         ensures left { Leaves tickets.old self.now tickets.new self.now }
     {
         if self.pool_busy_count(tickets) >= self.workers() {
-            return Reply::Idle;
+            *reply = Reply::Idle;
+            return;
         }
         match tickets.first_queued(self.number) {
-            None => Reply::Idle,
+            None => *reply = Reply::Idle,
             Some(slot) => {
                 let ticket = tickets.get(self.number, slot);
                 let serial = ticket.serial;
                 let command = ticket.command;
                 let arg = ticket.arg;
                 tickets.start_run(self.number, slot);
-                Reply::Assigned {
+                *reply = Reply::Assigned {
                     serial,
                     command,
                     arg,
-                }
+                };
             }
         }
     }
@@ -70,35 +71,57 @@ impl Group {
     }
 
     /// The end of a ticket's run is told, with the value that it gave.
-    pub fn finish(&mut self, tickets: &mut Tickets, serial: Serial, body: &Text<256>) -> Reply
+    pub fn finish(
+        &mut self,
+        tickets: &mut Tickets,
+        serial: Serial,
+        body: &Text<256>,
+        reply: &mut Reply,
+    )
         requires has { HasTickets tickets.old self.old }
         requires bounded { IsBounded (view_in tickets.old self.old) }
-        ensures done { IsDone (view_in tickets.old self.old) (op.Finish serial body.now) result (view_in tickets.new self.new) }
+        ensures done { IsDone (view_in tickets.old self.old) (op.Finish serial body.now) reply.new (view_in tickets.new self.new) }
         ensures left { Leaves tickets.old self.old tickets.new self.new }
     {
         let state = TicketState::Answered(Answer::Value(*body));
-        self.end_run(tickets, serial, &state, End::Success, EventKind::Success)
+        self.end_run(
+            tickets,
+            serial,
+            &state,
+            End::Success,
+            EventKind::Success,
+            reply,
+        );
     }
 
     /// The end of a ticket's run is told, as a failure or as a bad request.
-    pub fn fail(&mut self, tickets: &mut Tickets, serial: Serial, bad: bool) -> Reply
+    pub fn fail(&mut self, tickets: &mut Tickets, serial: Serial, bad: bool, reply: &mut Reply)
         requires has { HasTickets tickets.old self.old }
         requires bounded { IsBounded (view_in tickets.old self.old) }
-        ensures done { IsDone (view_in tickets.old self.old) (op.Fail serial bad) result (view_in tickets.new self.new) }
+        ensures done { IsDone (view_in tickets.old self.old) (op.Fail serial bad) reply.new (view_in tickets.new self.new) }
         ensures left { Leaves tickets.old self.old tickets.new self.new }
     {
         if bad {
             let state = TicketState::Answered(Answer::BadRequest);
-            return self.end_run(
+            self.end_run(
                 tickets,
                 serial,
                 &state,
                 End::BadRequest,
                 EventKind::BadRequest,
+                reply,
             );
+            return;
         }
         let state = TicketState::NeedsFallback(Cause::Failure);
-        self.end_run(tickets, serial, &state, End::Error, EventKind::Failure)
+        self.end_run(
+            tickets,
+            serial,
+            &state,
+            End::Error,
+            EventKind::Failure,
+            reply,
+        );
     }
 
     /// The run of the ticket has ended, and the ticket goes on to the state, unless it had timed out.
@@ -109,26 +132,28 @@ impl Group {
         state: &TicketState,
         end: End,
         kind: EventKind,
-    ) -> Reply
+        reply: &mut Reply,
+    )
         requires has { HasTickets tickets.old self.old }
         requires bounded { IsBounded (view_in tickets.old self.old) }
         requires ended { queued_in state.now ≡ false }
-        ensures done { IsDoneBy (view_in tickets.old self.old) (run_ended (find (is_busy_at serial) (view_in tickets.old self.old).present.tickets) serial state.now end kind (view_in tickets.old self.old).present) result (view_in tickets.new self.new) }
+        ensures done { IsDoneBy (view_in tickets.old self.old) (run_ended (find (is_busy_at serial) (view_in tickets.old self.old).present.tickets) serial state.now end kind (view_in tickets.old self.old).present) reply.new (view_in tickets.new self.new) }
         ensures left { Leaves tickets.old self.old tickets.new self.new }
     {
         match tickets.find_busy(self.number, serial) {
-            None => Reply::NotRunning,
+            None => *reply = Reply::NotRunning,
             Some(slot) => {
                 let ticket = tickets.get(self.number, slot);
                 let command = ticket.command;
                 if !is_running(ticket) {
                     tickets.stop_run(self.number, slot);
-                    return Reply::Late;
+                    *reply = Reply::Late;
+                    return;
                 }
                 tickets.end_run(self.number, slot, state);
                 self.record(command, kind);
                 self.tell_circuit(command, serial, end);
-                Reply::Done
+                *reply = Reply::Done;
             }
         }
     }

@@ -18,17 +18,18 @@ use bh_tickets::Tickets;
 
 impl Group {
     /// A request comes in: it joins a cached ticket, or asks for one of its own.
-    pub fn submit(&mut self, tickets: &mut Tickets, request: &Request) -> Reply
+    pub fn submit(&mut self, tickets: &mut Tickets, request: &Request, reply: &mut Reply)
         requires has { HasTickets tickets.old self.old }
         requires bounded { IsBounded (view_in tickets.old self.old) }
         requires known { request.now.command < command_count self.old.props }
-        ensures done { IsDone (view_in tickets.old self.old) (op.Submit request.now) result (view_in tickets.new self.new) }
+        ensures done { IsDone (view_in tickets.old self.old) (op.Submit request.now) reply.new (view_in tickets.new self.new) }
         ensures left { Leaves tickets.old self.old tickets.new self.new }
     {
         if let Some(slot) = self.find_cached(tickets, request) {
-            return self.join(tickets, request, slot);
+            self.join(tickets, request, slot, reply);
+            return;
         }
-        self.make_ticket(tickets, request)
+        self.make_ticket(tickets, request, reply);
     }
 
     /// The slot of the cached ticket that the request may join.
@@ -52,30 +53,31 @@ impl Group {
     }
 
     /// The request joins the ticket in the slot.
-    fn join(&mut self, tickets: &mut Tickets, request: &Request, slot: u32) -> Reply
+    fn join(&mut self, tickets: &mut Tickets, request: &Request, slot: u32, reply: &mut Reply)
         requires has { HasTickets tickets.old self.old }
         requires bounded { IsBounded (view_in tickets.old self.old) }
         requires known { request.now.command < command_count self.old.props }
         requires found { IsJoinable (view_in tickets.old self.old).present (group_at tickets.old self.old.number) request.now (Some slot) }
-        ensures done { IsDone (view_in tickets.old self.old) (op.Submit request.now) result (view_in tickets.new self.new) }
+        ensures done { IsDone (view_in tickets.old self.old) (op.Submit request.now) reply.new (view_in tickets.new self.new) }
         ensures left { Leaves tickets.old self.old tickets.new self.new }
     {
         let serial = tickets.get(self.number, slot).serial;
         tickets.add_holder(self.number, slot);
         self.record(request.command, EventKind::ResponseFromCache);
-        Reply::Joined(serial)
+        *reply = Reply::Joined(serial);
     }
 
     /// The request gets a ticket of its own, unless there is no free slot.
-    fn make_ticket(&mut self, tickets: &mut Tickets, request: &Request) -> Reply
+    fn make_ticket(&mut self, tickets: &mut Tickets, request: &Request, reply: &mut Reply)
         requires has { HasTickets tickets.old self.old }
         requires bounded { IsBounded (view_in tickets.old self.old) }
         requires known { request.now.command < command_count self.old.props }
-        ensures done { IsDoneBy (view_in tickets.old self.old) (submitted None request.now (rolling_now (view_in tickets.old self.old) request.now.command) (view_in tickets.old self.old).present) result (view_in tickets.new self.new) }
+        ensures done { IsDoneBy (view_in tickets.old self.old) (submitted None request.now (rolling_now (view_in tickets.old self.old) request.now.command) (view_in tickets.old self.old).present) reply.new (view_in tickets.new self.new) }
         ensures left { Leaves tickets.old self.old tickets.new self.new }
     {
         if tickets.len(self.number) >= self.slots() {
-            return Reply::GroupFull;
+            *reply = Reply::GroupFull;
+            return;
         }
         let health = self.health_asked(tickets, request.command);
         let said = self.commands[request.command as usize].circuit.admit(
@@ -91,9 +93,10 @@ impl Group {
                 Cause::ShortCircuited,
                 EventKind::ShortCircuited,
                 false,
+                reply,
             ),
-            Admit::Test => self.place(tickets, request, true),
-            Admit::Pass => self.place(tickets, request, false),
+            Admit::Test => self.place(tickets, request, true, reply),
+            Admit::Pass => self.place(tickets, request, false, reply),
         }
     }
 
@@ -118,26 +121,29 @@ impl Group {
     }
 
     /// The request runs, or waits for a worker, where there is room for it.
-    fn place(&mut self, tickets: &mut Tickets, request: &Request, test: bool) -> Reply
+    fn place(&mut self, tickets: &mut Tickets, request: &Request, test: bool, reply: &mut Reply)
         requires has { HasTickets tickets.old self.old }
         requires bounded { IsBounded (view_in tickets.old self.old) }
         requires known { request.now.command < command_count self.old.props }
         requires free { length (view_in tickets.old self.old).present.tickets < (view_in tickets.old self.old).present.props.slots }
-        ensures done { IsDoneBy (view_in tickets.old self.old) (placed request.now test (view_in tickets.old self.old).present) result (view_in tickets.new self.new) }
+        ensures done { IsDoneBy (view_in tickets.old self.old) (placed request.now test (view_in tickets.old self.old).present) reply.new (view_in tickets.new self.new) }
         ensures left { Leaves tickets.old self.old tickets.new self.new }
     {
         if !self.is_admitted(tickets, request.command) {
-            return self.reject(tickets, request, test);
+            self.reject(tickets, request, test, reply);
+            return;
         }
         let serial = tickets.next_serial(self.number);
         match self.props.command(request.command).strategy {
             Strategy::Semaphore => {
                 self.add_ticket(tickets, request, &TicketState::Running, true, test);
-                return Reply::Inline(serial);
+                *reply = Reply::Inline(serial);
+                return;
             }
             Strategy::Thread => {
                 self.add_ticket(tickets, request, &TicketState::Queued, false, test);
-                return Reply::Queued(serial);
+                *reply = Reply::Queued(serial);
+                return;
             }
         }
     }
@@ -163,12 +169,12 @@ impl Group {
     }
 
     /// The request is rejected; a test call that is rejected has failed.
-    fn reject(&mut self, tickets: &mut Tickets, request: &Request, test: bool) -> Reply
+    fn reject(&mut self, tickets: &mut Tickets, request: &Request, test: bool, reply: &mut Reply)
         requires has { HasTickets tickets.old self.old }
         requires bounded { IsBounded (view_in tickets.old self.old) }
         requires known { request.now.command < command_count self.old.props }
         requires free { length (view_in tickets.old self.old).present.tickets < (view_in tickets.old self.old).present.props.slots }
-        ensures done { IsDoneBy (view_in tickets.old self.old) (rejected (props_of request.now.command self.old.props).strategy request.now test (view_in tickets.old self.old).present) result (view_in tickets.new self.new) }
+        ensures done { IsDoneBy (view_in tickets.old self.old) (rejected (props_of request.now.command self.old.props).strategy request.now test (view_in tickets.old self.old).present) reply.new (view_in tickets.new self.new) }
         ensures left { Leaves tickets.old self.old tickets.new self.new }
     {
         self.tell_circuit(
@@ -178,22 +184,26 @@ impl Group {
         );
         match self.props.command(request.command).strategy {
             Strategy::Semaphore => {
-                return self.fall_back_from(
+                self.fall_back_from(
                     tickets,
                     request,
                     Cause::SemaphoreRejected,
                     EventKind::SemaphoreRejected,
                     test,
+                    reply,
                 );
+                return;
             }
             Strategy::Thread => {
-                return self.fall_back_from(
+                self.fall_back_from(
                     tickets,
                     request,
                     Cause::PoolRejected,
                     EventKind::ThreadPoolRejected,
                     test,
+                    reply,
                 );
+                return;
             }
         }
     }
@@ -206,12 +216,13 @@ impl Group {
         cause: Cause,
         event: EventKind,
         test: bool,
-    ) -> Reply
+        reply: &mut Reply,
+    )
         requires has { HasTickets tickets.old self.old }
         requires bounded { IsBounded (view_in tickets.old self.old) }
         requires known { request.now.command < command_count self.old.props }
         requires free { length (view_in tickets.old self.old).present.tickets < (view_in tickets.old self.old).present.props.slots }
-        ensures done { IsDoneBy (view_in tickets.old self.old) (due_fallback cause event request.now test (view_in tickets.old self.old).present) result (view_in tickets.new self.new) }
+        ensures done { IsDoneBy (view_in tickets.old self.old) (due_fallback cause event request.now test (view_in tickets.old self.old).present) reply.new (view_in tickets.new self.new) }
         ensures left { Leaves tickets.old self.old tickets.new self.new }
     {
         let serial = tickets.next_serial(self.number);
@@ -223,7 +234,7 @@ impl Group {
             test,
         );
         self.record(request.command, event);
-        Reply::FallbackDue { serial, cause }
+        *reply = Reply::FallbackDue { serial, cause };
     }
 
     /// Makes the ticket of a request.

@@ -29,5 +29,5 @@ returns-in-NeedsFallback-clause-done c =
     let found : find (is_held_at n) v.present.tickets ≡ Some t = found_is (group_at c.args.tickets.now g.number) c.in-Some.slot (is_held_at n) t c.in-Some.ensures.found c.get-ticket.ensures in
     let same : collected_in (ticket.NeedsFallback c.in-NeedsFallback.cause) t.command n v.present ≡ collected (find (is_held_at n) v.present.tickets) n v.present =
     ap (λ (s : TicketState). collected_in s t.command n v.present) (sym c.in-NeedsFallback.is) ∙ ap (λ o. collected o n v.present) (sym found) in
-    let did : IsDoneBy v (collected_in (ticket.NeedsFallback c.in-NeedsFallback.cause) t.command n v.present) c.fall_back.result (view_in c.fall_back.new.tickets c.fall_back.new.self) = rw (← c.self.view_is) at c.fall_back.ensures.done in
-    rw (← c.self.view_is) (subst (λ (out : Outcome). IsDoneBy v out c.fall_back.result (view_in c.fall_back.new.tickets c.fall_back.new.self)) same did)
+    let did : IsDoneBy v (collected_in (ticket.NeedsFallback c.in-NeedsFallback.cause) t.command n v.present) c.fall_back.new.reply (view_in c.fall_back.new.tickets c.fall_back.new.self) = rw (← c.self.view_is) at c.fall_back.ensures.done in
+    rw (← c.self.view_is) (subst (λ (out : Outcome). IsDoneBy v out c.fall_back.new.reply (view_in c.fall_back.new.tickets c.fall_back.new.self)) same did)

@@ -77,10 +77,10 @@ returns-in-Short-clause-done c =
     let said = (λ i. asked (c.command.ensures i) g.latest c.health_asked-health.result (c.next_serial.ensures i) (circuit i)) ∙ asks in
     let free : length d.present.tickets < d.present.props.slots = omega (arith, c.if-len-slots.false, c.len.ensures, (rw (← c.self.view_is) at c.slots.ensures)) in
     let new : View = view_in c.fall_back_from.new.tickets c.fall_back_from.new.self in
-    let did : IsDoneBy (view_in c.args.tickets.now (record g { commands = set cs n y })) (circuit_said admit.Short request (view_in c.args.tickets.now (record g { commands = set cs n y })).present) c.fall_back_from.result new = c.fall_back_from.ensures.done in
-    rw (← c.self.view_is) (asked_done d request (rolling_now d n) admit.Short y.circuit c.fall_back_from.result new free
+    let did : IsDoneBy (view_in c.args.tickets.now (record g { commands = set cs n y })) (circuit_said admit.Short request (view_in c.args.tickets.now (record g { commands = set cs n y })).present) c.fall_back_from.new.reply new = c.fall_back_from.ensures.done in
+    rw (← c.self.view_is) (asked_done d request (rolling_now d n) admit.Short y.circuit c.fall_back_from.new.reply new free
     (c.in-Short.ensures.says ∙ ap (λ (a : Asked). a.says) said) (c.admit-said.ensures.leaves ∙ ap (λ (a : Asked). a.circuit) said)
-    (subst (λ (v : View). IsDoneBy v (circuit_said admit.Short request v.present) c.fall_back_from.result new) (view_asked c.args.tickets.now g n x y c.index_mut.ensures.value refl) did))
+    (subst (λ (v : View). IsDoneBy v (circuit_said admit.Short request v.present) c.fall_back_from.new.reply new) (view_asked c.args.tickets.now g n x y c.index_mut.ensures.value refl) did))
 
 pub returns-in-Test-clause-done : goal.returns-in-Test-clause-done
 returns-in-Test-clause-done c =
@@ -97,10 +97,10 @@ returns-in-Test-clause-done c =
     let said = (λ i. asked (c.command.ensures i) g.latest c.health_asked-health.result (c.next_serial.ensures i) (circuit i)) ∙ asks in
     let free : length d.present.tickets < d.present.props.slots = omega (arith, c.if-len-slots.false, c.len.ensures, (rw (← c.self.view_is) at c.slots.ensures)) in
     let new : View = view_in c.place.new.tickets c.place.new.self in
-    let did : IsDoneBy (view_in c.args.tickets.now (record g { commands = set cs n y })) (circuit_said admit.Test request (view_in c.args.tickets.now (record g { commands = set cs n y })).present) c.place.result new = c.place.ensures.done in
-    rw (← c.self.view_is) (asked_done d request (rolling_now d n) admit.Test y.circuit c.place.result new free
+    let did : IsDoneBy (view_in c.args.tickets.now (record g { commands = set cs n y })) (circuit_said admit.Test request (view_in c.args.tickets.now (record g { commands = set cs n y })).present) c.place.new.reply new = c.place.ensures.done in
+    rw (← c.self.view_is) (asked_done d request (rolling_now d n) admit.Test y.circuit c.place.new.reply new free
     (c.in-Test.ensures.says ∙ ap (λ (a : Asked). a.says) said) (c.admit-said.ensures.leaves ∙ ap (λ (a : Asked). a.circuit) said)
-    (subst (λ (v : View). IsDoneBy v (circuit_said admit.Test request v.present) c.place.result new) (view_asked c.args.tickets.now g n x y c.index_mut.ensures.value refl) did))
+    (subst (λ (v : View). IsDoneBy v (circuit_said admit.Test request v.present) c.place.new.reply new) (view_asked c.args.tickets.now g n x y c.index_mut.ensures.value refl) did))
 
 pub returns-in-Pass-clause-done : goal.returns-in-Pass-clause-done
 returns-in-Pass-clause-done c =
@@ -117,7 +117,7 @@ returns-in-Pass-clause-done c =
     let said = (λ i. asked (c.command.ensures i) g.latest c.health_asked-health.result (c.next_serial.ensures i) (circuit i)) ∙ asks in
     let free : length d.present.tickets < d.present.props.slots = omega (arith, c.if-len-slots.false, c.len.ensures, (rw (← c.self.view_is) at c.slots.ensures)) in
     let new : View = view_in c.place-in-Pass.new.tickets c.place-in-Pass.new.self in
-    let did : IsDoneBy (view_in c.args.tickets.now (record g { commands = set cs n y })) (circuit_said admit.Pass request (view_in c.args.tickets.now (record g { commands = set cs n y })).present) c.place-in-Pass.result new = c.place-in-Pass.ensures.done in
-    rw (← c.self.view_is) (asked_done d request (rolling_now d n) admit.Pass y.circuit c.place-in-Pass.result new free
+    let did : IsDoneBy (view_in c.args.tickets.now (record g { commands = set cs n y })) (circuit_said admit.Pass request (view_in c.args.tickets.now (record g { commands = set cs n y })).present) c.place-in-Pass.new.reply new = c.place-in-Pass.ensures.done in
+    rw (← c.self.view_is) (asked_done d request (rolling_now d n) admit.Pass y.circuit c.place-in-Pass.new.reply new free
     (c.in-Pass.ensures.says ∙ ap (λ (a : Asked). a.says) said) (c.admit-said.ensures.leaves ∙ ap (λ (a : Asked). a.circuit) said)
-    (subst (λ (v : View). IsDoneBy v (circuit_said admit.Pass request v.present) c.place-in-Pass.result new) (view_asked c.args.tickets.now g n x y c.index_mut.ensures.value refl) did))
+    (subst (λ (v : View). IsDoneBy v (circuit_said admit.Pass request v.present) c.place-in-Pass.new.reply new) (view_asked c.args.tickets.now g n x y c.index_mut.ensures.value refl) did))

@@ -5,26 +5,22 @@ use Rattle.bh_props.specs.Shown.{settings_view}
 use Rattle.bh_port.specs.Course.{IsActOf}
 use Rattle.bh_port.specs.Entries.{without}
 use Rattle.bh_port.specs.Script.{GroupsShow}
-use Rattle.bh_port.specs.Text.{held_at, told_by, told_reply, with_act}
+use Rattle.bh_port.specs.Text.{held_at, told_by, with_act}
 use Rattle.bh_port.proofs.Lists.{read_within}
-use Rattle.bh_port.proofs.Showing.{agrees-registered, agrees-retired, agrees-step, held-is, reply-step}
+use Rattle.bh_port.proofs.Showing.{agrees-registered, agrees-retired, held-is}
 use Rattle.bh_port.proofs.groups.Groups.act.Goals as goal
+
+pub make_step-command-requires : goal.make_step-command-requires
+make_step-command-requires c = subst (IsActOf (settings_view c.args.settings.now) c.args.self.now.entries) c.in-Step.is c.requires
 
 pub returns-in-Step-clause-told : goal.returns-in-Step-clause-told
 returns-in-Step-clause-told c = λ before agrees.
-    let service = settings_view c.args.settings.now in
-    let (r, stepped, is) = c.step.ensures.step in
-    is ∙ ap (λ es. told_reply service es c.in-Step.step.group.0 r) agrees.entries
-    ∙ ap (told_reply service before.entries c.in-Step.step.group.0) (reply-step service c.args.self.now c.step.new.self before c.in-Step.step r agrees stepped)
-    ∙ sym (ap (told_by service before) c.in-Step.is)
+    c.make_step-command.ensures.told before agrees ∙ sym (ap (told_by (settings_view c.args.settings.now) before) c.in-Step.is)
 
 pub returns-in-Step-clause-agrees : goal.returns-in-Step-clause-agrees
 returns-in-Step-clause-agrees c = λ before agrees.
     let service = settings_view c.args.settings.now in
-    let (r, stepped, is) = c.step.ensures.step in
-    let there = subst (IsActOf service c.args.self.now.entries) c.in-Step.is c.requires in
-    subst (λ a. GroupsShow service c.step.new.self (with_act service before a)) (sym c.in-Step.is)
-    (agrees-step service c.args.self.now c.step.new.self before c.in-Step.step r agrees stepped c.step.ensures.entries there)
+    subst (λ a. GroupsShow service c.make_step-command.new.self (with_act service before a)) (sym c.in-Step.is) (c.make_step-command.ensures.agrees before agrees)
 
 pub returns-in_ok-register-in-Register-clause-agrees : goal.returns-in_ok-register-in-Register-clause-agrees
 returns-in_ok-register-in-Register-clause-agrees c = λ before agrees.

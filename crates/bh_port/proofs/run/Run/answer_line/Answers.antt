@@ -14,20 +14,20 @@ on_ok : {T E P Q : Type 0} (r : Result T E) → OnOk r P → (P → Q) → OnOk 
 on_ok (Ok x) p f = f p
 on_ok (Err e) p f = tt
 
-pub returns-in-Ok-Ok-clause-answers : goal.returns-in-Ok-Ok-clause-answers
-returns-in-Ok-Ok-clause-answers c = both_ok c.answer_act.result c.answer_act.ensures.wrote c.answer_act.ensures.agrees (λ wrote did before agrees.
+pub returns-in-Ok-clause-answers : goal.returns-in-Ok-clause-answers
+returns-in-Ok-clause-answers c = both_ok c.answer_act.result c.answer_act.ensures.wrote c.answer_act.ensures.agrees (λ wrote did before agrees.
     let service = settings_view c.args.settings.now in
-    let is : line_act service before.entries c.args.line.now ≡ Ok c.in-Ok-Ok.act =
-    sym (ap (λ es. line_act service es c.args.line.now) agrees.entries) ∙ sym c.in-Ok-Ok.ensures.said ∙ c.in-Ok-Ok.field-0-is in record {
+    let is : line_act service before.entries c.args.line.now ≡ Ok c.line_act.new.act =
+    sym (ap (λ es. line_act service es c.args.line.now) agrees.entries) ∙ (rw c.in-Ok.is at c.in_ok-said.ensures.said) in record {
       wrote = wrote before agrees ∙ ap (λ said. c.args.self.now.out.items ++ answer_to service before said) (sym is);
       agrees = subst (λ said. GroupsShow service c.answer_act.new.self.groups (course_with service before said)) (sym is) (did before agrees);
     })
 
-pub returns-in-Ok-Err-clause-answers : goal.returns-in-Ok-Err-clause-answers
-returns-in-Ok-Err-clause-answers c = on_ok c.answer_fault.result c.answer_fault.ensures.wrote (λ wrote before agrees.
+pub returns-in-Err-clause-answers : goal.returns-in-Err-clause-answers
+returns-in-Err-clause-answers c = on_ok c.answer_fault.result c.answer_fault.ensures.wrote (λ wrote before agrees.
     let service = settings_view c.args.settings.now in
-    let is : line_act service before.entries c.args.line.now ≡ Err c.in-Ok-Err.fault =
-    sym (ap (λ es. line_act service es c.args.line.now) agrees.entries) ∙ sym c.in-Ok-Err.ensures.said ∙ c.in-Ok-Err.field-0-is in record {
+    let is : line_act service before.entries c.args.line.now ≡ Err c.in-Err.fault =
+    sym (ap (λ es. line_act service es c.args.line.now) agrees.entries) ∙ (rw c.in-Err.is at c.in_ok-said.ensures.said) in record {
       wrote = wrote ∙ ap (λ said. c.args.self.now.out.items ++ answer_to service before said) (sym is);
       agrees = subst (λ said. GroupsShow service c.answer_fault.new.self.groups (course_with service before said)) (sym is)
           (subst (λ g. GroupsShow service g before) (sym c.answer_fault.ensures.same) agrees);

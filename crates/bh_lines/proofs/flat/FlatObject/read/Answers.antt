@@ -3,10 +3,10 @@ use Rattle.json.specs.Token.{Token}
 use Rattle.json.specs.Lex.{tokens}
 use Rattle.bh_lines.specs.Flat.{ReadsMembers}
 use Rattle.bh_lines.proofs.FlatReading.{read_flat}
-use Rattle.bh_lines.proofs.flat.FlatObject.parse.Goals as goal
+use Rattle.bh_lines.proofs.flat.FlatObject.read.Goals as goal
 
 pub returns-in-None-clause-value : goal.returns-in-None-clause-value
-returns-in-None-clause-value c =
+returns-in-None-clause-value c there =
     let opens : tokens c.args.line.now ≡ Token.begin_object ∷ c.next.new.self = grind arith in
     let over : c.next_members.new.reader ≡ [] = c.in-None.ensures.value.0 in
     let found = c.next_members.new.members.items in
