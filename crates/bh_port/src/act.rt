@@ -1,15 +1,15 @@
 //! What a line asks of the groups of a run, and what it is told.
 
-ghost use Rattle.std.specs.Prelude.{◌≡◌, Err, IfOk, MatchResult, None, Ok, OnErr, OnOk};
+ghost use Rattle.std.specs.Prelude.{◌≡◌, Err, IfOk, MatchResult, Ok, OnErr, OnOk};
+ghost use Rattle.bh_lines.specs.declared.told.Told.TheVariants as told;
 ghost use Rattle.bh_lines.specs.Flat.{members_data};
 ghost use Rattle.bh_lines.specs.ScriptLine.{asked_at};
 ghost use Rattle.bh_props.specs.SettingsView.{SettingsView};
 ghost use Rattle.bh_props.specs.Shown.{settings_view};
+ghost use Rattle.bh_port.specs.declared.act.LineAct.TheVariants as act;
 ghost use Rattle.bh_port.specs.Course.{Course, IsActOf, act_asked, is_free, line_act, registration, retirement};
 ghost use Rattle.bh_port.specs.Script.{GroupsShow};
 ghost use Rattle.bh_port.specs.Text.{told_by, with_act};
-ghost use Rattle.bh_port.specs.declared.act.LineAct.TheVariants as act;
-ghost use Rattle.bh_lines.specs.declared.told.Told.TheVariants as told;
 
 use crate::commands::{further_command, told_command};
 use crate::groups::Groups;

@@ -3,7 +3,7 @@
 ghost use Rattle.std.specs.Prelude.{◌≡◌, ℕ, ◌<◌, ◌++◌, List, ◌∷◌, [], false, true, length, slice_get, option_copied, IfErr, IfOk, IfSome, IsSome, OnErr, OnOk, Some, vec_capacity, vec_len};
 ghost use Rattle.std.specs.HashMap.{IsUnchanged, spare};
 ghost use Rattle.bh_base.specs.Props.{GroupProps};
-ghost use Rattle.bh_base.specs.Runs.{View, opened, view};
+ghost use Rattle.bh_base.specs.Runs.{View, view};
 ghost use Rattle.bh_core.specs.Acts.{with_opened};
 ghost use Rattle.bh_core.specs.CoreView.{most_groups, view_at, with_retired};
 ghost use Rattle.bh_core.specs.Looks.{is_in_use};

@@ -1,4 +1,4 @@
-use Rattle.std.proofs.Common.{◌≡◌, ◌∙◌, ap}
+use Rattle.std.proofs.Common.{◌∙◌, ap}
 use Rattle.bh_lines.specs.declared.told.Told.TheVariants as told
 use Rattle.bh_props.specs.Shown.{settings_view}
 use Rattle.bh_port.specs.Text.{told_name, told_reply}
