@@ -5,8 +5,8 @@
 #   bench/serve.sh [-n CALLS] [-g GROUPS] [-r RUNS] [-s SETTINGS] [-o OTHER] [-p PORT] [PROGRAM]
 #
 # SETTINGS are lines of a settings file for all groups; where none are given, there are two tables: of built-in settings
-# and of SEMAPHORE. OTHER is another build of the program, which is run beside it in turn. Each figure is that of the
-# median run by calls a second. PROGRAM is proved and built where none is given.
+# and of SEMAPHORE. OTHER is another build of the program, or that of `echo`, and is run beside it in turn. Each figure is
+# that of the median run by calls a second. PROGRAM is proved and built where none is given.
 set -euo pipefail
 
 here=$(cd "$(dirname "$0")" && pwd)
