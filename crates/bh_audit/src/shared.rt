@@ -1,6 +1,6 @@
 //! One service, which threads share.
 
-ghost use Rattle.std.specs.Prelude.{◌≡◌, ◌≢◌, ◌↔◌, ◌<◌, ◌≤◌, ◌^◌, ◌&&◌, length, nat_lt, vec_len, IfOk, IfErr, IfSome, OnErr, Err, true, false, if◌then◌else◌};
+ghost use Rattle.std.specs.Prelude.{◌≡◌, ◌≢◌, ◌↔◌, ◌<◌, ◌≤◌, ◌^◌, ◌&&◌, length, nat_lt, vec_len, IfOk, IfErr, IfSome, IsErr, OnErr, Err, true, false, if◌then◌else◌};
 ghost use Rattle.bh_base.specs.declared.reply.Reply.TheVariants as reply;
 ghost use Rattle.bh_base.specs.declared.step.Op.TheVariants as op;
 ghost use Rattle.bh_base.specs.Ranges.{IsInRange};
@@ -110,8 +110,18 @@ impl Shared {
         if !self.is_registered(rt, group) {
             return Err(PassError::NoGroup);
         }
+        Ok(self.blank_pass(alloc, group, room)?)
+    }
+
+    /// A pass as `pass` gives it, of a group that may be registered or not: it takes no lock. Where the group is not
+    /// registered, the calls answer `NoGroup`. The error comes where memory for the receipts of an audited service was
+    /// refused; nothing has changed then.
+    pub fn blank_pass(&self, alloc: Global, group: GroupId, room: u64) -> Result<Pass, AllocError>
+        ensures blank { IfOk result (λ p. p ≡ blank group (if self.now.audited then room else 0)) }
+        ensures memory { IsErr result → self.now.audited ≡ true }
+    {
         let room = if self.audited() { room } else { 0 };
-        Ok(Pass::new(alloc, group, room)?)
+        Pass::new(alloc, group, room)
     }
 
     /// Registers a group, which may do so many steps, 1 to 2^40. The other groups go on meanwhile, save that the lock is

@@ -2,7 +2,7 @@
 //!
 //! Nearly every line is one, and its members borrow from the line; any other line is read as a tree.
 
-ghost use Rattle.std.specs.Prelude.{◌≡◌, ◌<◌, ◌==◌, ◌&&◌, Bool, false, true, List, [], length, slice_index, Some, is_some, option_map, IfOk, IfSome, MatchOption, OnSome};
+ghost use Rattle.std.specs.Prelude.{◌≡◌, ◌<◌, ◌==◌, ◌&&◌, Bool, false, true, List, [], length, slice_index, Some, is_some, option_map, IfOk, IfSome, MatchOption, OnErr, OnSome};
 ghost use Rattle.json.specs.Lex.{tokens};
 ghost use Rattle.json.specs.Token.{Token as JsonToken};
 ghost use Rattle.serde_json.specs.Data.{unsigned};
@@ -54,10 +54,11 @@ impl<'a> FlatObject<'a> {
     /// Becomes the object that a line is, and says whether it is one of at most eight members, each a scalar; where it
     /// is not, this says no more of the line, and the members mean nothing.
     ///
-    /// It fails only for want of memory: the scratch grows to the length of the line.
+    /// It fails only for want of memory, since the scratch grows to the length of the line; the object stays as it was then.
     pub fn read(&mut self, line: &'a str, scratch: &'a mut Scratch) -> Result<bool, AllocError>
         ensures found { IfOk result (λ found. found ≡ is_flat (tokens line.now)) }
         ensures value { IfOk result (λ found. found ≡ true → read line.now ≡ Some (flat_data self.new.members.items)) }
+        ensures err { OnErr result (self.new.members.items ≡ self.old.members.items) }
     {
         let mut reader = Reader::new(line, scratch)?;
         let Some(Token::BeginObject) = reader.next() else {

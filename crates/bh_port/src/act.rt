@@ -34,8 +34,9 @@ pub enum LineAct {
     Retire(GroupId),
 }
 
-/// Tells what a line asks for in a service that has these groups, or answers its fault; nothing is told then. It is told
-/// where the caller keeps it, since a step is too long to be copied at each return. It fails only for want of memory.
+/// Tells what a line asks for in a service that has these groups, or answers its fault. It is told where the caller keeps
+/// it, since a step is too long to be copied at each return, and what is there stays where nothing is told: at a fault, and
+/// for want of memory, which is all that it fails for.
 #[tactic(auto, unfolding(bh_lines::specs::ScriptLine::line_asked, crate::specs::Course::line_act))]
 pub fn line_act(
     alloc: Global,
@@ -49,6 +50,7 @@ pub fn line_act(
         (λ _. line_act (settings_view settings.now) groups.now.entries line.now ≡ Ok act.new)
         (λ fault. line_act (settings_view settings.now) groups.now.entries line.now ≡ Err fault)) }
     ensures act { IfOk result (λ said. OnOk said (IsActOf (settings_view settings.now) groups.now.entries act.new)) }
+    ensures kept { MatchResult result (λ said. OnErr said (act.new ≡ act.old)) (λ _. act.new ≡ act.old) }
 {
     let mut object = FlatObject::new();
     if object.read(line, scratch)? {
@@ -71,6 +73,7 @@ fn act_at(
         (λ _. act_asked (settings_view settings.now) groups.now.entries (asked_at (members_data members.entry)) ≡ Ok act.new)
         (λ fault. act_asked (settings_view settings.now) groups.now.entries (asked_at (members_data members.entry)) ≡ Err fault) }
     ensures act { OnOk result (IsActOf (settings_view settings.now) groups.now.entries act.new) }
+    ensures kept { OnErr result (act.new ≡ act.old) }
 {
     match asked_at(members)? {
         ScriptLine::Step(said) => *act = LineAct::Step(step_of(settings, groups, &said)?),

@@ -192,6 +192,20 @@ fn a_pass_is_made_or_not(rt: HostRuntime) {
 }
 
 #[test]
+fn a_blank_pass_is_made_or_not(rt: HostRuntime) {
+    let shared = service(&rt);
+    for nth in 1..MANY {
+        refuse(rt.alloc(), nth);
+        let told = shared.blank_pass(rt.alloc(), A, 10);
+        assert_told(&rt, nth, told.is_ok());
+        if told.is_ok() {
+            return assert_new_service(&rt, shared);
+        }
+    }
+    give_up(&rt);
+}
+
+#[test]
 fn a_pass_too_long_for_any_memory_is_not_made(rt: HostRuntime) {
     let shared = service(&rt);
     let told = shared.pass(&rt, rt.alloc(), A, TOO_MANY);

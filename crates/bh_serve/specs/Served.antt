@@ -1,5 +1,5 @@
 -- What a service behind a port may answer, and what it was asked.
-use Rattle.std.specs.Prelude.{◌≡◌, ◌≢◌, ℕ, ◌<◌, ◌⊎◌, true, List, Option, Some, None, Result, Err, if◌then◌else◌}
+use Rattle.std.specs.Prelude.{◌≡◌, ◌≢◌, ℕ, ◌<◌, true, List, Option, Some, None, Result, Err, if◌then◌else◌}
 use Rattle.bh_base.specs.declared.step.GroupId.{GroupId}
 use Rattle.bh_base.specs.declared.step.Op.{Op}
 use Rattle.bh_base.specs.declared.step.Request.{Request}
@@ -15,8 +15,6 @@ use Rattle.bh_base.specs.declared.reply.Reply.TheVariants as reply
 use Rattle.bh_base.specs.Replies.{can_reply}
 use Rattle.bh_journal.specs.declared.pass.Receipt.{Receipt}
 use Rattle.bh_journal.specs.Passes.{PassView, blank}
-use Rattle.bh_audit.specs.declared.next.PassError.{PassError}
-use Rattle.bh_audit.specs.declared.next.PassError.TheVariants as refused
 use Rattle.bh_audit.specs.Service.{ServiceView}
 use Rattle.bh_workers.specs.Calls.{CallAdds, IsCall}
 use Rattle.bh_workers.specs.Receipts.{StepAdds}
@@ -41,21 +39,16 @@ MayAnswer ends fallback_ends moments group request answer = (made : List Receipt
 abbrev pub new_pass : ServiceView → GroupId → ℕ → PassView
 new_pass service group room = blank group (if service.audited then room else 0)
 
--- a step of the group was made with a new pass, at a moment that the clock names, and was answered so; where no pass
--- was taken, the answer is that there is no such group
+-- a step of the group was made with a new pass, at a moment that the clock names, and was answered so; where memory for
+-- the receipt of an audited service was refused, the answer is that there is no such group
 abbrev pub IsStepped : (ℕ → Type 0) → ServiceView → GroupId → Op → Reply → Option PassView → Type 0
 IsStepped moments service group o answer (Some p) = StepAdds moments service.audited (new_pass service group 1) o answer p
-IsStepped moments service group o answer None = answer ≡ reply.NoGroup
+IsStepped moments service group o answer None = (answer ≡ reply.NoGroup) × (service.audited ≡ true)
 
--- what a call answers where there is no pass for it
-abbrev pub refused_as : PassError → CallError
-refused_as refused.NoGroup = error.NoGroup
-refused_as refused.Memory = error.PassFull
-
--- a call of the request was made with a new pass, and was answered so; where no pass was taken, the answer is that there
--- is no such group, or that memory for the receipts of an audited service was refused
+-- a call of the request was made with a new pass, and was answered so; or memory for the receipts of an audited service
+-- was refused
 abbrev pub IsCalled : (GroupId → ℕ → List ℕ → RunEnd → Type 0) → (GroupId → ℕ → Cause → List ℕ → FallbackEnd → Type 0) → (ℕ → Type 0) → ServiceView → GroupId → Request → Result Answer CallError → Option PassView → Type 0
 IsCalled ends fallback_ends moments service group request result (Some p) =
     CallAdds service.audited (new_pass service group 5) result p (IsCall ends fallback_ends moments group request result)
 IsCalled ends fallback_ends moments service group request result None =
-    (result ≡ Err error.NoGroup) ⊎ ((result ≡ Err error.PassFull) × (service.audited ≡ true))
+    (result ≡ Err error.PassFull) × (service.audited ≡ true)

@@ -5,10 +5,10 @@ ghost use Rattle.bh_base.specs.declared.reply.CallError.TheVariants.{PassFull};
 ghost use Rattle.bh_base.specs.declared.step.Op.TheVariants as op;
 ghost use Rattle.bh_base.specs.Replies.{can_reply};
 ghost use Rattle.bh_audit.specs.Calls.{CanBeMissing};
-ghost use Rattle.bh_serve.specs.Served.{IsCalled, IsStepped, MayAnswer, MayClose, MayShow, refused_as};
+ghost use Rattle.bh_serve.specs.Served.{IsCalled, IsStepped, MayAnswer, MayClose, MayShow};
 
 use crate::names::GroupNames;
-use bh_audit::{Clock, Pass, PassError, Shared};
+use bh_audit::{Clock, Pass, Shared};
 use bh_base::{Answer, CallError, GroupId, Op, Reply, Request, Step, Text};
 use bh_control::Control;
 use bh_workers::{Dependency, MOST_RECEIPTS, call};
@@ -64,8 +64,8 @@ impl<'e, R, D, C> ServiceControl<'e, R, D, C> {
 }
 
 impl<'e, R: Wait, D: Dependency, C: Clock> ServiceControl<'e, R, D, C> {
-    /// Makes one step of the group, now, with a new pass. Where there is none, the reply is `NoGroup`: the group is not
-    /// registered, or memory for the receipt of an audited service was refused.
+    /// Makes one step of the group, now, with a new pass. Where there is none, since memory for the receipt of an audited
+    /// service was refused, the reply is `NoGroup`.
     fn step(&mut self, group: GroupId, op: Op) -> Reply
         requires { can_reply op Reply.NoGroup ≡ true }
         ensures kinds { can_reply op result ≡ true }
@@ -74,7 +74,7 @@ impl<'e, R: Wait, D: Dependency, C: Clock> ServiceControl<'e, R, D, C> {
         ensures made { IsStepped C.moments self.old.service group op result self.new.last }
     {
         let now = self.clock.now();
-        let Ok(mut pass) = self.shared.pass(self.rt, self.alloc, group, 1) else {
+        let Ok(mut pass) = self.shared.blank_pass(self.alloc, group, 1) else {
             self.last = None;
             return Reply::NoGroup;
         };
@@ -127,12 +127,9 @@ impl<'e, R: Wait, D: Dependency, C: Clock> Control for ServiceControl<'e, R, D, 
         ensures made { IsCalled D.ends D.fallback_ends C.moments self.old.service group request result self.new.last }
         ensures full { result ≡ Err PassFull → self.old.service.audited ≡ true }
     {
-        let mut pass = match self.shared.pass(self.rt, self.alloc, group, MOST_RECEIPTS) {
-            Ok(pass) => pass,
-            Err(error) => {
-                self.last = None;
-                return Err(refused_as(error));
-            }
+        let Ok(mut pass) = self.shared.blank_pass(self.alloc, group, MOST_RECEIPTS) else {
+            self.last = None;
+            return Err(CallError::PassFull);
         };
         let answer = call(
             self.rt,
@@ -152,15 +149,5 @@ impl<'e, R: Wait, D: Dependency, C: Clock> Control for ServiceControl<'e, R, D, 
         ensures made { IsStepped C.moments self.old.service group (op.Close context) result self.new.last }
     {
         self.step(group, Op::Close { context })
-    }
-}
-
-/// What a call answers where there is no pass for it.
-fn refused_as(error: PassError) -> CallError
-    ensures { result ≡ refused_as error }
-{
-    match error {
-        PassError::NoGroup => CallError::NoGroup,
-        PassError::Memory => CallError::PassFull,
     }
 }

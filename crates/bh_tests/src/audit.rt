@@ -322,6 +322,18 @@ fn groups_and_their_workers(rt: HostRuntime) {
     assert!(rt; missing == Some(PassError::NoGroup));
 }
 
+#[test]
+fn a_blank_pass_of_a_missing_group(rt: HostRuntime) {
+    let shared = audited(&rt, 10);
+    let mut pass = shared
+        .blank_pass(rt.alloc(), GroupId(2), 1)
+        .expect(&rt, "memory");
+    let told = shared.step(&rt, &mut pass, step(2, 0, &Op::Start));
+    assert!(rt; told == Ok(Reply::NoGroup));
+    assert!(rt; pass.marks().no_group);
+    assert!(rt; pass.room_left() == 1);
+}
+
 const REFUSED: &str = "0 1 0 start = OtherGroup
 0 next 0 = PassFull
 0 0 0 start = Idle
