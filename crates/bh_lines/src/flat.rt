@@ -135,7 +135,7 @@ fn whole_number(text: &str) -> Option<u64>
 fn has_minus(bytes: &[u8]) -> bool
     ensures { result ≡ (slice_index bytes.now 0 == 45) }
 {
-    !bytes.is_empty() && bytes[0] == b'-'
+    bytes.first() == Some(&b'-')
 }
 
 /// The number that a numeral without a sign says, where it is whole and of 64 bits.

@@ -171,8 +171,10 @@ pub fn command_of(members: Members<'_>) -> Result<Option<&str>, Fault>
     if !members.has("command") {
         return Ok(None);
     }
-    let name = members.text("command").ok_or(Fault::Field)?;
-    Ok(Some(name))
+    match members.text("command") {
+        Some(name) => Ok(Some(name)),
+        None => Err(Fault::Field),
+    }
 }
 
 /// The context and the key of a request where they stand, of any length: both or neither. `Field` comes where only one

@@ -72,7 +72,10 @@ fn are_group_keys(table: &Table, names: &[Text<32>]) -> bool
 fn is_group_key(key: &str, names: &[Text<32>]) -> bool
     ensures { result ≡ is_key names.now key.now }
 {
-    key == "default" || is_listed(key, names)
+    match key {
+        "default" => true,
+        _ => is_listed(key, names),
+    }
 }
 
 /// Whether the key is the name of a group.

@@ -52,7 +52,9 @@ pub(crate) fn pass_of<R: Wait>(
 {
     match shared.pass(rt, alloc, group, room) {
         Ok(pass) => Ok(Some(pass)),
-        Err(PassError::NoGroup) => Ok(None),
-        Err(PassError::Memory) => Err(ThreadError::Memory),
+        Err(error) => match error {
+            PassError::NoGroup => Ok(None),
+            PassError::Memory => Err(ThreadError::Memory),
+        },
     }
 }

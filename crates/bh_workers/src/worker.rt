@@ -93,5 +93,8 @@ pub(crate) fn end_op(serial: Serial, end: RunEnd) -> Op
 fn was_taken(reply: &Reply) -> bool
     ensures { result ≡ not (is_refusal reply.now) }
 {
-    !matches!(reply, Reply::Worn | Reply::NoGroup | Reply::NoCommand)
+    match reply {
+        Reply::Worn | Reply::NoGroup | Reply::NoCommand => false,
+        _ => true,
+    }
 }

@@ -118,37 +118,53 @@ fn command<'a>(alloc: Global) -> Result<Command<'a>, AllocError> {
 
 /// The subcommand that serves connections.
 fn serve_command<'a>(alloc: Global) -> Result<Command<'a>, AllocError> {
-    let port = Arg::new(alloc, "port")
-        .long("port")
-        .value_name("P")
-        .help("The port to listen on, 1 to 65535")
-        .required(true)
-        .value_parser(clap::value_parser!(u16).range(1..));
-    let connections = Arg::new(alloc, "connections")
-        .long("connections")
-        .value_name("N")
-        .help("How many connections to serve, or with --keep-serving how many at a time, 1 to 64")
-        .default_value("1")
-        .value_parser(clap::value_parser!(u32).range(1..=64));
-    let keep_serving = Arg::new(alloc, "keep-serving")
-        .long("keep-serving")
-        .help("Serves further connections until standard input ends")
-        .action(ArgAction::SetTrue);
-    let idle = Arg::new(alloc, "idle")
-        .long("idle")
-        .value_name("SECONDS")
-        .help("Closes a connection that neither sends nor reads for so long; 0 for never")
-        .default_value("0")
-        .value_parser(clap::value_parser!(u32));
     with_file(
         alloc,
         "serve",
         "Answers control lines, lines of JSON, on connections to a port of 127.0.0.1",
     )?
-    .arg(port)?
-    .arg(connections)?
-    .arg(keep_serving)?
-    .arg(idle)
+    .arg(port(alloc))?
+    .arg(connections(alloc))?
+    .arg(keep_serving(alloc))?
+    .arg(idle(alloc))
+}
+
+/// Where it listens.
+fn port<'a>(alloc: Global) -> Arg<'a> {
+    Arg::new(alloc, "port")
+        .long("port")
+        .value_name("P")
+        .help("The port to listen on, 1 to 65535")
+        .required(true)
+        .value_parser(clap::value_parser!(u16).range(1..))
+}
+
+/// How many connections it serves.
+fn connections<'a>(alloc: Global) -> Arg<'a> {
+    Arg::new(alloc, "connections")
+        .long("connections")
+        .value_name("N")
+        .help("How many connections to serve, or with --keep-serving how many at a time, 1 to 64")
+        .default_value("1")
+        .value_parser(clap::value_parser!(u32).range(1..=64))
+}
+
+/// Whether it keeps serving.
+fn keep_serving<'a>(alloc: Global) -> Arg<'a> {
+    Arg::new(alloc, "keep-serving")
+        .long("keep-serving")
+        .help("Serves further connections until standard input ends")
+        .action(ArgAction::SetTrue)
+}
+
+/// How long a connection may do nothing.
+fn idle<'a>(alloc: Global) -> Arg<'a> {
+    Arg::new(alloc, "idle")
+        .long("idle")
+        .value_name("SECONDS")
+        .help("Closes a connection that neither sends nor reads for so long; 0 for never")
+        .default_value("0")
+        .value_parser(clap::value_parser!(u32))
 }
 
 /// A subcommand over a settings file.
