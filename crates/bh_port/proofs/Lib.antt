@@ -4,6 +4,7 @@ pub mod Opening
 pub mod Keeping
 pub mod Showing
 pub mod TextLaws
+pub mod Outcomes
 pub mod Answering
 pub mod AtOnce
 pub mod Running

@@ -1,15 +1,11 @@
-use Rattle.std.proofs.Common.{◌++◌, Result, Ok, Err, OnOk, ◌∙◌, ap, sym}
+use Rattle.std.proofs.Common.{◌++◌, ◌∙◌, ap, sym}
 use Rattle.bh_lines.specs.declared.told.Told.TheVariants as told
 use Rattle.bh_lines.specs.ReplyLine.{reply_line}
 use Rattle.bh_lines.specs.ToldLine.{told_line}
 use Rattle.bh_props.specs.Shown.{settings_view}
 use Rattle.bh_port.specs.Text.{told_by}
+use Rattle.bh_port.proofs.Outcomes.{on_ok}
 use Rattle.bh_port.proofs.run.Run.answer_act.Goals as goal
-
--- what follows where all went well
-on_ok : {T E P Q : Type 0} (r : Result T E) → OnOk r P → (P → Q) → OnOk r Q
-on_ok (Ok x) p f = f p
-on_ok (Err e) p f = tt
 
 pub returns-in-Step-clause-wrote : goal.returns-in-Step-clause-wrote
 unfolding reply_line told_line

@@ -1,18 +1,10 @@
-use Rattle.std.proofs.Common.{◌≡◌, ◌++◌, Result, Ok, Err, OnOk, ◌∙◌, ap, sym, subst}
+use Rattle.std.proofs.Common.{◌≡◌, ◌++◌, Ok, Err, ◌∙◌, ap, sym, subst}
 use Rattle.bh_props.specs.Shown.{settings_view}
 use Rattle.bh_port.specs.Course.{line_act}
 use Rattle.bh_port.specs.Script.{GroupsShow}
 use Rattle.bh_port.specs.Text.{answer_to, course_with}
+use Rattle.bh_port.proofs.Outcomes.{on_ok, both_ok}
 use Rattle.bh_port.proofs.run.Run.answer_line.Goals as goal
-
--- what follows where all went well
-both_ok : {T E P Q R : Type 0} (r : Result T E) → OnOk r P → OnOk r Q → (P → Q → R) → OnOk r R
-both_ok (Ok x) p q f = f p q
-both_ok (Err e) p q f = tt
-
-on_ok : {T E P Q : Type 0} (r : Result T E) → OnOk r P → (P → Q) → OnOk r Q
-on_ok (Ok x) p f = f p
-on_ok (Err e) p f = tt
 
 pub returns-in-Ok-clause-answers : goal.returns-in-Ok-clause-answers
 returns-in-Ok-clause-answers c = both_ok c.answer_act.result c.answer_act.ensures.wrote c.answer_act.ensures.agrees (λ wrote did before agrees.
