@@ -1,6 +1,6 @@
 //! The step that the JSON of a line says.
 
-ghost use Rattle.std.specs.Prelude.{◌≡◌, Ok, if◌then◌else◌, Err, codes, option_copied};
+ghost use Rattle.std.specs.Prelude.{◌≡◌, Ok, if◌then◌else◌, Err, codes, option_copied, MatchResult, OnErr};
 ghost use Rattle.serde_json.specs.Find.{get};
 ghost use Rattle.bh_lines.specs.Flat.{members_data};
 ghost use Rattle.bh_lines.specs.StepLine.{op_word, cache_of, command_of, op_said, if_short, step_said, op_view, cache_view, command_view, found_op, found_cache, found_command, found_said, is_short_name, fallback_end_of, end_view, found_end, is_short_end};
@@ -193,45 +193,51 @@ pub fn cache_of(members: Members<'_>) -> Result<Option<(u64, &str)>, Fault>
     }
 }
 
-/// The operation with texts that fit, or `Long` where an argument is of over 64 bytes, a key of over 32 or a body of
-/// over 256. A submit and a read are of the command of this number in the group.
-pub fn if_short(command: u8, said: OpLine<'_>) -> Result<Op, Fault>
-    ensures { result ≡ if_short command (op_view said.entry) }
+/// Writes the operation where the caller keeps it, or answers `Long` where an argument is of over 64 bytes, a key of over
+/// 32 or a body of over 256; what is there stays then. A submit and a read are of the command of this number in the group.
+pub fn if_short(command: u8, said: OpLine<'_>, op: &mut Op) -> Result<(), Fault>
+    ensures said { MatchResult result
+        (λ _. if_short command (op_view said.entry) ≡ Ok op.new)
+        (λ fault. if_short command (op_view said.entry) ≡ Err fault) }
+    ensures kept { OnErr result (op.new ≡ op.old) }
 {
     match said {
         OpLine::Submit { cache, arg, .. } => {
             let cache = short_name(cache)?;
             let arg = Text::new(arg).map_err(|_| Fault::Long)?;
-            Ok(Op::Submit(Request {
+            *op = Op::Submit(Request {
                 command,
                 cache,
                 arg,
-            }))
+            });
         }
-        OpLine::Start => Ok(Op::Start),
-        OpLine::Finish { ticket, body } => match Text::new(body) {
-            Ok(body) => Ok(Op::Finish {
+        OpLine::Start => *op = Op::Start,
+        OpLine::Finish { ticket, body } => {
+            let body = Text::new(body).map_err(|_| Fault::Long)?;
+            *op = Op::Finish {
                 serial: ticket,
                 body,
-            }),
-            Err(_) => Err(Fault::Long),
-        },
-        OpLine::Fail { ticket, bad } => Ok(Op::Fail {
-            serial: ticket,
-            bad,
-        }),
-        OpLine::Expire => Ok(Op::Expire),
-        OpLine::Collect { ticket } => Ok(Op::Collect { serial: ticket }),
+            };
+        }
+        OpLine::Fail { ticket, bad } => {
+            *op = Op::Fail {
+                serial: ticket,
+                bad,
+            };
+        }
+        OpLine::Expire => *op = Op::Expire,
+        OpLine::Collect { ticket } => *op = Op::Collect { serial: ticket },
         OpLine::FallbackDone { ticket, end } => {
             let end = short_end(end)?;
-            Ok(Op::FallbackDone {
+            *op = Op::FallbackDone {
                 serial: ticket,
                 end,
-            })
+            };
         }
-        OpLine::Close { context } => Ok(Op::Close { context }),
-        OpLine::Read { .. } => Ok(Op::Read { command }),
+        OpLine::Close { context } => *op = Op::Close { context },
+        OpLine::Read { .. } => *op = Op::Read { command },
     }
+    Ok(())
 }
 
 /// The context and the key, or `Long` where the key is of over 32 bytes.

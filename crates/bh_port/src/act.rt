@@ -13,7 +13,7 @@ ghost use Rattle.bh_port.specs.Text.{told_by, with_act};
 
 use crate::commands::{further_command, told_command};
 use crate::groups::Groups;
-use crate::steps::{group_number, step_of};
+use crate::steps::{group_number, tell_step};
 use bh_base::{GroupId, Reply, Step, Text};
 use bh_core::MOST_GROUPS;
 use bh_lines::flat::FlatObject;
@@ -76,23 +76,29 @@ fn act_at(
     ensures kept { OnErr result (act.new ≡ act.old) }
 {
     match asked_at(members)? {
-        ScriptLine::Step(said) => *act = LineAct::Step(step_of(settings, groups, &said)?),
-        ScriptLine::Register { group, like } => *act = registration(settings, groups, group, like)?,
-        ScriptLine::Retire { group } => *act = retirement(groups, group)?,
+        ScriptLine::Step(said) => tell_step(settings, groups, &said, act),
+        ScriptLine::Register { group, like } => {
+            tell_registration(settings, groups, group, like, act)
+        }
+        ScriptLine::Retire { group } => tell_retirement(groups, group, act),
     }
-    Ok(())
 }
 
-/// A new group of the name, like the group of the settings that has the other one. `Name` comes where it cannot have the
-/// name, then `Like` where the settings list no group of the other one, and `Groups` where 10,000 groups were registered.
-fn registration(
+/// Tells of a new group of the name, like the group of the settings that has the other one. `Name` comes where it cannot
+/// have the name, then `Like` where the settings list no group of the other one, and `Groups` where 10,000 groups were
+/// registered.
+fn tell_registration(
     settings: &Settings,
     groups: &Groups,
     name: &str,
     like: &str,
-) -> Result<LineAct, Fault>
-    ensures said { result ≡ registration (settings_view settings.now) groups.now.entries name.now like.now }
-    ensures act { IfOk result (IsActOf (settings_view settings.now) groups.now.entries) }
+    act: &mut LineAct,
+) -> Result<(), Fault>
+    ensures said { MatchResult result
+        (λ _. registration (settings_view settings.now) groups.now.entries name.now like.now ≡ Ok act.new)
+        (λ fault. registration (settings_view settings.now) groups.now.entries name.now like.now ≡ Err fault) }
+    ensures act { OnOk result (IsActOf (settings_view settings.now) groups.now.entries act.new) }
+    ensures kept { OnErr result (act.new ≡ act.old) }
 {
     if !is_free(settings, groups, name) {
         return Err(Fault::Name);
@@ -102,7 +108,8 @@ fn registration(
         return Err(Fault::Groups);
     }
     let name = Text::new(name).unwrap();
-    Ok(LineAct::Register { name, like })
+    *act = LineAct::Register { name, like };
+    Ok(())
 }
 
 /// Whether a group may be registered under the name.
@@ -114,13 +121,17 @@ fn is_free(settings: &Settings, groups: &Groups, name: &str) -> bool
         && further_command(&settings.commands, name).is_none()
 }
 
-/// The end of the group of the name. `Group` comes where none of the name is there.
-fn retirement(groups: &Groups, name: &str) -> Result<LineAct, Fault>
-    ensures said { result ≡ retirement groups.now.entries name.now }
-    ensures act { IfOk result (λ act. (service : SettingsView) → IsActOf service groups.now.entries act) }
+/// Tells of the end of the group of the name. `Group` comes where none of the name is there.
+fn tell_retirement(groups: &Groups, name: &str, act: &mut LineAct) -> Result<(), Fault>
+    ensures said { MatchResult result
+        (λ _. retirement groups.now.entries name.now ≡ Ok act.new)
+        (λ fault. retirement groups.now.entries name.now ≡ Err fault) }
+    ensures act { OnOk result ((service : SettingsView) → IsActOf service groups.now.entries act.new) }
+    ensures kept { OnErr result (act.new ≡ act.old) }
 {
     let number = groups.number(name).ok_or(Fault::Group)?;
-    Ok(LineAct::Retire(GroupId(number)))
+    *act = LineAct::Retire(GroupId(number));
+    Ok(())
 }
 
 impl Groups {

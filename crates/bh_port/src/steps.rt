@@ -1,36 +1,45 @@
 //! The step that a line asks for, its group and its command by number.
 
-ghost use Rattle.std.specs.Prelude.{◌≡◌, ◌<◌, length, map, option_copied, IfOk, IfSome, IsSome};
+ghost use Rattle.std.specs.Prelude.{◌≡◌, ◌<◌, Err, length, map, option_copied, IfSome, MatchResult, Ok, OnErr, OnOk};
+ghost use Rattle.bh_lines.specs.ScriptLine.{a_step};
 ghost use Rattle.bh_lines.specs.StepLine.{group_number, step_view};
 ghost use Rattle.bh_props.specs.Shown.{settings_view};
-ghost use Rattle.bh_port.specs.Course.{command_said, step_of};
-ghost use Rattle.bh_port.specs.Entries.{entry_at};
+ghost use Rattle.bh_port.specs.Course.{IsActOf, act_of, command_said};
 
+use crate::act::LineAct;
 use crate::commands::command_at;
 use crate::groups::Groups;
-use bh_base::{GroupId, GroupProps, Step, Text};
+use bh_base::{GroupId, GroupProps, Op, Step, Text};
 use bh_lines::Fault;
 use bh_lines::step_line::{StepLine, if_short};
 use bh_props::Settings;
 use indexmap::IndexMap;
 
-/// The step that is asked for: the group is looked up before its command, and both before the texts are measured.
-pub(crate) fn step_of(
+/// Tells the step that is asked for, where the caller keeps it, or answers the fault; what is there stays then. The group
+/// is looked up before its command, and both before the texts are measured.
+pub(crate) fn tell_step(
     settings: &Settings,
     groups: &Groups,
     said: &StepLine<'_>,
-) -> Result<Step, Fault>
-    ensures said { result ≡ step_of (settings_view settings.now) groups.now.entries (step_view said.entry.now) }
-    ensures group { IfOk result (λ step. IsSome (entry_at groups.now.entries step.group.0)) }
+    act: &mut LineAct,
+) -> Result<(), Fault>
+    ensures said { MatchResult result
+        (λ _. act_of (settings_view settings.now) groups.now.entries (a_step (step_view said.entry.now)) ≡ Ok act.new)
+        (λ fault. act_of (settings_view settings.now) groups.now.entries (a_step (step_view said.entry.now)) ≡ Err fault) }
+    ensures act { OnOk result (IsActOf (settings_view settings.now) groups.now.entries act.new) }
+    ensures kept { OnErr result (act.new ≡ act.old) }
 {
     let number = groups.number(said.group).ok_or(Fault::Group)?;
     let group = GroupId(number);
     let command = command_said(settings, groups, group, said.op.command())?;
-    Ok(Step {
+    let mut op = Op::Start;
+    if_short(command, said.op, &mut op)?;
+    *act = LineAct::Step(Step {
         group,
         now: said.now,
-        op: if_short(command, said.op)?,
-    })
+        op,
+    });
+    Ok(())
 }
 
 /// The number of the group's command of the name, or of its own command where no name is said. `Command` comes where the
