@@ -151,6 +151,20 @@ impl Run {
                 command.as_ref(),
             );
         }
+        self.answer_change(settings)
+    }
+
+    /// Does what the last line asked for, as `answer_act` says, of a line that registers or retires a group. It stands by
+    /// itself, since a function clears the room of all its locals as it begins: few lines are to pay for these.
+    fn answer_change(&mut self, settings: &Settings) -> Result<(), AllocError>
+        requires { IsActOf (settings_view settings.now) self.old.groups.entries self.old.act }
+        ensures wrote { OnOk result ((before : Course) → GroupsShow (settings_view settings.now) self.old.groups before →
+            self.new.out.items ≡ self.old.out.items ++ told_line (told_by (settings_view settings.now) before self.old.act)) }
+        ensures agrees { OnOk result ((before : Course) → GroupsShow (settings_view settings.now) self.old.groups before →
+            GroupsShow (settings_view settings.now) self.new.groups (with_act (settings_view settings.now) before self.old.act)) }
+        ensures kept { OnErr result (self.new.out.items ≡ self.old.out.items) }
+        ensures left { self.new.buffer ≡ self.old.buffer }
+    {
         let Ok(told) = self.groups.act(settings, &self.act) else {
             return Err(AllocError);
         };
