@@ -66,35 +66,36 @@ impl Book {
         }
     }
 
-    /// Applies a step, and in an audited book writes it in the journal of its group. It takes no memory.
+    /// Applies a step, writes its reply where the caller keeps it, and in an audited book writes both in the journal of the
+    /// step's group. It takes no memory.
     ///
     /// The place is the number of the step in its group, from 1. A step that is answered `Worn`, `NoGroup` or
     /// `NoCommand` has no place, and changes nothing.
-    pub fn apply(&mut self, step: Step) -> (Option<u64>, Reply)
+    pub fn apply_to(&mut self, step: &Step, reply: &mut Reply) -> Option<u64>
         // The groups go as in the core.
-        ensures groups { IsStep self.old.groups step result.1 self.new.groups }
+        ensures groups { IsStep self.old.groups step.entry.now reply.new self.new.groups }
 
         // Where it was refused there is no place, and nothing has changed.
-        ensures refused { is_refusal result.1 ≡ true → (result.0 ≡ None) × (self.new ≡ self.old) }
+        ensures refused { is_refusal reply.new ≡ true → (result ≡ None) × (self.new ≡ self.old) }
 
         // Else the place is the new step number, and an audited book has the step and its reply at the end of the group's journal.
-        ensures place { is_refusal result.1 ≡ false → (v : View) × (view_at self.new.groups step.group.0 ≡ Some v) × (result.0 ≡ Some v.present.steps) }
-        ensures written { self.old.audited ≡ true → is_refusal result.1 ≡ false → IsWritten self.old.journals step.group.0 step result.1 self.new.journals }
+        ensures place { is_refusal reply.new ≡ false → (v : View) × (view_at self.new.groups step.entry.now.group.0 ≡ Some v) × (result ≡ Some v.present.steps) }
+        ensures written { self.old.audited ≡ true → is_refusal reply.new ≡ false → IsWritten self.old.journals step.entry.now.group.0 step.entry.now reply.new self.new.journals }
         ensures unwritten { self.old.audited ≡ false → self.new.journals ≡ self.old.journals }
         ensures audited { self.new.audited ≡ self.old.audited }
     {
         let group = step.group;
-        let reply = self.core.apply(step);
-        if is_refused(&reply) {
-            return (None, reply);
+        self.core.apply_to(group, step.now, &step.op, reply);
+        if is_refused(reply) {
+            return None;
         }
         let place = self.core.steps(group);
         if !self.audited {
-            return (Some(place), reply);
+            return Some(place);
         }
         let journal = &mut self.journals[group.0 as usize];
-        write(journal, &step, &reply);
-        (Some(place), reply)
+        write(journal, step, reply);
+        Some(place)
     }
 
     /// Registers a group, as the core does. An audited book takes the memory for the group's journal too, with room for as

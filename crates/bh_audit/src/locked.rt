@@ -1,7 +1,7 @@
 //! What the lock guards, and what a thread that has it does there.
 
 ghost use Rattle.std.specs.Prelude.{◌≡◌, ◌≢◌, ◌==◌, ◌<◌, ◌||◌, ℕ, Bool, IfSome, IsNone, OnSome, None, Some, true, false, is_some, length};
-ghost use Rattle.bh_base.specs.declared.reply.Reply.TheVariants as reply;
+ghost use Rattle.bh_base.specs.declared.reply.Reply.TheVariants as replies;
 ghost use Rattle.bh_base.specs.declared.step.Op.TheVariants as op;
 ghost use Rattle.bh_base.specs.declared.step.Step.{Step};
 ghost use Rattle.bh_base.specs.Replies.{can_reply, is_refusal};
@@ -42,28 +42,29 @@ impl<const A: u32> Locked<A> {
         self.book.journals_agree();
     }
 
-    /// Makes one step, and writes what it was answered in the pass. It says whom the step lets go on.
-    pub(crate) fn step(&mut self, pass: &mut Pass, step: Step) -> (Reply, Freed)
+    /// Makes one step, writes its reply where the caller keeps it, and what comes of it in the pass. It says whom the step
+    /// lets go on.
+    pub(crate) fn step(&mut self, pass: &mut Pass, step: &Step, reply: &mut Reply) -> Freed
         requires { (A == 1) ≡ true → 0 < pass.old.room }
-        ensures adds { Adds (A == 1) pass.old step result.0 pass.new }
-        ensures groups { IsStep self.old.book.groups step result.0 self.new.book.groups }
-        ensures refused { is_refusal result.0 ≡ true → self.new.book ≡ self.old.book }
-        ensures written { (A == 1) ≡ true → is_refusal result.0 ≡ false → IsWritten self.old.book.journals step.group.0 step result.0 self.new.book.journals }
-        ensures place { (A == 1) ≡ true → is_refusal result.0 ≡ false → (v : View) × (view_at self.new.book.groups step.group.0 ≡ Some v) × (pass.new ≡ added pass.old (receipt_of v.present.steps step result.0)) }
+        ensures adds { Adds (A == 1) pass.old step.entry.now reply.new pass.new }
+        ensures groups { IsStep self.old.book.groups step.entry.now reply.new self.new.book.groups }
+        ensures refused { is_refusal reply.new ≡ true → self.new.book ≡ self.old.book }
+        ensures written { (A == 1) ≡ true → is_refusal reply.new ≡ false → IsWritten self.old.book.journals step.entry.now.group.0 step.entry.now reply.new self.new.book.journals }
+        ensures place { (A == 1) ≡ true → is_refusal reply.new ≡ false → (v : View) × (view_at self.new.book.groups step.entry.now.group.0 ≡ Some v) × (pass.new ≡ added pass.old (receipt_of v.present.steps step.entry.now reply.new)) }
         ensures stopped { self.new.stopped ≡ self.old.stopped }
-        ensures told { KeepsWakeUps self.old.book.groups step.group step.op self.new.book.groups result.1 }
+        ensures told { KeepsWakeUps self.old.book.groups step.entry.now.group step.entry.now.op self.new.book.groups result }
     {
         let was_startable = self.book.core().startable(step.group);
-        let (place, reply) = self.book.apply(step);
-        let freed = self.freed(&step, was_startable);
+        let place = self.book.apply_to(step, reply);
+        let freed = self.freed(step, was_startable);
         let Some(place) = place else {
-            mark(pass, &reply);
-            return (reply, freed);
+            mark(pass, reply);
+            return freed;
         };
         if self.book.audited() {
-            receive(pass, place, &step, &reply);
+            receive(pass, place, step, reply);
         }
-        (reply, freed)
+        freed
     }
 
     /// Whom the step that was just made lets go on. `was_startable` says whether a Start would have been answered with
@@ -124,7 +125,8 @@ impl<const A: u32> Locked<A> {
         let group = pass.group();
         let now = clock.now();
         let op = Op::Start;
-        let (reply, freed) = self.step(pass, Step { group, now, op });
+        let mut reply = Reply::Idle;
+        let freed = self.step(pass, &Step { group, now, op }, &mut reply);
         let next = match &reply {
             Reply::Assigned {
                 serial,
@@ -142,24 +144,26 @@ impl<const A: u32> Locked<A> {
         (next, freed)
     }
 
-    /// Makes a Collect of the serial, unless it would be answered `Pending` and the service is not stopped. Then it
-    /// gives None, and nothing has changed.
+    /// Makes a Collect of the serial, unless it would be answered `Pending` and the service is not stopped, and writes its
+    /// reply where the caller keeps it. It says whom the step lets go on; or it gives None, and nothing has changed.
     pub(crate) fn try_collect<C: Clock>(
         &mut self,
         pass: &mut Pass,
         serial: Serial,
         clock: &C,
-    ) -> Option<(Reply, Freed)>
+        reply: &mut Reply,
+    ) -> Option<Freed>
         requires { (A == 1) ≡ true → 0 < pass.old.room }
-        ensures adds { IfSome result (λ r. AddsCollect C.moments (A == 1) pass.old serial r.0 pass.new) }
-        ensures kinds { IfSome result (λ r. can_reply (op.Collect serial) r.0 ≡ true) }
-        ensures known { IfSome result (λ r. r.0 ≢ reply.NoCommand) }
-        ensures told { IfSome result (λ r. r.0 ≡ reply.Pending → self.old.stopped ≡ true) }
+        ensures adds { OnSome result (AddsCollect C.moments (A == 1) pass.old serial reply.new pass.new) }
+        ensures kinds { OnSome result (can_reply (op.Collect serial) reply.new ≡ true) }
+        ensures known { OnSome result (reply.new ≢ replies.NoCommand) }
+        ensures told { OnSome result (reply.new ≡ replies.Pending → self.old.stopped ≡ true) }
         ensures waits { IsNone result → (v : View) (moment : ℕ) → view_at self.old.book.groups pass.old.group.0 ≡ Some v → is_pending (view_reply v (op.Collect serial) moment) ≡ true }
         ensures waits_on { IsNone result → self.old.stopped ≡ false }
-        ensures wakes { IfSome result (λ r. KeepsWakeUps self.old.book.groups pass.old.group (op.Collect serial) self.new.book.groups r.1) }
+        ensures wakes { IfSome result (λ freed. KeepsWakeUps self.old.book.groups pass.old.group (op.Collect serial) self.new.book.groups freed) }
         ensures pass { IsNone result → pass.new ≡ pass.old }
         ensures book { IsNone result → self.new.book ≡ self.old.book }
+        ensures reply { IsNone result → reply.new ≡ reply.old }
         ensures stopped { self.new.stopped ≡ self.old.stopped }
     {
         let group = pass.group();
@@ -168,11 +172,11 @@ impl<const A: u32> Locked<A> {
         }
         let now = clock.now();
         let op = Op::Collect { serial };
-        let (reply, freed) = self.step(pass, Step { group, now, op });
+        let freed = self.step(pass, &Step { group, now, op }, reply);
         if matches!(reply, Reply::Pending) {
             pass.mark_stopped();
         }
-        Some((reply, freed))
+        Some(freed)
     }
 
     /// Makes an Expire where a ticket is due, and says how many timed out.
@@ -189,7 +193,8 @@ impl<const A: u32> Locked<A> {
             return (None, Freed::nobody());
         }
         let op = Op::Expire;
-        let (reply, freed) = self.step(pass, Step { group, now, op });
+        let mut reply = Reply::Idle;
+        let freed = self.step(pass, &Step { group, now, op }, &mut reply);
         match &reply {
             Reply::Expired(number) => (Some(*number), freed),
             _ => unreachable!(),
@@ -247,7 +252,8 @@ pub(crate) fn next_in<const A: u32, R: Wait, C: Clock>(
     unreachable!()
 }
 
-/// Waits until the serial can be collected, or the service is stopped, and collects it.
+/// Waits until the serial can be collected, or the service is stopped, and collects it: the reply is written where the
+/// caller keeps it.
 pub(crate) fn await_in<const A: u32, R: Wait, C: Clock>(
     rt: &R,
     lock: &Mutex<Locked<A>>,
@@ -255,35 +261,37 @@ pub(crate) fn await_in<const A: u32, R: Wait, C: Clock>(
     pass: &mut Pass,
     serial: Serial,
     clock: &C,
-) -> (Reply, Freed)
+    reply: &mut Reply,
+) -> Freed
     requires { (A == 1) ≡ true → 0 < pass.old.room }
-    ensures adds { AddsCollect C.moments (A == 1) pass.old serial result.0 pass.new }
-    ensures kinds { can_reply (op.Collect serial) result.0 ≡ true }
-    ensures known { result.0 ≢ reply.NoCommand }
+    ensures adds { AddsCollect C.moments (A == 1) pass.old serial reply.new pass.new }
+    ensures kinds { can_reply (op.Collect serial) reply.new ≡ true }
+    ensures known { reply.new ≢ replies.NoCommand }
 {
     let mut guard = lock.lock(rt);
     for _ in rt.forever() {
-        match guard.try_collect(pass, serial, clock) {
-            Some(reply) => return reply,
+        match guard.try_collect(pass, serial, clock, reply) {
+            Some(freed) => return freed,
             None => guard = place.wait(rt, guard),
         }
     }
     unreachable!()
 }
 
-/// Makes one step under the lock.
+/// Makes one step under the lock, and writes its reply where the caller keeps it.
 pub(crate) fn step_in<const A: u32, R: Wait>(
     rt: &R,
     lock: &Mutex<Locked<A>>,
     pass: &mut Pass,
-    step: Step,
-) -> (Reply, Freed)
+    step: &Step,
+    reply: &mut Reply,
+) -> Freed
     requires { (A == 1) ≡ true → 0 < pass.old.room }
-    ensures adds { Adds (A == 1) pass.old step result.0 pass.new }
-    ensures kinds { can_reply step.op result.0 ≡ true }
-    ensures missing { result.0 ≡ reply.NoCommand → CanBeMissing step.op }
+    ensures adds { Adds (A == 1) pass.old step.entry.now reply.new pass.new }
+    ensures kinds { can_reply step.entry.now.op reply.new ≡ true }
+    ensures missing { reply.new ≡ replies.NoCommand → CanBeMissing step.entry.now.op }
 {
-    lock.lock(rt).step(pass, step)
+    lock.lock(rt).step(pass, step, reply)
 }
 
 /// Makes an Expire under the lock, where a ticket is due.

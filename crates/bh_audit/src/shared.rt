@@ -1,7 +1,7 @@
 //! One service, which threads share.
 
-ghost use Rattle.std.specs.Prelude.{◌≡◌, ◌≢◌, ◌↔◌, ◌<◌, ◌≤◌, ◌^◌, ◌&&◌, length, nat_lt, vec_len, IfOk, IfErr, IfSome, IsErr, OnErr, Err, true, false, if◌then◌else◌};
-ghost use Rattle.bh_base.specs.declared.reply.Reply.TheVariants as reply;
+ghost use Rattle.std.specs.Prelude.{◌≡◌, ◌≢◌, ◌↔◌, ◌<◌, ◌≤◌, ◌^◌, ◌&&◌, length, nat_lt, vec_len, IfOk, IfErr, IfSome, IsErr, OnErr, OnOk, Err, true, false, if◌then◌else◌};
+ghost use Rattle.bh_base.specs.declared.reply.Reply.TheVariants as replies;
 ghost use Rattle.bh_base.specs.declared.step.Op.TheVariants as op;
 ghost use Rattle.bh_base.specs.Ranges.{IsInRange};
 ghost use Rattle.bh_base.specs.Replies.{can_reply};
@@ -171,23 +171,47 @@ impl Shared {
     pub fn step<R: Wait>(&self, rt: &R, pass: &mut Pass, step: Step) -> Result<Reply, StepError>
         ensures adds { IfOk result (λ r. Adds self.now.audited pass.old step r pass.new) }
         ensures kinds { IfOk result (λ r. can_reply step.op r ≡ true) }
-        ensures missing { IfOk result (λ r. r ≡ reply.NoCommand → CanBeMissing step.op) }
+        ensures missing { IfOk result (λ r. r ≡ replies.NoCommand → CanBeMissing step.op) }
         ensures group { IfOk result (λ r. step.group ≡ pass.old.group) }
         ensures room { IfOk result (λ r. self.now.audited ≡ true → 1 ≤ pass.old.room) }
         ensures other { (result ≡ Err OtherGroup) ↔ (step.group ≢ pass.old.group) }
         ensures full { (result ≡ Err PassFull) ↔ ((step.group ≡ pass.old.group) × (self.now.audited ≡ true) × (pass.old.room ≡ 0)) }
         ensures err { OnErr result (pass.new ≡ pass.old) }
     {
-        if step.group != pass.group() {
+        let mut reply = Reply::Idle;
+        self.step_to(rt, pass, &step, &mut reply)?;
+        Ok(reply)
+    }
+
+    /// Makes one step as `step` does, and writes its reply where the caller keeps it, since a reply is too long to be copied
+    /// at each return. What is there stays where there is an error.
+    pub fn step_to<R: Wait>(
+        &self,
+        rt: &R,
+        pass: &mut Pass,
+        step: &Step,
+        reply: &mut Reply,
+    ) -> Result<(), StepError>
+        ensures adds { OnOk result (Adds self.now.audited pass.old step.entry.now reply.new pass.new) }
+        ensures kinds { OnOk result (can_reply step.entry.now.op reply.new ≡ true) }
+        ensures missing { OnOk result (reply.new ≡ replies.NoCommand → CanBeMissing step.entry.now.op) }
+        ensures group { OnOk result (step.entry.now.group ≡ pass.old.group) }
+        ensures room { OnOk result (self.now.audited ≡ true → 1 ≤ pass.old.room) }
+        ensures other { (result ≡ Err OtherGroup) ↔ (step.entry.now.group ≢ pass.old.group) }
+        ensures full { (result ≡ Err PassFull) ↔ ((step.entry.now.group ≡ pass.old.group) × (self.now.audited ≡ true) × (pass.old.room ≡ 0)) }
+        ensures err { OnErr result (pass.new ≡ pass.old) }
+        ensures kept { OnErr result (reply.new ≡ reply.old) }
+    {
+        let group = pass.group();
+        if step.group != group {
             return Err(StepError::OtherGroup);
         }
         if self.lacks_room(pass, 1) {
             return Err(StepError::PassFull);
         }
-        let group = pass.group();
-        let (reply, freed) = self.make(rt, pass, step);
+        let freed = self.make(rt, pass, step, reply);
         self.tell(group, freed);
-        Ok(reply)
+        Ok(())
     }
 
     /// Waits until a worker of the pass's group has something to do, and makes the Start that says what: it waits
@@ -237,23 +261,47 @@ impl Shared {
     ) -> Result<Reply, StepError>
         ensures adds { IfOk result (λ r. AddsCollect C.moments self.now.audited pass.old serial r pass.new) }
         ensures kinds { IfOk result (λ r. can_reply (op.Collect serial) r ≡ true) }
-        ensures known { IfOk result (λ r. r ≢ reply.NoCommand) }
+        ensures known { IfOk result (λ r. r ≢ replies.NoCommand) }
         ensures room { IfOk result (λ r. self.now.audited ≡ true → 1 ≤ pass.old.room) }
         ensures other { result ≢ Err OtherGroup }
         ensures full { (result ≡ Err PassFull) ↔ ((self.now.audited ≡ true) × (pass.old.room ≡ 0)) }
         ensures err { OnErr result (pass.new ≡ pass.old) }
+    {
+        let mut reply = Reply::Idle;
+        self.await_answer_to(rt, pass, serial, clock, &mut reply)?;
+        Ok(reply)
+    }
+
+    /// Waits and collects as `await_answer` does, and writes the reply where the caller keeps it. What is there stays where
+    /// there is an error.
+    pub fn await_answer_to<R: Wait, C: Clock>(
+        &self,
+        rt: &R,
+        pass: &mut Pass,
+        serial: Serial,
+        clock: &C,
+        reply: &mut Reply,
+    ) -> Result<(), StepError>
+        ensures adds { OnOk result (AddsCollect C.moments self.now.audited pass.old serial reply.new pass.new) }
+        ensures kinds { OnOk result (can_reply (op.Collect serial) reply.new ≡ true) }
+        ensures known { OnOk result (reply.new ≢ replies.NoCommand) }
+        ensures room { OnOk result (self.now.audited ≡ true → 1 ≤ pass.old.room) }
+        ensures other { result ≢ Err OtherGroup }
+        ensures full { (result ≡ Err PassFull) ↔ ((self.now.audited ≡ true) × (pass.old.room ≡ 0)) }
+        ensures err { OnErr result (pass.new ≡ pass.old) }
+        ensures kept { OnErr result (reply.new ≡ reply.old) }
     {
         if self.lacks_room(pass, 1) {
             return Err(StepError::PassFull);
         }
         let group = pass.group();
         let callers = self.waiting_at(group).callers_of(serial);
-        let told = match &self.lock {
-            Lock::Audited(lock) => await_in(rt, lock, callers, pass, serial, clock),
-            Lock::Plain(lock) => await_in(rt, lock, callers, pass, serial, clock),
+        let freed = match &self.lock {
+            Lock::Audited(lock) => await_in(rt, lock, callers, pass, serial, clock, reply),
+            Lock::Plain(lock) => await_in(rt, lock, callers, pass, serial, clock, reply),
         };
-        self.tell(group, told.1);
-        Ok(told.0)
+        self.tell(group, freed);
+        Ok(())
     }
 
     /// Makes an Expire where a ticket of the pass's group is due and the group is not worn, and says how many tickets
@@ -370,16 +418,16 @@ impl Shared {
         self.audited() && pass.room_left() < receipts
     }
 
-    /// Makes one step, and says whom it lets go on.
-    fn make<R: Wait>(&self, rt: &R, pass: &mut Pass, step: Step) -> (Reply, Freed)
+    /// Makes one step, writes its reply where the caller keeps it, and says whom it lets go on.
+    fn make<R: Wait>(&self, rt: &R, pass: &mut Pass, step: &Step, reply: &mut Reply) -> Freed
         requires { self.now.audited ≡ true → 0 < pass.old.room }
-        ensures adds { Adds self.now.audited pass.old step result.0 pass.new }
-        ensures kinds { can_reply step.op result.0 ≡ true }
-        ensures missing { result.0 ≡ reply.NoCommand → CanBeMissing step.op }
+        ensures adds { Adds self.now.audited pass.old step.entry.now reply.new pass.new }
+        ensures kinds { can_reply step.entry.now.op reply.new ≡ true }
+        ensures missing { reply.new ≡ replies.NoCommand → CanBeMissing step.entry.now.op }
     {
         match &self.lock {
-            Lock::Audited(lock) => step_in(rt, lock, pass, step),
-            Lock::Plain(lock) => step_in(rt, lock, pass, step),
+            Lock::Audited(lock) => step_in(rt, lock, pass, step, reply),
+            Lock::Plain(lock) => step_in(rt, lock, pass, step, reply),
         }
     }
 

@@ -1,5 +1,5 @@
 -- The lines that answer control lines.
-use Rattle.std.specs.Prelude.{◌≡◌, ℕ, List, ◌++◌, Bool, true, false, codes, map, Option, None, Result, Ok, Err}
+use Rattle.std.specs.Prelude.{◌≡◌, ℕ, List, ◌++◌, Bool, true, false, codes, map, None, Result, Ok, Err}
 use Rattle.serde_json.specs.Data.{Data, object, member, no_members, string, array, Items}
 use Rattle.serde_json.specs.View.{items_of}
 use Rattle.bh_base.specs.declared.step.GroupId.{GroupId}

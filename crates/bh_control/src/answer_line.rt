@@ -1,11 +1,13 @@
 //! The lines that answer control lines.
 
-ghost use Rattle.std.specs.Prelude.{◌≡◌, length, map, ◌<◌, ◌++◌, ◌∷◌, [], true, Result, IfOk, OnOk, OnErr, Ok, string_bytes};
+ghost use Rattle.std.specs.Prelude.{◌≡◌, length, map, ◌<◌, ◌++◌, ◌∷◌, [], true, Result, IfOk, OnOk, OnErr, Ok, Err, None, string_bytes};
 ghost use Rattle.serde_json.specs.Data.{array, string};
 ghost use Rattle.serde_json.specs.View.{view};
 ghost use Rattle.bh_control.specs.ControlLine.{IsOfGroups};
 ghost use Rattle.bh_base.specs.declared.reply.Answer.{Answer};
 ghost use Rattle.bh_base.specs.declared.reply.CallError.{CallError};
+ghost use Rattle.bh_base.specs.declared.reply.Reply.{Reply};
+ghost use Rattle.bh_lines.specs.ReplyLine.{reply_line};
 ghost use Rattle.bh_control.specs.AnswerLine.{responder, texts_data, groups_data, groups_line, answer_line, may_wait, IsPut, IsAnswer};
 
 use crate::control::Control;
@@ -59,15 +61,45 @@ fn put_asked<C: Control>(
     match line {
         ControlLine::Groups => put_groups(alloc, control.groups(), out),
         ControlLine::Metrics { group, command } => {
-            let reply = control.metrics(group, command);
-            put_reply(alloc, out, &reply, None)
+            put_metrics(alloc, control, group, command, out)
         }
         ControlLine::Call { group, request } => put_call(alloc, control, group, request, out),
-        ControlLine::Close { group, context } => {
-            let reply = control.close(group, context);
-            put_reply(alloc, out, &reply, None)
-        }
+        ControlLine::Close { group, context } => put_close(alloc, control, group, context, out),
     }
+}
+
+/// Asks for the metrics of a command.
+fn put_metrics<C: Control>(
+    alloc: Global,
+    control: &mut C,
+    group: GroupId,
+    command: u8,
+    out: &mut Vec<u8>,
+) -> Result<(), AllocError>
+    requires { group.0 < length (C.names control.old).groups }
+    ensures answer { OnOk result ((reply : Reply) × C.may_show group command reply × (out.new.items ≡ out.old.items ++ reply_line None reply)) }
+    ensures kept { OnErr result (out.new.items ≡ out.old.items) }
+    ensures groups { C.names control.new ≡ C.names control.old }
+{
+    let reply = control.metrics(group, command);
+    put_reply(alloc, out, &reply, None)
+}
+
+/// Asks for the end of a context.
+fn put_close<C: Control>(
+    alloc: Global,
+    control: &mut C,
+    group: GroupId,
+    context: u64,
+    out: &mut Vec<u8>,
+) -> Result<(), AllocError>
+    requires { group.0 < length (C.names control.old).groups }
+    ensures answer { OnOk result ((reply : Reply) × C.may_close group context reply × (out.new.items ≡ out.old.items ++ reply_line None reply)) }
+    ensures kept { OnErr result (out.new.items ≡ out.old.items) }
+    ensures groups { C.names control.new ≡ C.names control.old }
+{
+    let reply = control.close(group, context);
+    put_reply(alloc, out, &reply, None)
 }
 
 /// Asks for the answer to a request, for which a caller may have to wait. No earlier answer waits with it: `out` is empty.
@@ -85,7 +117,7 @@ fn put_call<C: Control>(
     ensures groups { C.names control.new ≡ C.names control.old }
 {
     let answer = control.call(group, request);
-    put_answered(alloc, out, answer)
+    put_answered(alloc, out, &answer)
 }
 
 /// Puts the line of the names of the groups behind what is in `out`.
@@ -132,19 +164,30 @@ fn put_text(alloc: Global, listed: &mut Vec<Value>, text: &str) -> Result<(), Al
 fn put_answered(
     alloc: Global,
     out: &mut Vec<u8>,
-    answer: Result<Answer, CallError>,
+    answer: &Result<Answer, CallError>,
 ) -> Result<(), AllocError>
-    ensures ok { OnOk result (out.new.items ≡ out.old.items ++ answer_line answer) }
+    ensures ok { OnOk result (out.new.items ≡ out.old.items ++ answer_line answer.now) }
     ensures err { OnErr result (out.new.items ≡ out.old.items) }
 {
     match answer {
-        Ok(answer) => put_reply(alloc, out, &Reply::Answered(answer), None),
-        Err(CallError::GroupFull) => put_reply(alloc, out, &Reply::GroupFull, None),
-        Err(CallError::Worn) => put_reply(alloc, out, &Reply::Worn, None),
-        Err(CallError::PassFull) => put_error(alloc, out, "full"),
-        Err(CallError::Stopped) => put_error(alloc, out, "stopped"),
-        Err(CallError::Taken) => put_error(alloc, out, "taken"),
-        Err(CallError::NoGroup) => put_error(alloc, out, "group"),
-        Err(CallError::NoCommand) => put_error(alloc, out, "command"),
+        Ok(answer) => put_reply(alloc, out, &Reply::Answered(*answer), None),
+        Err(error) => put_refusal(alloc, out, *error),
+    }
+}
+
+/// Puts the line that says why there is no answer to a call behind what is in `out`.
+#[tactic(auto, unfolding(crate::specs::AnswerLine::answer_line))]
+fn put_refusal(alloc: Global, out: &mut Vec<u8>, error: CallError) -> Result<(), AllocError>
+    ensures ok { OnOk result (out.new.items ≡ out.old.items ++ answer_line (Err error)) }
+    ensures err { OnErr result (out.new.items ≡ out.old.items) }
+{
+    match error {
+        CallError::GroupFull => put_reply(alloc, out, &Reply::GroupFull, None),
+        CallError::Worn => put_reply(alloc, out, &Reply::Worn, None),
+        CallError::PassFull => put_error(alloc, out, "full"),
+        CallError::Stopped => put_error(alloc, out, "stopped"),
+        CallError::Taken => put_error(alloc, out, "taken"),
+        CallError::NoGroup => put_error(alloc, out, "group"),
+        CallError::NoCommand => put_error(alloc, out, "command"),
     }
 }

@@ -6,7 +6,7 @@ ghost use Rattle.bh_audit.specs.Books.{AreNew};
 use crate::refusing::{MANY, assert_told, give_up, refuse};
 use crate::worked::{A, B, assert_new, props_of_two, replies, request, steps, two_groups};
 use bh_audit::{AuditError, AuditReport, Book, Clock, Pass, PassError, Shared};
-use bh_base::{Answer, Cause, FallbackEnd, GroupId, Moment, Request, RunEnd, Text};
+use bh_base::{Answer, Cause, FallbackEnd, GroupId, Moment, Reply, Request, RunEnd, Text};
 use bh_core::RegisterError;
 use bh_workers::{Dependency, DriveError, Driven, Pace, RequestList, drive};
 use std::process::Abort;
@@ -80,7 +80,8 @@ fn journals_too_long_for_any_memory_are_not_made(rt: HostRuntime) {
 fn assert_new_book(rt: &impl Abort, mut book: Book) {
     let places = [1, 1, 2, 2, 3, 3, 4, 4];
     for ((step, reply), place) in steps().iter().zip(replies().iter()).zip(places.iter()) {
-        let (told_place, told) = book.apply(*step);
+        let mut told = Reply::Worn;
+        let told_place = book.apply_to(step, &mut told);
         assert!(rt; told == *reply, "{step:?}");
         assert_eq!(rt; told_place, Some(*place));
     }

@@ -203,7 +203,8 @@ fn book<R: Abort + AllocGlobal>(rt: &R, audited: bool) -> Book {
 
 /// Starts in the group, and tells the place of the step and the reply.
 fn start_text(alloc: Global, book: &mut Book, group: u64) -> Result<String, AllocError> {
-    let (place, reply) = book.apply(step(group, 0, &Op::Start));
+    let mut reply = Reply::Done;
+    let place = book.apply_to(&step(group, 0, &Op::Start), &mut reply);
     format!(in alloc; "{place:?} {reply:?}")
 }
 

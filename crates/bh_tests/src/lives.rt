@@ -367,7 +367,8 @@ fn come_and_go<R: Abort + AllocGlobal>(rt: &R, book: &mut Book) {
     let own = slots_of(props(rt), 2);
     let first = book.register(rt.alloc(), &own, 8);
     assert!(rt; first == Ok(GroupId(0)), "{first:?}");
-    let (place, reply) = book.apply(step(0, 0, &Op::Start));
+    let mut reply = Reply::Done;
+    let place = book.apply_to(&step(0, 0, &Op::Start), &mut reply);
     assert!(rt; (place, reply) == (Some(1), Reply::Idle));
     assert!(rt; book.retire(GroupId(0)) == Ok(()));
     assert!(rt; book.retire(GroupId(0)) == Err(RetireError::NoGroup));

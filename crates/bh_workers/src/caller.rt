@@ -61,7 +61,8 @@ impl<'e, D: Dependency, C: Clock, R: Wait> Environment<'e, D, C, R> {
         if self.shared.audited() && pass.room_left() < MOST_RECEIPTS {
             return Err(CallError::PassFull);
         }
-        let reply = self.make_step(pass, Op::Submit(request));
+        let mut reply = Reply::Idle;
+        self.make_step(pass, Op::Submit(request), &mut reply);
         match &reply {
             Reply::Queued(serial) | Reply::Joined(serial) | Reply::FallbackDue { serial, .. } => {
                 self.settle(pass, *serial, &request)
@@ -88,7 +89,8 @@ impl<'e, D: Dependency, C: Clock, R: Wait> Environment<'e, D, C, R> {
         let end = self
             .dependency
             .run(pass.group(), request.command, &request.arg);
-        let reply = self.make_step(pass, end_op(serial, end));
+        let mut reply = Reply::Idle;
+        self.make_step(pass, end_op(serial, end), &mut reply);
         match &reply {
             Reply::Worn => Err(CallError::Worn),
             Reply::NoGroup => Err(CallError::NoGroup),
@@ -126,7 +128,8 @@ impl<'e, D: Dependency, C: Clock, R: Wait> Environment<'e, D, C, R> {
         let end = self
             .dependency
             .fallback(pass.group(), request.command, cause, &request.arg);
-        let reply = self.make_step(pass, Op::FallbackDone { serial, end });
+        let mut reply = Reply::Idle;
+        self.make_step(pass, Op::FallbackDone { serial, end }, &mut reply);
         match &reply {
             Reply::Worn => Err(CallError::Worn),
             Reply::NoGroup => Err(CallError::NoGroup),
@@ -151,7 +154,11 @@ impl<'e, D: Dependency, C: Clock, R: Wait> Environment<'e, D, C, R> {
         ensures adds { CollectAdds C.moments self.now.shared.now.audited pass.old serial result pass.new }
         ensures room { pass.old.room ≤ pass.new.room + 1 }
     {
-        let Ok(reply) = self.shared.await_answer(self.rt, pass, serial, self.clock) else {
+        let mut reply = Reply::Idle;
+        let Ok(()) = self
+            .shared
+            .await_answer_to(self.rt, pass, serial, self.clock, &mut reply)
+        else {
             unreachable!()
         };
         match &reply {

@@ -73,7 +73,8 @@ impl<'e, D: Dependency, C: Clock, R: Wait> Environment<'e, D, C, R> {
         ensures ended { result ≡ false → HasReasonToEnd self.now.shared.now.audited pass.new }
     {
         let end = self.dependency.run(pass.group(), command, arg);
-        let reply = self.make_step(pass, end_op(serial, end));
+        let mut reply = Reply::Idle;
+        self.make_step(pass, end_op(serial, end), &mut reply);
         was_taken(&reply)
     }
 }
