@@ -1,6 +1,6 @@
 //! All groups, and in an audited book a journal of each.
 
-ghost use Rattle.std.specs.Prelude.{◌≡◌, ◌↔◌, ◌+◌, ◌<◌, ◌≤◌, ◌^◌, ℕ, List, [], ◌∷◌, ◌++◌, length, replicate, is_some, vec_len, vec_capacity, Err, IfOk, IfErr, IfSome, OnErr, OnOk, None, Some, true, false, if◌then◌else◌};
+ghost use Rattle.std.specs.Prelude.{◌≡◌, ◌↔◌, ◌+◌, ◌<◌, ◌≤◌, ◌^◌, ℕ, List, [], ◌∷◌, ◌++◌, length, replicate, slice_set, is_some, vec_len, vec_capacity, Err, IfOk, IfErr, IfSome, OnErr, OnOk, None, Some, true, false, if◌then◌else◌};
 ghost use Rattle.bh_base.specs.Replies.{is_refusal};
 ghost use Rattle.bh_base.specs.Runs.{View};
 ghost use Rattle.bh_base.specs.declared.step.Op.TheVariants as op;
@@ -11,19 +11,25 @@ ghost use Rattle.bh_core.specs.CoreView.{most_groups, slots_in, view_at, with_re
 ghost use Rattle.bh_core.specs.Looks.{is_assigned, is_in_use};
 ghost use Rattle.bh_core.specs.Step.{IsStep};
 ghost use Rattle.bh_journal.specs.Replay.{written};
-ghost use Rattle.bh_audit.specs.Calls.{NeedsNoWait};
-ghost use Rattle.bh_audit.specs.Books.{AreEmpty, AreNew, BookView, IsAudited, IsWritten, empty_journal};
+ghost use Rattle.bh_audit.specs.Calls.{NeedsNoWait, is_due};
+ghost use Rattle.bh_audit.specs.Books.{AreEmpty, AreNew, BookView, IsAudited, IsWritten, empty_journal, first_journals};
 
-use bh_base::{GroupId, GroupProps, Reply, Step};
+use bh_base::{GroupId, GroupProps, Moment, Reply, Step};
 use bh_core::{Core, RegisterError, RetireError};
 use bh_journal::Journal;
 use std::alloc::{AllocError, Global};
 use std::marker::Model;
 
+/// How far ahead is looked for tickets that are due, in milliseconds.
+const AHEAD: u64 = 100;
+
 /// All groups, and in an audited book a journal of each, with room for every step that the group may do.
 #[derive(Drop)]
 pub struct Book {
     core: Core,
+    /// For each group a moment before which no ticket of it is due. They lie close together, so that groups which are at
+    /// rest are passed over without a look at them.
+    quiet_until: Vec<Moment>,
     journals: Vec<Journal>,
     audited: bool,
 }
@@ -33,19 +39,20 @@ impl Model for Book {
     ghost use Rattle.bh_journal.specs.Replay.{written};
     ghost use Rattle.bh_audit.specs.Calls.{NeedsNoWait};
     ghost use Rattle.bh_audit.specs.Books.{BookView, IsAudited};
+    ghost use Rattle.bh_audit.specs.Quiet.{AreQuiet};
 
     ghost Value = { BookView };
 
     ghost view = { λ b. record { groups = b.core; journals = b.journals.items; audited = b.audited } };
 
-    ghost invariant = { λ b. b.audited ≡ true → IsAudited b.core b.journals.items };
+    ghost invariant = { λ b. (b.audited ≡ true → IsAudited b.core b.journals.items) × AreQuiet b.core b.quiet_until.items };
 }
 
 impl Book {
     /// A book over the groups of a core, with an audit of so many steps a group, or without one.
     ///
     /// With an audit no group may have done a step, and each may do just as many as the audit has room for. Where
-    /// memory for the journals was refused, the core is handed back.
+    /// memory was refused, the core is handed back.
     pub fn new(alloc: Global, core: Core, audit: Option<u64>) -> Result<Book, (Core, AllocError)>
         requires { IfSome audit (λ limit. AreNew limit core) }
         ensures groups { IfOk result (λ b. b.groups ≡ core) }
@@ -53,17 +60,17 @@ impl Book {
         ensures journals { IfOk result (λ b. AreEmpty b.journals) }
         ensures err { IfErr result (λ e. e.0 ≡ core) }
     {
-        let Some(steps) = audit else {
-            return Ok(plain(alloc, core));
+        let groups = core.groups();
+        let (quiet_until, journals) = match open_lists(alloc, groups, audit) {
+            Ok(lists) => lists,
+            Err(error) => return Err((core, error)),
         };
-        match open_journals(alloc, core.groups(), steps) {
-            Ok(journals) => Ok(Book {
-                core,
-                journals,
-                audited: true,
-            }),
-            Err(error) => Err((core, error)),
-        }
+        Ok(Book {
+            core,
+            quiet_until,
+            journals,
+            audited: audit.is_some(),
+        })
     }
 
     /// Applies a step, writes its reply where the caller keeps it, and in an audited book writes both in the journal of the
@@ -85,6 +92,7 @@ impl Book {
         ensures audited { self.new.audited ≡ self.old.audited }
     {
         let group = step.group;
+        end_quiet(&mut self.quiet_until, group);
         self.core.apply_to(group, step.now, &step.op, reply);
         if is_refused(reply) {
             return None;
@@ -123,13 +131,19 @@ impl Book {
         if let Some(error) = self.core.refusal(props) {
             return Err(error);
         }
+        if self.quiet_until.reserve(1).is_err() {
+            return Err(RegisterError::Memory);
+        }
         if !self.audited {
-            return self.core.register(props, step_limit);
+            let id = self.core.register(props, step_limit)?;
+            self.quiet_until.push_reserved(0);
+            return Ok(id);
         }
         let Ok(journal) = journal_behind(&mut self.journals, alloc, step_limit) else {
             return Err(RegisterError::Memory);
         };
         let id = self.core.register(props, step_limit)?;
+        self.quiet_until.push_reserved(0);
         self.journals.push_reserved(journal);
         Ok(id)
     }
@@ -190,6 +204,29 @@ impl Book {
         !self.core.startable(group)
     }
 
+    /// Whether a ticket of the group is due at the moment.
+    ///
+    /// It looks somewhat ahead. Where no ticket is due by then either, the group is not looked at again until then, unless
+    /// it makes a step.
+    pub(crate) fn is_due(&mut self, group: GroupId, now: Moment) -> bool
+        ensures due { result ≡ is_due self.old.groups group now }
+        ensures same { self.new ≡ self.old }
+    {
+        let place = group.0;
+        if place >= self.quiet_until.len() as u64 {
+            return false;
+        }
+        if now < self.quiet_until[place as usize] {
+            return false;
+        }
+        let ahead = now.saturating_add(AHEAD);
+        if self.core.due(group, ahead) {
+            return self.core.due(group, now);
+        }
+        self.quiet_until[place as usize] = ahead;
+        false
+    }
+
     /// The groups and the journals.
     pub fn into_parts(self) -> (Core, Vec<Journal>)
         ensures groups { result.0 ≡ self.groups }
@@ -198,6 +235,7 @@ impl Book {
     {
         let Book {
             core,
+            quiet_until: _,
             journals,
             audited: _,
         } = self;
@@ -234,17 +272,31 @@ fn journal_behind(
     Journal::new(alloc, steps)
 }
 
-/// A book without an audit.
-fn plain(alloc: Global, core: Core) -> Book
-    ensures groups { result.groups ≡ core }
-    ensures audited { result.audited ≡ false }
-    ensures journals { AreEmpty result.journals }
+/// The group makes a step, so a ticket of it may be due at any moment.
+fn end_quiet(quiet_until: &mut Vec<Moment>, group: GroupId)
+    ensures { quiet_until.new.items ≡ slice_set quiet_until.old.items group.0 0 }
 {
-    Book {
-        core,
-        journals: Vec::new(alloc),
-        audited: false,
+    let place = group.0;
+    if place < quiet_until.len() as u64 {
+        quiet_until[place as usize] = 0;
     }
+}
+
+/// For each of so many groups a moment before which it is quiet, which is 0, and with an audit of so many steps a journal.
+fn open_lists(
+    alloc: Global,
+    groups: u64,
+    audit: Option<u64>,
+) -> Result<(Vec<Moment>, Vec<Journal>), AllocError>
+    ensures quiet { IfOk result (λ lists. lists.0.items ≡ replicate groups 0) }
+    ensures journals { IfOk result (λ lists. lists.1.items ≡ first_journals audit groups) }
+{
+    let quiet_until = vec![in alloc; 0; groups as usize]?;
+    let journals = match audit {
+        Some(steps) => open_journals(alloc, groups, steps)?,
+        None => Vec::new(alloc),
+    };
+    Ok((quiet_until, journals))
 }
 
 /// So many journals, each with room for so many entries.

@@ -202,11 +202,17 @@ impl<const A: u32> Locked<A> {
     }
 
     /// The place of the first of the passes in whose group a ticket is due at the moment; None where there is none.
-    pub(crate) fn first_due(&self, passes: &[Pass], now: Moment) -> Option<usize>
-        ensures { result ≡ position_from (λ (p : PassView). is_due self.now.book.groups p.group now) 0 passes.now }
+    pub(crate) fn first_due(&mut self, passes: &[Pass], now: Moment) -> Option<usize>
+        ensures first { result ≡ position_from (λ (p : PassView). is_due self.old.book.groups p.group now) 0 passes.now }
+        ensures book { self.new.book ≡ self.old.book }
+        ensures stopped { self.new.stopped ≡ self.old.stopped }
     {
-        let core = self.book.core();
-        passes.iter().position(|pass| core.due(pass.group(), now))
+        for (place, pass) in passes.iter().enumerate() {
+            if self.book.is_due(pass.group(), now) {
+                return Some(place);
+            }
+        }
+        None
     }
 
     /// Sets the stop mark. Everybody goes on that waits in any group.
@@ -316,7 +322,7 @@ pub(crate) fn first_due_in<const A: u32, R: Wait, C: Clock>(
 ) -> Option<usize>
     ensures { IfSome result (λ place. place < length passes.now) }
 {
-    let guard = lock.lock(rt);
+    let mut guard = lock.lock(rt);
     guard.first_due(passes, clock.now())
 }
 
