@@ -1,12 +1,16 @@
 //! One connection: what it reads and writes, and why it ends.
 
-ghost use Rattle.std.specs.Prelude.{◌≡◌, if◌then◌else◌};
+ghost use Rattle.std.specs.Prelude.{◌≡◌, IfSome, if◌then◌else◌};
+ghost use Rattle.std.specs.Io.{ReadsAtMost};
 
 use bh_lines::PortError;
-use std::io;
 use std::io::{ErrorKind, Read, Write};
 use std::net::TcpStream;
+use std::{io, thread};
 use thiserror::Error;
+
+/// How often a read looks whether something has come before it sleeps until something does.
+const LOOKS: u32 = 4;
 
 /// Why a connection ended before its client ended it.
 #[derive(Clone, Copy, Debug, PartialEq, Eq, Error)]
@@ -134,7 +138,12 @@ impl<'e> Direction<'e> {
 }
 
 impl Read for Direction<'_> {
+    /// A client that answers at once is read from with no sleep: a thread that sleeps has to be woken, which takes longer
+    /// than some looks, between which other threads run.
     fn read(&mut self, buf: &mut [u8]) -> io::Result<usize> {
+        if let Some(outcome) = look(self.stream, buf) {
+            return outcome;
+        }
         let mut stream = self.stream;
         let outcome = stream.read(buf);
         self.note(&outcome);
@@ -153,4 +162,32 @@ impl Write for Direction<'_> {
     fn flush(&mut self) -> io::Result<()> {
         Ok(())
     }
+}
+
+/// Reads what has come, or comes while other threads run for a moment; None where nothing comes. The connection waits for
+/// its reads and writes before and after it.
+fn look(stream: &TcpStream, buf: &mut [u8]) -> Option<io::Result<usize>>
+    ensures { IfSome result (λ outcome. ReadsAtMost outcome buf.new) }
+{
+    if stream.set_nonblocking(true).is_err() {
+        return None;
+    }
+    let outcome = look_often(stream, buf);
+    match stream.set_nonblocking(false) {
+        Ok(()) => outcome,
+        Err(error) => Some(Err(error)),
+    }
+}
+
+/// Looks a few times whether something has come on a connection that does not wait.
+fn look_often(mut stream: &TcpStream, buf: &mut [u8]) -> Option<io::Result<usize>>
+    ensures { IfSome result (λ outcome. ReadsAtMost outcome buf.new) }
+{
+    for _ in 0..LOOKS {
+        match stream.read(buf) {
+            Err(error) if error.kind() == ErrorKind::WouldBlock => thread::yield_now(),
+            outcome => return Some(outcome),
+        }
+    }
+    None
 }
