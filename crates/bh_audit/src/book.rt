@@ -21,7 +21,7 @@ use std::alloc::{AllocError, Global};
 use std::marker::Model;
 
 /// How far ahead is looked for tickets that are due, in milliseconds.
-const AHEAD: u64 = 100;
+const AHEAD: u64 = 500;
 
 /// All groups, and in an audited book a journal of each, with room for every step that the group may do.
 #[derive(Drop)]

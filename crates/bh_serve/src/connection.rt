@@ -1,7 +1,7 @@
 //! One connection: what it reads and writes, and why it ends.
 
 ghost use Rattle.std.specs.Prelude.{◌≡◌, IfSome, if◌then◌else◌};
-ghost use Rattle.std.specs.Io.{ReadsAtMost};
+ghost use Rattle.std.specs.Io.{ReadsAtMost, WritesAtMost};
 
 use bh_lines::PortError;
 use std::io::{ErrorKind, Read, Write};
@@ -10,7 +10,7 @@ use std::{io, thread};
 use thiserror::Error;
 
 /// How often a read looks whether something has come before it sleeps until something does.
-const LOOKS: u32 = 4;
+const LOOKS: u32 = 8;
 
 /// Why a connection ended before its client ended it.
 #[derive(Clone, Copy, Debug, PartialEq, Eq, Error)]
@@ -104,8 +104,8 @@ impl FaultCounts {
     }
 }
 
-/// One direction of a connection: its reads or its writes. It notes where one waited in vain, for as long as the stream
-/// lets it.
+/// One direction of a connection: its reads or its writes. The connection does not wait, but within a read or a write that
+/// found nothing to read or no room. It notes where one of these waited in vain, for as long as the stream lets it.
 #[derive(Drop)]
 pub(crate) struct Direction<'e> {
     stream: &'e TcpStream,
@@ -113,7 +113,7 @@ pub(crate) struct Direction<'e> {
 }
 
 impl<'e> Direction<'e> {
-    /// A direction of the connection, of which nothing was tried yet.
+    /// A direction of a connection that does not wait, of which nothing was tried yet.
     pub(crate) fn new(stream: &'e TcpStream) -> Direction<'e> {
         Direction {
             stream,
@@ -124,6 +124,30 @@ impl<'e> Direction<'e> {
     /// Whether a read or a write waited in vain.
     pub(crate) fn waited_in_vain(&self) -> bool {
         self.waited_in_vain
+    }
+
+    /// Reads once something has come, or ends as the time-out of the connection says.
+    fn await_bytes(&mut self, buf: &mut [u8]) -> io::Result<usize>
+        ensures { ReadsAtMost result buf.new }
+    {
+        let mut stream = self.stream;
+        stream.set_nonblocking(false)?;
+        let outcome = stream.read(buf);
+        stream.set_nonblocking(true)?;
+        self.note(&outcome);
+        outcome
+    }
+
+    /// Writes once there is room, or ends as the time-out of the connection says.
+    fn await_room(&mut self, buf: &[u8]) -> io::Result<usize>
+        ensures { WritesAtMost result buf.now }
+    {
+        let mut stream = self.stream;
+        stream.set_nonblocking(false)?;
+        let outcome = stream.write(buf);
+        stream.set_nonblocking(true)?;
+        self.note(&outcome);
+        outcome
     }
 
     /// Notes how a read or a write ended.
@@ -138,25 +162,23 @@ impl<'e> Direction<'e> {
 }
 
 impl Read for Direction<'_> {
-    /// A client that answers at once is read from with no sleep: a thread that sleeps has to be woken, which takes longer
+    /// A client that goes on at once is read from with no sleep: a thread that sleeps has to be woken, which takes longer
     /// than some looks, between which other threads run.
     fn read(&mut self, buf: &mut [u8]) -> io::Result<usize> {
-        if let Some(outcome) = look(self.stream, buf) {
-            return outcome;
+        match look(self.stream, buf) {
+            Some(outcome) => outcome,
+            None => self.await_bytes(buf),
         }
-        let mut stream = self.stream;
-        let outcome = stream.read(buf);
-        self.note(&outcome);
-        outcome
     }
 }
 
 impl Write for Direction<'_> {
     fn write(&mut self, buf: &[u8]) -> io::Result<usize> {
         let mut stream = self.stream;
-        let outcome = stream.write(buf);
-        self.note(&outcome);
-        outcome
+        match stream.write(buf) {
+            Err(error) if error.kind() == ErrorKind::WouldBlock => self.await_room(buf),
+            outcome => outcome,
+        }
     }
 
     fn flush(&mut self) -> io::Result<()> {
@@ -164,23 +186,8 @@ impl Write for Direction<'_> {
     }
 }
 
-/// Reads what has come, or comes while other threads run for a moment; None where nothing comes. The connection waits for
-/// its reads and writes before and after it.
-fn look(stream: &TcpStream, buf: &mut [u8]) -> Option<io::Result<usize>>
-    ensures { IfSome result (λ outcome. ReadsAtMost outcome buf.new) }
-{
-    if stream.set_nonblocking(true).is_err() {
-        return None;
-    }
-    let outcome = look_often(stream, buf);
-    match stream.set_nonblocking(false) {
-        Ok(()) => outcome,
-        Err(error) => Some(Err(error)),
-    }
-}
-
-/// Looks a few times whether something has come on a connection that does not wait.
-fn look_often(mut stream: &TcpStream, buf: &mut [u8]) -> Option<io::Result<usize>>
+/// Reads what has come, or comes while other threads run for a moment; None where nothing comes.
+fn look(mut stream: &TcpStream, buf: &mut [u8]) -> Option<io::Result<usize>>
     ensures { IfSome result (λ outcome. ReadsAtMost outcome buf.new) }
 {
     for _ in 0..LOOKS {

@@ -282,7 +282,10 @@ impl<
     fn converse(&self, stream: &TcpStream) -> Result<(), ConnectionFault> {
         let _ = stream.set_nodelay(true);
         let idle = self.acceptor.idle();
-        if stream.set_read_timeout(idle).is_err() || stream.set_write_timeout(idle).is_err() {
+        if stream.set_read_timeout(idle).is_err()
+            || stream.set_write_timeout(idle).is_err()
+            || stream.set_nonblocking(true).is_err()
+        {
             return Err(ConnectionFault::Port(PortError::Read));
         }
         let (mut input, mut output) = (Direction::new(stream), Direction::new(stream));

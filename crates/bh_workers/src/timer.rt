@@ -38,7 +38,7 @@ fn expire_all<C: Clock, R: Wait>(rt: &R, shared: &Shared, passes: &mut [Pass], c
 }
 
 /// How many groups are asked in one turn of the lock whether a ticket is due: while it lasts, no step is made.
-const GROUPS_A_TURN: usize = 16;
+const GROUPS_A_TURN: usize = 32;
 
 /// Asks some groups, from that of the pass at the place on, and times out what is due in the first that has a ticket
 /// which is due. The result is the place behind the last group that was dealt with.
