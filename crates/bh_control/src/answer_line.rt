@@ -23,18 +23,18 @@ use std::alloc::{AllocError, Global};
 pub fn put_answer<C: Control>(
     alloc: Global,
     control: &mut C,
-    asked: Asked,
+    asked: &Asked,
     out: &mut Vec<u8>,
 ) -> Result<(), AllocError>
-    requires group { IfOk asked (IsOfGroups (length (C.names control.old).groups)) }
-    requires held { may_wait asked ≡ true → out.old.items ≡ [] }
-    ensures answer { OnOk result (IsPut (IsAnswer (responder (C.names control.old) C.may_show C.may_answer C.may_close) asked) out.old.items out.new.items) }
+    requires group { IfOk asked.now (IsOfGroups (length (C.names control.old).groups)) }
+    requires held { may_wait asked.now ≡ true → out.old.items ≡ [] }
+    ensures answer { OnOk result (IsPut (IsAnswer (responder (C.names control.old) C.may_show C.may_answer C.may_close) asked.now) out.old.items out.new.items) }
     ensures kept { OnErr result (out.new.items ≡ out.old.items) }
     ensures groups { C.names control.new ≡ C.names control.old }
 {
     match asked {
         Ok(line) => put_asked(alloc, control, line, out),
-        Err(fault) => put_fault(alloc, out, fault),
+        Err(fault) => put_fault(alloc, out, *fault),
     }
 }
 
@@ -49,22 +49,22 @@ pub fn may_wait(asked: &Asked) -> bool
 fn put_asked<C: Control>(
     alloc: Global,
     control: &mut C,
-    line: ControlLine,
+    line: &ControlLine,
     out: &mut Vec<u8>,
 ) -> Result<(), AllocError>
-    requires group { IsOfGroups (length (C.names control.old).groups) line }
-    requires held { may_wait (Ok line) ≡ true → out.old.items ≡ [] }
-    ensures answer { OnOk result (IsPut (IsAnswer (responder (C.names control.old) C.may_show C.may_answer C.may_close) (Ok line)) out.old.items out.new.items) }
+    requires group { IsOfGroups (length (C.names control.old).groups) line.now }
+    requires held { may_wait (Ok line.now) ≡ true → out.old.items ≡ [] }
+    ensures answer { OnOk result (IsPut (IsAnswer (responder (C.names control.old) C.may_show C.may_answer C.may_close) (Ok line.now)) out.old.items out.new.items) }
     ensures kept { OnErr result (out.new.items ≡ out.old.items) }
     ensures groups { C.names control.new ≡ C.names control.old }
 {
     match line {
         ControlLine::Groups => put_groups(alloc, control.groups(), out),
         ControlLine::Metrics { group, command } => {
-            put_metrics(alloc, control, group, command, out)
+            put_metrics(alloc, control, *group, *command, out)
         }
-        ControlLine::Call { group, request } => put_call(alloc, control, group, request, out),
-        ControlLine::Close { group, context } => put_close(alloc, control, group, context, out),
+        ControlLine::Call { group, request } => put_call(alloc, control, *group, request, out),
+        ControlLine::Close { group, context } => put_close(alloc, control, *group, *context, out),
     }
 }
 
@@ -107,16 +107,16 @@ fn put_call<C: Control>(
     alloc: Global,
     control: &mut C,
     group: GroupId,
-    request: Request,
+    request: &Request,
     out: &mut Vec<u8>,
 ) -> Result<(), AllocError>
     requires group { group.0 < length (C.names control.old).groups }
     requires held { out.old.items ≡ [] }
-    ensures answer { OnOk result ((answer : Result Answer CallError) × C.may_answer group request answer × (out.new.items ≡ out.old.items ++ answer_line answer)) }
+    ensures answer { OnOk result ((answer : Result Answer CallError) × C.may_answer group request.now answer × (out.new.items ≡ out.old.items ++ answer_line answer)) }
     ensures kept { OnErr result (out.new.items ≡ out.old.items) }
     ensures groups { C.names control.new ≡ C.names control.old }
 {
-    let answer = control.call(group, request);
+    let answer = control.call(group, *request);
     put_answered(alloc, out, &answer)
 }
 

@@ -125,7 +125,7 @@ fn answer_each<C: Control>(
     let mut answer = Vec::new(alloc);
     while let Some(asked) = received.next(control)? {
         answer.clear();
-        put_answer(alloc, control, asked, &mut answer)?;
+        put_answer(alloc, control, &asked, &mut answer)?;
         out.extend_from_slice(answer.as_slice())?;
     }
     Ok(())
@@ -157,6 +157,6 @@ fn answer_last<C: Control>(
     let Some(asked) = received.last(control)? else {
         return Ok(());
     };
-    put_answer(alloc, control, asked, out)?;
+    put_answer(alloc, control, &asked, out)?;
     Ok(())
 }

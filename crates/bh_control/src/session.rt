@@ -110,7 +110,7 @@ fn answer_lines<W: Write, C: Control>(
 {
     while let Some(asked) = received.next(control)? {
         write_before(&asked, answers, writer)?;
-        put_answer(alloc, control, asked, answers)?;
+        put_answer(alloc, control, &asked, answers)?;
     }
     Ok(())
 }
@@ -134,7 +134,7 @@ fn answer_last<W: Write, C: Control>(
     let Some(asked) = received.last(control)? else {
         return Ok(());
     };
-    put_answer(alloc, control, asked, answers)?;
+    put_answer(alloc, control, &asked, answers)?;
     write_held(answers, writer)
 }
 

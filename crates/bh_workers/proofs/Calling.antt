@@ -18,9 +18,10 @@ use Rattle.bh_journal.specs.declared.pass.Marks.{Marks}
 use Rattle.bh_journal.specs.declared.pass.Receipt.{Receipt}
 use Rattle.bh_journal.specs.Passes.{PassView, marked_worn, marked_no_group}
 use Rattle.bh_audit.specs.Calls.{AddsCollect, CanBeMissing}
-use Rattle.bh_base.specs.Replies.{is_refusal}
+use Rattle.bh_base.specs.Replies.{can_reply, is_refusal}
 use Rattle.bh_workers.specs.Receipts.{IsReceiptOf, IsRunEnd, StepAdds, StepTaken, end_op}
-use Rattle.bh_workers.specs.Calls.{CallAdds, IsCall, IsCallMade, IsCollected, IsCollectedLast, IsFallbackEnd, IsFallenBack, IsRefused, IsRunInline, IsSettled, IsWaiting, MarksAre, Only, Then}
+use Rattle.bh_workers.specs.Calls.{CallAdds, IsCall, IsCallMade, IsCollected, IsCollectedLast, IsFallbackEnd, IsFallenBack, IsRefused, IsRunInline, IsSettled, IsWaiting, MarksAre, Only, Then, result_of}
+use Rattle.bh_workers.specs.Collecting.{IsCollectMade}
 use Rattle.bh_workers.proofs.Adding.{Gains-append, added_receipt, none_by_no_group, none_by_same, none_by_worn, taken}
 
 -- marks that are so after a part of a call are so after the whole of it
@@ -65,11 +66,11 @@ pub step_only : (moments : ℕ → Type 0) (a : Bool) (p q : PassView) (o : Op) 
 step_only moments a p q o answer result t marks = record { made = t.receipt ∷ []; gains = t.gains; marks = marks; is = (t.is, refl) }
 
 -- a step that was refused
-pub refused_worn : (a : Bool) (p q : PassView) → q ≡ marked_worn p → CallAdds a p (Err error.Worn) q (IsRefused (Err error.Worn))
+refused_worn : (a : Bool) (p q : PassView) → q ≡ marked_worn p → CallAdds a p (Err error.Worn) q (IsRefused (Err error.Worn))
 refused_worn a p q h = record { made = []; gains = none_by_worn a p q h; marks = ap (λ (x : PassView). x.marks) h; is = refl }
 
 -- and one of a group that is not registered
-pub refused_no_group : (a : Bool) (p q : PassView) → q ≡ marked_no_group p → CallAdds a p (Err error.NoGroup) q (IsRefused (Err error.NoGroup))
+refused_no_group : (a : Bool) (p q : PassView) → q ≡ marked_no_group p → CallAdds a p (Err error.NoGroup) q (IsRefused (Err error.NoGroup))
 refused_no_group a p q h = record { made = []; gains = none_by_no_group a p q h; marks = ap (λ (x : PassView). x.marks) h; is = refl }
 
 module _ (moments : ℕ → Type 0) where
@@ -116,6 +117,50 @@ module _ (moments : ℕ → Type 0) where
   gives_up a p q serial cause t =
       step_only moments a p q (op.Collect serial) (reply.RunFallback cause) (Err error.Stopped) t
       (inr (t.marks, record { before = []; last = t.receipt; is = refl; cause = cause; reply = t.is.reply }))
+
+  -- a Collect that ends the call
+  ends : (a : Bool) (p q : PassView) (serial : ℕ) (r : Reply) → ((cause : Cause) → r ≢ reply.RunFallback cause)
+      → CallAdds a p (result_of r) q (IsCollected moments p.group serial (result_of r)) → IsCollectMade moments a p serial r q
+  ends a p q serial r other k =
+      let result = result_of r in
+      record {
+        due = λ cause is. absurd (other cause is);
+        over = λ o. k;
+        last = in_other_words a p q result (IsCollected moments p.group serial result) (IsCollectedLast moments p.group serial result) (λ made h. inl h) k;
+      }
+
+  -- a Collect, by its reply
+  pub collects : (a : Bool) (p q : PassView) (serial : ℕ) (r : Reply) → can_reply (op.Collect serial) r ≡ true → r ≢ reply.NoCommand → AddsCollect moments a p serial r q
+      → IsCollectMade moments a p serial r q
+  collects a p q serial (reply.Answered answer) can known h =
+      ends a p q serial (reply.Answered answer) (λ cause is. (let e : reply.Answered answer ≡ reply.RunFallback cause = is in cc)) (collect_answered a p q serial answer h)
+  collects a p q serial reply.NoTicket can known h = ends a p q serial reply.NoTicket (λ cause is. (let e : reply.NoTicket ≡ reply.RunFallback cause = is in cc)) (collect_taken a p q serial h)
+  collects a p q serial reply.Pending can known h = ends a p q serial reply.Pending (λ cause is. (let e : reply.Pending ≡ reply.RunFallback cause = is in cc)) (collect_pending a p q serial h)
+  collects a p q serial reply.Worn can known h = ends a p q serial reply.Worn (λ cause is. (let e : reply.Worn ≡ reply.RunFallback cause = is in cc)) (refused_worn a p q h.2)
+  collects a p q serial reply.NoGroup can known h = ends a p q serial reply.NoGroup (λ cause is. (let e : reply.NoGroup ≡ reply.RunFallback cause = is in cc)) (refused_no_group a p q h.2)
+  collects a p q serial (reply.RunFallback cause) can known h =
+      let t = collect_fallback a p q serial cause h in
+      record {
+        due = λ due is. rw is at t;
+        over = λ other. absurd (other cause refl);
+        last = in_other_words a p q (Err error.Stopped) (Only (IsReceiptOf moments p.group (op.Collect serial) (reply.RunFallback cause)))
+            (IsCollectedLast moments p.group serial (Err error.Stopped)) (λ made h. inr (refl, (cause, h))) (gives_up a p q serial cause t);
+      }
+  collects a p q serial reply.NoCommand can known h = absurd (known refl)
+  collects a p q serial (reply.Queued x) can known h = (let no : false ≡ true = can in cc)
+  collects a p q serial (reply.Inline x) can known h = (let no : false ≡ true = can in cc)
+  collects a p q serial (reply.FallbackDue x y) can known h = (let no : false ≡ true = can in cc)
+  collects a p q serial (reply.Joined x) can known h = (let no : false ≡ true = can in cc)
+  collects a p q serial reply.GroupFull can known h = (let no : false ≡ true = can in cc)
+  collects a p q serial (reply.Assigned x y z) can known h = (let no : false ≡ true = can in cc)
+  collects a p q serial reply.Idle can known h = (let no : false ≡ true = can in cc)
+  collects a p q serial reply.Done can known h = (let no : false ≡ true = can in cc)
+  collects a p q serial reply.Late can known h = (let no : false ≡ true = can in cc)
+  collects a p q serial reply.NotRunning can known h = (let no : false ≡ true = can in cc)
+  collects a p q serial (reply.Expired x) can known h = (let no : false ≡ true = can in cc)
+  collects a p q serial reply.NotInFallback can known h = (let no : false ≡ true = can in cc)
+  collects a p q serial (reply.Closed x) can known h = (let no : false ≡ true = can in cc)
+  collects a p q serial (reply.Metrics x) can known h = (let no : false ≡ true = can in cc)
 
 -- a result that comes of no refusal and of no Collect
 pub record IsNoEnd (moments : ℕ → Type 0) (result : Result Answer CallError) : Type 0 where
@@ -258,6 +303,18 @@ module _ (ends : GroupId → ℕ → List ℕ → RunEnd → Type 0) (fallback_e
   finds_full a p q request h =
       let t = taken moments a p q (op.Submit request) reply.GroupFull refl h in
       record { made = t.receipt ∷ []; gains = t.gains; marks = t.marks; is = inr (inl (refl, (t.is, refl))) }
+
+  -- one of a worn group
+  pub finds_worn : (a : Bool) (p q : PassView) (request : Request) → StepAdds moments a p (op.Submit request) reply.Worn q
+      → CallAdds a p (Err error.Worn) q (IsCall ends fallback_ends moments p.group request (Err error.Worn))
+  finds_worn a p q request h =
+      in_other_words a p q (Err error.Worn) (IsRefused (Err error.Worn)) (IsCall ends fallback_ends moments p.group request (Err error.Worn)) (λ made k. inl k) (refused_worn a p q h.2)
+
+  -- one of a group that is not registered
+  pub finds_no_group : (a : Bool) (p q : PassView) (request : Request) → StepAdds moments a p (op.Submit request) reply.NoGroup q
+      → CallAdds a p (Err error.NoGroup) q (IsCall ends fallback_ends moments p.group request (Err error.NoGroup))
+  finds_no_group a p q request h =
+      in_other_words a p q (Err error.NoGroup) (IsRefused (Err error.NoGroup)) (IsCall ends fallback_ends moments p.group request (Err error.NoGroup)) (λ made k. inl k) (refused_no_group a p q h.2)
 
   -- a Submit of a command that the group lacks
   pub finds_missing : (a : Bool) (p q : PassView) (request : Request) → StepAdds moments a p (op.Submit request) reply.NoCommand q → CanBeMissing (op.Submit request)

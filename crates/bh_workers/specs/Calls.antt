@@ -17,6 +17,17 @@ use Rattle.bh_journal.specs.Passes.{PassView}
 use Rattle.bh_audit.specs.Calls.{CanBeMissing}
 use Rattle.bh_workers.specs.Receipts.{Gains, IsReceiptOf, IsRunEnd}
 
+-- the result of a call of which this is the last reply: where the ticket has no answer, the service was stopped, or a fallback
+-- is to be run once more
+abbrev pub result_of : Reply → Result Answer CallError
+result_of (reply.Answered answer) = Ok answer
+result_of reply.NoTicket = Err error.Taken
+result_of reply.GroupFull = Err error.GroupFull
+result_of reply.Worn = Err error.Worn
+result_of reply.NoGroup = Err error.NoGroup
+result_of reply.NoCommand = Err error.NoCommand
+result_of r = Err error.Stopped
+
 -- nothing is added
 abbrev pub IsNothing : List Receipt → Type 0
 IsNothing made = made ≡ []

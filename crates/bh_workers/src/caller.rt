@@ -2,8 +2,8 @@
 
 ghost use Rattle.std.specs.Prelude.{◌≡◌, ◌↔◌, ◌+◌, ◌<◌, ◌≤◌, true, Err};
 ghost use Rattle.bh_base.specs.declared.reply.CallError.TheVariants.{PassFull};
-ghost use Rattle.bh_workers.specs.Calls.{CallAdds, IsCall, IsCollectedLast, IsFallenBack, IsRunInline, IsSettled};
-ghost use Rattle.bh_workers.specs.Collecting.{CollectAdds};
+ghost use Rattle.bh_workers.specs.Calls.{CallAdds, IsCall, IsFallenBack, IsRunInline, IsSettled, result_of};
+ghost use Rattle.bh_workers.specs.Collecting.{IsCollectMade};
 
 use crate::dependency::Dependency;
 use crate::environment::Environment;
@@ -48,13 +48,15 @@ pub fn call<D: Dependency, C: Clock, R: Wait>(
         dependency,
         clock,
     };
-    environment.call(pass, request)
+    environment.call(pass, &request)
 }
 
+/// The steps of a call write their replies into one place, which the caller keeps: a reply is too long to be copied at each
+/// return. The last of them tells the result.
 impl<'e, D: Dependency, C: Clock, R: Wait> Environment<'e, D, C, R> {
     /// Submits the request and waits for its answer, as the public `call` says.
-    pub(crate) fn call(&self, pass: &mut Pass, request: Request) -> Result<Answer, CallError>
-        ensures call { CallAdds self.now.shared.now.audited pass.old result pass.new (IsCall D.ends D.fallback_ends C.moments pass.old.group request result) }
+    pub(crate) fn call(&self, pass: &mut Pass, request: &Request) -> Result<Answer, CallError>
+        ensures call { CallAdds self.now.shared.now.audited pass.old result pass.new (IsCall D.ends D.fallback_ends C.moments pass.old.group request.now result) }
         ensures full { (result ≡ Err PassFull) ↔ ((self.now.shared.now.audited ≡ true) × (pass.old.room < 5)) }
         ensures unchanged { result ≡ Err PassFull → pass.new ≡ pass.old }
     {
@@ -62,121 +64,103 @@ impl<'e, D: Dependency, C: Clock, R: Wait> Environment<'e, D, C, R> {
             return Err(CallError::PassFull);
         }
         let mut reply = Reply::Idle;
-        self.make_step(pass, Op::Submit(request), &mut reply);
-        match &reply {
+        self.submit(pass, request, &mut reply);
+        result_of(&reply)
+    }
+
+    /// Submits the request, and goes on as the reply says.
+    fn submit(&self, pass: &mut Pass, request: &Request, reply: &mut Reply)
+        requires { self.now.shared.now.audited ≡ true → 5 ≤ pass.old.room }
+        ensures { CallAdds self.now.shared.now.audited pass.old (result_of reply.new) pass.new (IsCall D.ends D.fallback_ends C.moments pass.old.group request.now (result_of reply.new)) }
+    {
+        self.make_step(pass, &Op::Submit(*request), reply);
+        match &*reply {
             Reply::Queued(serial) | Reply::Joined(serial) | Reply::FallbackDue { serial, .. } => {
-                self.settle(pass, *serial, &request)
+                self.settle(pass, *serial, request, reply)
             }
-            Reply::Inline(serial) => self.run_inline(pass, *serial, &request),
-            Reply::GroupFull => Err(CallError::GroupFull),
-            Reply::Worn => Err(CallError::Worn),
-            Reply::NoGroup => Err(CallError::NoGroup),
-            Reply::NoCommand => Err(CallError::NoCommand),
+            Reply::Inline(serial) => self.run_inline(pass, *serial, request, reply),
+            Reply::GroupFull | Reply::Worn | Reply::NoGroup | Reply::NoCommand => {}
             _ => unreachable!(),
         }
     }
 
     /// Runs the ticket, tells its end and waits for the answer.
-    fn run_inline(
-        &self,
-        pass: &mut Pass,
-        serial: Serial,
-        request: &Request,
-    ) -> Result<Answer, CallError>
+    fn run_inline(&self, pass: &mut Pass, serial: Serial, request: &Request, reply: &mut Reply)
         requires { self.now.shared.now.audited ≡ true → 4 ≤ pass.old.room }
-        ensures { CallAdds self.now.shared.now.audited pass.old result pass.new (IsRunInline D.ends D.fallback_ends C.moments pass.old.group serial request.now result) }
+        ensures { CallAdds self.now.shared.now.audited pass.old (result_of reply.new) pass.new (IsRunInline D.ends D.fallback_ends C.moments pass.old.group serial request.now (result_of reply.new)) }
     {
         let end = self
             .dependency
             .run(pass.group(), request.command, &request.arg);
-        let mut reply = Reply::Idle;
-        self.make_step(pass, end_op(serial, end), &mut reply);
-        match &reply {
-            Reply::Worn => Err(CallError::Worn),
-            Reply::NoGroup => Err(CallError::NoGroup),
-            _ => self.settle(pass, serial, request),
+        self.make_step(pass, &end_op(serial, end), reply);
+        match reply {
+            Reply::Worn | Reply::NoGroup => {}
+            _ => self.settle(pass, serial, request, reply),
         }
     }
 
     /// Waits for the answer of the ticket, and runs its fallback where that is due.
-    fn settle(
-        &self,
-        pass: &mut Pass,
-        serial: Serial,
-        request: &Request,
-    ) -> Result<Answer, CallError>
+    fn settle(&self, pass: &mut Pass, serial: Serial, request: &Request, reply: &mut Reply)
         requires { self.now.shared.now.audited ≡ true → 3 ≤ pass.old.room }
-        ensures { CallAdds self.now.shared.now.audited pass.old result pass.new (IsSettled D.fallback_ends C.moments pass.old.group serial request.now result) }
+        ensures { CallAdds self.now.shared.now.audited pass.old (result_of reply.new) pass.new (IsSettled D.fallback_ends C.moments pass.old.group serial request.now (result_of reply.new)) }
     {
-        match self.collect(pass, serial) {
-            Collected::Ended(result) => result,
-            Collected::Fallback(cause) => self.fall_back(pass, serial, cause, request),
+        self.collect(pass, serial, reply);
+        match *reply {
+            Reply::RunFallback(cause) => self.fall_back(pass, serial, cause, request, reply),
+            _ => {}
         }
     }
 
-    /// Runs the fallback of the ticket, tells its end and collects once more.
+    /// Runs the fallback of the ticket, tells its end and collects for the last time: where a fallback is due once more, the
+    /// call is over.
     fn fall_back(
         &self,
         pass: &mut Pass,
         serial: Serial,
         cause: Cause,
         request: &Request,
-    ) -> Result<Answer, CallError>
+        reply: &mut Reply,
+    )
         requires { self.now.shared.now.audited ≡ true → 2 ≤ pass.old.room }
-        ensures { CallAdds self.now.shared.now.audited pass.old result pass.new (IsFallenBack D.fallback_ends C.moments pass.old.group serial cause request.now result) }
+        ensures { CallAdds self.now.shared.now.audited pass.old (result_of reply.new) pass.new (IsFallenBack D.fallback_ends C.moments pass.old.group serial cause request.now (result_of reply.new)) }
     {
         let end = self
             .dependency
             .fallback(pass.group(), request.command, cause, &request.arg);
-        let mut reply = Reply::Idle;
-        self.make_step(pass, Op::FallbackDone { serial, end }, &mut reply);
-        match &reply {
-            Reply::Worn => Err(CallError::Worn),
-            Reply::NoGroup => Err(CallError::NoGroup),
-            _ => self.collect_last(pass, serial),
-        }
-    }
-
-    /// Collects the ticket for the last time.
-    fn collect_last(&self, pass: &mut Pass, serial: Serial) -> Result<Answer, CallError>
-        requires { self.now.shared.now.audited ≡ true → 1 ≤ pass.old.room }
-        ensures { CallAdds self.now.shared.now.audited pass.old result pass.new (IsCollectedLast C.moments pass.old.group serial result) }
-    {
-        match self.collect(pass, serial) {
-            Collected::Ended(result) => result,
-            Collected::Fallback(_) => Err(CallError::Stopped),
+        self.make_step(pass, &Op::FallbackDone { serial, end }, reply);
+        match reply {
+            Reply::Worn | Reply::NoGroup => {}
+            _ => self.collect(pass, serial, reply),
         }
     }
 
     /// Waits until the ticket can be collected, or the service is stopped, and collects it.
-    fn collect(&self, pass: &mut Pass, serial: Serial) -> Collected
+    fn collect(&self, pass: &mut Pass, serial: Serial, reply: &mut Reply)
         requires { self.now.shared.now.audited ≡ true → 1 ≤ pass.old.room }
-        ensures adds { CollectAdds C.moments self.now.shared.now.audited pass.old serial result pass.new }
+        ensures made { IsCollectMade C.moments self.now.shared.now.audited pass.old serial reply.new pass.new }
         ensures room { pass.old.room ≤ pass.new.room + 1 }
     {
-        let mut reply = Reply::Idle;
         let Ok(()) = self
             .shared
-            .await_answer_to(self.rt, pass, serial, self.clock, &mut reply)
+            .await_answer_to(self.rt, pass, serial, self.clock, reply)
         else {
             unreachable!()
         };
-        match &reply {
-            Reply::Answered(answer) => Collected::Ended(Ok(*answer)),
-            Reply::NoTicket => Collected::Ended(Err(CallError::Taken)),
-            Reply::Pending => Collected::Ended(Err(CallError::Stopped)),
-            Reply::RunFallback(cause) => Collected::Fallback(*cause),
-            Reply::Worn => Collected::Ended(Err(CallError::Worn)),
-            Reply::NoGroup => Collected::Ended(Err(CallError::NoGroup)),
-            _ => unreachable!(),
-        }
     }
 }
 
-/// What a Collect led to.
-enum Collected {
-    /// The call is over.
-    Ended(Result<Answer, CallError>),
-    /// The caller is to run the fallback.
-    Fallback(Cause),
+/// The result of a call of which this is the last reply.
+fn result_of(reply: &Reply) -> Result<Answer, CallError>
+    ensures { result ≡ result_of reply.now }
+{
+    let error = match reply {
+        Reply::Answered(answer) => return Ok(*answer),
+        Reply::NoTicket => CallError::Taken,
+        Reply::GroupFull => CallError::GroupFull,
+        Reply::Worn => CallError::Worn,
+        Reply::NoGroup => CallError::NoGroup,
+        Reply::NoCommand => CallError::NoCommand,
+        _ => CallError::Stopped,
+    };
+    Err(error)
 }

@@ -23,16 +23,20 @@ pub(crate) struct Environment<'e, D, C, R> {
 impl<'e, D, C: Clock, R: Wait> Environment<'e, D, C, R> {
     /// Makes one step of the pass's own group, at the moment that the clock gives, and writes its reply where the caller
     /// keeps it. The moment is read before the lock is taken.
-    pub(crate) fn make_step(&self, pass: &mut Pass, op: Op, reply: &mut Reply)
+    pub(crate) fn make_step(&self, pass: &mut Pass, op: &Op, reply: &mut Reply)
         requires { self.now.shared.now.audited ≡ true → 1 ≤ pass.old.room }
-        ensures adds { StepAdds C.moments self.now.shared.now.audited pass.old op reply.new pass.new }
-        ensures kinds { can_reply op reply.new ≡ true }
-        ensures missing { reply.new ≡ NoCommand → CanBeMissing op }
+        ensures adds { StepAdds C.moments self.now.shared.now.audited pass.old op.now reply.new pass.new }
+        ensures kinds { can_reply op.now reply.new ≡ true }
+        ensures missing { reply.new ≡ NoCommand → CanBeMissing op.now }
         ensures room { pass.old.room ≤ pass.new.room + 1 }
     {
         let group = pass.group();
         let now = self.clock.now();
-        let step = Step { group, now, op };
+        let step = Step {
+            group,
+            now,
+            op: *op,
+        };
         let Ok(()) = self.shared.step_to(self.rt, pass, &step, reply) else {
             unreachable!()
         };

@@ -74,7 +74,7 @@ impl<'e, D: Dependency, C: Clock, R: Wait> Environment<'e, D, C, R> {
     {
         let end = self.dependency.run(pass.group(), command, arg);
         let mut reply = Reply::Idle;
-        self.make_step(pass, end_op(serial, end), &mut reply);
+        self.make_step(pass, &end_op(serial, end), &mut reply);
         was_taken(&reply)
     }
 }
