@@ -1,9 +1,9 @@
 -- The further commands, as the members of the table under `service.command` give them in the order of their keys.
-use Rattle.std.proofs.Common.{◌≡◌, ◌==◌, ℕ, ◌+◌, ◌≤◌, List, [], ◌∷◌, ◌++◌, length, map, Bool, true, false, Some, None, Result, Err, Less, Equal, String, Global, string_bytes, nat_cmp, refl, sym, ap, ◌∙◌, true≢false, arith}
+use Rattle.std.proofs.Common.{◌≡◌, ◌==◌, ℕ, ◌+◌, ◌<◌, ◌≤◌, List, [], ◌∷◌, ◌++◌, length, get_or, take, map, Bool, true, false, Some, None, Result, Err, Less, Equal, String, Global, string_bytes, nat_cmp, refl, sym, ap, ◌∙◌, true≢false, arith}
 use Rattle.std.proofs.lemmas.Bool.Decides.{nat_tests}
 use Rattle.std.proofs.lemmas.Cmp.{nat_list_cmp_total}
 use Rattle.std.proofs.lemmas.Grind.{flat_map-append}
-use Rattle.std.proofs.lemmas.List.{append-nil}
+use Rattle.std.proofs.lemmas.List.{append-nil, take_more}
 use Rattle.std.proofs.lemmas.List.Elements.{filter-append}
 use Rattle.std.proofs.lemmas.Slice.Eq.{bytes_eq-Decides}
 use Rattle.std.specs.BTreeMap.{insert_entry}
@@ -149,3 +149,9 @@ module _ {A : Type 0} (f : List ℕ × (ℕ × ℕ) → List A) (place : ℕ) (d
     where
       eqb-false_from : (a b : ℕ) → ¬ (a ≡ b) → (a == b) ≡ false
       eqb-false_from a b ne = grind (arith, nat_tests)
+
+-- the lines of the first commands of a list and of the next
+pub rows-taken : {A : Type 0} (f : List ℕ × (ℕ × ℕ) → List A) (cs : Commands) (i : ℕ) (c : List ℕ × (ℕ × ℕ)) → i < length cs → c ≡ get_or cs i c → flat_map f (take i cs) ++ f c ≡ flat_map f (take (i + 1) cs)
+rows-taken f cs i c within is =
+    let grown : take (i + 1) cs ≡ take i cs ++ c ∷ [] = take_more cs i c within ∙ ap (λ n. take i cs ++ n ∷ []) (sym is) in
+    sym (ap (flat_map f) grown ∙ flat_map-append f (take i cs) (c ∷ []) ∙ ap (λ row. flat_map f (take i cs) ++ row) (append-nil (f c)))

@@ -28,7 +28,7 @@ pub record AreNumbered (groups : ℕ) (cs : Commands) : Type 0 where
   pub few : (place : ℕ) → count place cs ≤ 15
   pub known : AllByRecursion (IsNumbered groups cs) cs
 
-count-last : (place : ℕ) (cs : Commands) (c : List ℕ × (ℕ × ℕ)) → count place (cs ++ c ∷ []) ≡ count place cs + (if c.1.0 == place then 1 else 0)
+pub count-last : (place : ℕ) (cs : Commands) (c : List ℕ × (ℕ × ℕ)) → count place (cs ++ c ∷ []) ≡ count place cs + (if c.1.0 == place then 1 else 0)
 count-last place cs c = by (c.1.0 == place) refl
   where
     parts : count place (cs ++ c ∷ []) ≡ count place cs + count place (c ∷ [])
@@ -75,7 +75,7 @@ next groups place before name within room h = record {
             rw (count-last q before (name, (place, count place before + 1)), e) (omega arith)
         by false e old = rw (count-last q before (name, (place, count place before + 1)), e) (omega arith)
 
-place-within : (groups : List (List ℕ)) (d : Data) (place : ℕ) → place_named groups d ≡ Some place → place < length groups
+pub place-within : (groups : List (List ℕ)) (d : Data) (place : ℕ) → place_named groups d ≡ Some place → place < length groups
 place-within groups d place h = by (group_named d) refl
   where
     by : (o : Option (List ℕ)) → group_named d ≡ o → place < length groups

@@ -1,10 +1,13 @@
+pub mod ByGroup
 pub mod Checks
 pub mod Dotted
 pub mod Each
 pub mod Further
+pub mod Gathered
 pub mod Groups
 pub mod InRange
 pub mod Known
 pub mod Named
 pub mod SettingsFile
+pub mod Short
 pub mod Subjects

@@ -1,5 +1,5 @@
 -- Names that are not bad.
-use Rattle.std.proofs.Common.{◌≡◌, ℕ, zero, suc, ◌+◌, ◌<◌, ◌≤◌, List, [], ◌∷◌, length, map, get_or, codes, Bool, true, false, ◌&&◌, nat_le, Option, Some, None, option_and_then, Ok, Err, Bor, refl, sym, ap, true≢false, arith}
+use Rattle.std.proofs.Common.{◌≡◌, ℕ, zero, suc, ◌+◌, ◌<◌, ◌≤◌, List, [], ◌∷◌, length, map, get_or, codes, Bool, true, false, ◌&&◌, nat_le, Option, Some, None, option_and_then, Ok, Err, All, Bor, refl, sym, ap, true≢false, arith}
 use Rattle.std.proofs.lemmas.List.{get_or-map, length-map}
 use Rattle.std.proofs.lemmas.Bool.{leb-true}
 use Rattle.toml.specs.Data.{Data, as_array}
@@ -36,6 +36,10 @@ pub names_fit : (names : List (Bor (List ℕ))) (i : ℕ) (d : Bor (List ℕ)) �
 names_fit names i d h within =
     let is = all_names 1 (map (λ s. s.now) names) i d.now h (simp length-map within) in
     short _ (rw (get_or-map (λ s. s.now) names i d d.now within) at is)
+
+-- and so have all of the names
+pub names_short : (names : List (List ℕ)) → first_bad 1 names ≡ None → All (λ name. length name ≤ 32) names
+names_short names h i d within = short _ (all_names 1 names i d h within)
 
 counted : (o : Option (List (List ℕ))) (xs : List (List ℕ)) → option_and_then if_counted o ≡ Some xs → length xs ≤ 1000
 counted None xs h = let bad : None ≡ Some xs = h in cc

@@ -1,8 +1,11 @@
 pub mod Tree
 pub mod Table
 pub mod InForce
+pub mod Found
 pub mod Names
 pub mod Commands
+pub mod ByGroup
+pub mod Gathered
 pub mod Subjects
 pub mod Refusals
 pub mod SettingsView

@@ -4,60 +4,68 @@ ghost use Rattle.std.specs.Prelude.{◌≡◌};
 ghost use Rattle.std.specs.List.{find};
 ghost use Rattle.toml.specs.View.{view};
 ghost use Rattle.bh_props.specs.InForce.{in_force};
-ghost use Rattle.bh_props.specs.Refusals.{is_at_fault, first_at_fault, has_whole_buckets, refusal, checked_values, checked_windows, number};
+ghost use Rattle.bh_props.specs.Found.{AreFound, IsFound};
+ghost use Rattle.bh_props.specs.Subjects.{properties_of};
+ghost use Rattle.bh_props.specs.Refusals.{is_at_fault, has_whole_buckets, refusal, checked_values, checked_windows, number};
 
 use crate::error::SettingsError;
-use crate::in_force::in_force;
+use crate::in_force::{Given, Sections};
 use crate::property::Property;
-use crate::subject::Subject;
+use crate::subject::{Scope, Subject};
 use crate::value::{Fault, PropertyValue};
 use bh_base::Text;
-use toml::Value;
 
 /// Refuses the first value in force that has the fault: by subjects in their order, then by properties.
 pub(crate) fn check_values(
-    root: &Value,
+    sections: &Sections,
     fault: Fault,
     subjects: &[Subject],
 ) -> Result<(), SettingsError>
-    ensures { result ≡ checked_values fault (view root.now) subjects.now }
+    requires { AreFound sections.now }
+    ensures { result ≡ checked_values fault (view sections.now.root.now) subjects.now }
 {
     for subject in subjects {
-        if let Some(property) = first_at_fault(root, fault, *subject) {
+        if let Some(property) = first_at_fault(
+            sections,
+            fault,
+            subject.name.as_str(),
+            subject.scope,
+        ) {
             return Err(refusal(fault, subject.name, property));
         }
     }
     Ok(())
 }
 
-/// The first property of a subject whose value in force has the fault.
-fn first_at_fault(root: &Value, fault: Fault, subject: Subject) -> Option<Property>
-    ensures { result ≡ first_at_fault fault (view root.now) subject }
+/// The first property of a subject of the name and the scope whose value in force has the fault.
+fn first_at_fault(sections: &Sections, fault: Fault, name: &str, scope: Scope) -> Option<Property>
+    requires { AreFound sections.now }
+    ensures { result ≡ find (is_at_fault fault name.now (view sections.now.root.now)) (properties_of scope) }
 {
-    first_of(
-        root,
-        fault,
-        subject.name.as_str(),
-        subject.scope.properties(),
-    )
+    let given = sections.named(name);
+    first_of(&given, fault, scope.properties())
 }
 
 /// The first of the properties whose value in force has the fault.
-fn first_of(root: &Value, fault: Fault, name: &str, properties: &[Property]) -> Option<Property>
-    ensures { result ≡ find (is_at_fault fault name.now (view root.now)) properties.now }
+fn first_of(given: &Given, fault: Fault, properties: &[Property]) -> Option<Property>
+    requires { IsFound given.now }
+    ensures { result ≡ find (is_at_fault fault given.now.name.now (view given.now.sections.root.now)) properties.now }
 {
-    properties
-        .iter()
-        .copied()
-        .find(|property| is_at_fault(root, fault, name, *property))
+    for property in properties {
+        if is_at_fault(given, fault, *property) {
+            return Some(*property);
+        }
+    }
+    None
 }
 
 /// Whether the property's value in force has the fault.
-fn is_at_fault(root: &Value, fault: Fault, name: &str, property: Property) -> bool
-    ensures { result ≡ is_at_fault fault name.now (view root.now) property }
+fn is_at_fault(given: &Given, fault: Fault, property: Property) -> bool
+    requires { IsFound given.now }
+    ensures { result ≡ is_at_fault fault given.now.name.now (view given.now.sections.root.now) property }
 {
     matches!(
-        (in_force(root, property, name), fault),
+        (given.in_force(property), fault),
         (Err(Fault::WrongType), Fault::WrongType) | (Err(Fault::OutOfRange), Fault::OutOfRange)
     )
 }
@@ -73,11 +81,12 @@ fn refusal(fault: Fault, name: Text<32>, property: Property) -> SettingsError
 }
 
 /// Refuses the first subject whose window is not a multiple of its buckets.
-pub(crate) fn check_windows(root: &Value, subjects: &[Subject]) -> Result<(), SettingsError>
-    ensures { result ≡ checked_windows (view root.now) subjects.now }
+pub(crate) fn check_windows(sections: &Sections, subjects: &[Subject]) -> Result<(), SettingsError>
+    requires { AreFound sections.now }
+    ensures { result ≡ checked_windows (view sections.now.root.now) subjects.now }
 {
     for subject in subjects {
-        if !has_whole_buckets(root, subject.name.as_str()) {
+        if !has_whole_buckets(sections, subject.name.as_str()) {
             return Err(SettingsError::NotMultiple { name: subject.name });
         }
     }
@@ -85,20 +94,25 @@ pub(crate) fn check_windows(root: &Value, subjects: &[Subject]) -> Result<(), Se
 }
 
 /// Whether the window in force is a multiple of the buckets.
-fn has_whole_buckets(root: &Value, name: &str) -> bool
-    ensures { result ≡ has_whole_buckets name.now (view root.now) }
+fn has_whole_buckets(sections: &Sections, name: &str) -> bool
+    requires { AreFound sections.now }
+    ensures { result ≡ has_whole_buckets name.now (view sections.now.root.now) }
 {
-    let window = number_in_force(root, Property::Window, name);
-    let buckets = number_in_force(root, Property::Buckets, name);
+    let given = sections.named(name);
+    let window = given.number(Property::Window);
+    let buckets = given.number(Property::Buckets);
     window.is_multiple_of(buckets)
 }
 
-/// The number in force of a property that is a number and has no fault.
-pub(crate) fn number_in_force(root: &Value, property: Property, name: &str) -> u64
-    ensures { result ≡ number (in_force property name.now (view root.now)) }
-{
-    match in_force(root, property, name) {
-        Ok(PropertyValue::Number(n)) => n,
-        _ => 0,
+impl Given<'_> {
+    /// The number in force of a property that is a number and has no fault.
+    pub(crate) fn number(&self, property: Property) -> u64
+        requires { IsFound self.now }
+        ensures { result ≡ number (in_force property self.now.name.now (view self.now.sections.root.now)) }
+    {
+        match self.in_force(property) {
+            Ok(PropertyValue::Number(n)) => n,
+            _ => 0,
+        }
     }
 }

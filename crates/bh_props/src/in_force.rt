@@ -1,50 +1,129 @@
 //! The value that is in force for a group or a further command: its own, else the default one, else the built-in one.
 
-ghost use Rattle.std.specs.Prelude.{◌≡◌, option_map};
+ghost use Rattle.std.specs.Prelude.{◌≡◌, ◌∷◌, ◌++◌, [], codes, map, option_map, option_and_then};
+ghost use Rattle.toml.specs.Data.{get};
 ghost use Rattle.toml.specs.View.{view};
-ghost use Rattle.bh_props.specs.Tree.{look_up};
+ghost use Rattle.bh_props.specs.Tree.{keys_of, look_up};
 ghost use Rattle.bh_props.specs.Table.{path_of};
 ghost use Rattle.bh_props.specs.InForce.{given, in_force};
+ghost use Rattle.bh_props.specs.Found.{seen, AreFound, IsFound};
 
-use crate::look_up::look_up;
+use crate::look_up::{look_up, look_up_keys};
 use crate::property::{Place, Property};
 use crate::value::{Fault, PropertyValue};
 use toml::Value;
 
-/// The value that the file has for a property under a key.
-fn value_under<'a>(root: &'a Value, property: Property, key: &str) -> Option<&'a Value>
-    ensures { option_map (λ v. view v.now) result ≡ look_up (path_of property key.now) (view root.now) }
-{
-    let row = property.row();
-    match row.place {
-        Place::Service => look_up(root, row.name),
-        Place::ServiceGroup => look_up(root, row.name)?.get(key),
-        Place::Command => look_up(look_up(root, "hystrix.command")?.get(key)?, row.name),
-        Place::ThreadPool => look_up(look_up(root, "hystrix.threadpool")?.get(key)?, row.name),
+/// What a file has for all names, found once.
+#[derive(Clone, Copy)]
+pub(crate) struct Sections<'a> {
+    /// The whole file.
+    pub(crate) root: &'a Value,
+    /// What stands under `service.slots`.
+    slots: Option<&'a Value>,
+    /// What stands under `hystrix.command`.
+    commands: Option<&'a Value>,
+    /// What stands under `hystrix.threadpool`.
+    pools: Option<&'a Value>,
+    /// What stands under `hystrix.command.default`.
+    default_command: Option<&'a Value>,
+}
+
+/// What a file has for a group or a further command.
+#[derive(Clone, Copy)]
+pub(crate) struct Given<'a> {
+    /// What it has for all names.
+    pub(crate) sections: Sections<'a>,
+    /// The name of the group or the command.
+    pub(crate) name: &'a str,
+    /// What stands under `hystrix.command` and the name.
+    command: Option<&'a Value>,
+}
+
+impl<'a> Sections<'a> {
+    /// What the file has for all names.
+    pub(crate) fn of(root: &'a Value) -> Sections<'a>
+        ensures found { AreFound result }
+        ensures root { result.root.now ≡ root.now }
+    {
+        let commands = look_up(root, "hystrix.command");
+        Sections {
+            root,
+            slots: look_up(root, "service.slots"),
+            commands,
+            pools: look_up(root, "hystrix.threadpool"),
+            default_command: under(commands, "default"),
+        }
+    }
+
+    /// What the file has for the name.
+    pub(crate) fn named(&self, name: &'a str) -> Given<'a>
+        requires { AreFound self.now }
+        ensures found { IsFound result }
+        ensures root { result.sections.root.now ≡ self.now.root.now }
+        ensures name { result.name.now ≡ name.now }
+    {
+        Given {
+            sections: *self,
+            name,
+            command: under(self.commands, name),
+        }
     }
 }
 
-/// The value that the file has for a property of a group or a further command.
-fn given<'a>(root: &'a Value, property: Property, group: &str) -> Option<&'a Value>
-    ensures { option_map (λ v. view v.now) result ≡ given property group.now (view root.now) }
-{
-    match value_under(root, property, group) {
-        Some(value) => Some(value),
-        None => value_under(root, property, "default"),
+impl Given<'_> {
+    /// The value in force of a property, or why the file's value is refused.
+    pub(crate) fn in_force(&self, property: Property) -> Result<PropertyValue, Fault>
+        requires { IsFound self.now }
+        ensures { result ≡ in_force property self.now.name.now (view self.now.sections.root.now) }
+    {
+        let row = property.row();
+        match self.value(property) {
+            Some(value) => row.kind.read(value),
+            None => Ok(row.built_in),
+        }
+    }
+
+    /// The value that the file has for a property: the name's own, else the default one.
+    fn value(&self, property: Property) -> Option<&Value>
+        requires { IsFound self.now }
+        ensures { seen result ≡ given property self.now.name.now (view self.now.sections.root.now) }
+    {
+        match value_under(&self.sections, property, self.name, self.command) {
+            Some(value) => Some(value),
+            None => value_under(
+                &self.sections,
+                property,
+                "default",
+                self.sections.default_command,
+            ),
+        }
     }
 }
 
-/// The value in force of a property of a group or a further command, or why the file's value is refused.
-pub(crate) fn in_force(
-    root: &Value,
+/// The value that the file has for a property under a key, where `command` is what stands under `hystrix.command` and
+/// the key.
+fn value_under<'a>(
+    sections: &Sections<'a>,
     property: Property,
-    group: &str,
-) -> Result<PropertyValue, Fault>
-    ensures { result ≡ in_force property group.now (view root.now) }
+    key: &str,
+    command: Option<&'a Value>,
+) -> Option<&'a Value>
+    requires found { AreFound sections.now }
+    requires command { seen command ≡ look_up (keys_of (codes "hystrix.command") ++ key.now ∷ []) (view sections.now.root.now) }
+    ensures { seen result ≡ look_up (path_of property key.now) (view sections.now.root.now) }
 {
-    let row = property.row();
-    match given(root, property, group) {
-        Some(value) => row.kind.read(value),
-        None => Ok(row.built_in),
+    let keys = property.keys();
+    match property.row().place {
+        Place::Service => look_up_keys(sections.root, keys),
+        Place::ServiceGroup => under(sections.slots, key),
+        Place::Command => look_up_keys(command?, keys),
+        Place::ThreadPool => look_up_keys(under(sections.pools, key)?, keys),
     }
+}
+
+/// The value under the key.
+fn under<'a>(value: Option<&'a Value>, key: &str) -> Option<&'a Value>
+    ensures { seen result ≡ option_and_then (get key.now) (seen value.entry) }
+{
+    value?.get(key)
 }

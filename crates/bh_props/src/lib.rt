@@ -2,6 +2,7 @@
 //! (Hystrix wiki, "Configuration").
 #![tactic(auto)]
 
+mod by_group;
 mod check;
 mod commands;
 mod error;

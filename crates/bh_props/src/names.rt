@@ -1,20 +1,54 @@
 //! The names of the groups.
 
-ghost use Rattle.std.specs.Prelude.{◌≡◌, ◌≢◌, ◌<◌, ◌≤◌, ◌^◌, ◌+◌, ℕ, List, [], ◌∷◌, ◌++◌, Ok, Err, Some, map, option_map, length, IfOk, IfErr};
+ghost use Rattle.std.specs.Prelude.{◌≡◌, ◌≢◌, ◌<◌, ◌≤◌, ◌^◌, ◌+◌, ℕ, List, [], ◌∷◌, ◌++◌, Ok, Err, None, Some, All, map, not, option_map, length, position, IfOk, IfSome, IfErr, OnOk, IsTrue};
+ghost use Rattle.std.proofs.Props.{props};
 ghost use Rattle.std.specs.List.{list_all, list_any};
 ghost use Rattle.std.specs.Str.{bytes_eq};
 ghost use Rattle.toml.specs.View.{view, items_view};
-ghost use Rattle.bh_props.specs.Names.{texts, listed, is_name_byte, is_name, first_bad, first_twice, names_of};
+ghost use Rattle.bh_props.specs.Names.{texts, listed, is_name_byte, is_name, first_bad, first_twice, unless_twice, names_of};
 
 use crate::error::SettingsError;
 use crate::look_up::look_up;
 use bh_base::Text;
+use indexmap::IndexSet;
 use std::alloc::{AllocError, Global};
 use toml::Value;
 
+/// The names of the groups, found by their texts.
+#[derive(Drop)]
+pub(crate) struct Names {
+    /// The names in listed order.
+    pub(crate) texts: IndexSet<Text<32>>,
+    /// Each is of at most 32 bytes.
+    pub(crate) ghost short: { All (λ name. length name ≤ 32) texts.keys } by { Prim.hlevel props },
+}
+
+impl Names {
+    /// The place of the group of the name, from 0.
+    pub(crate) fn place_of(&self, name: &str) -> Option<usize>
+        ensures value { result ≡ position (λ group. bytes_eq group name.now) self.now.texts.keys }
+        ensures within { IfSome result (λ place. place < length self.now.texts.keys) }
+    {
+        match Text::new(name) {
+            Ok(text) => self.texts.get_index_of(&text),
+            Err(_) => None,
+        }
+    }
+
+    /// Whether a group has the name.
+    pub(crate) fn is_listed(&self, name: &str) -> bool
+        ensures { result ≡ list_any (λ group. bytes_eq group name.now) self.now.texts.keys }
+    {
+        match Text::new(name) {
+            Ok(text) => self.texts.contains(&text),
+            Err(_) => false,
+        }
+    }
+}
+
 /// The names of the groups in listed order, or why they are refused.
-pub(crate) fn group_names(alloc: Global, root: &Value) -> Result<Vec<Text<32>>, SettingsError>
-    ensures ok { IfOk result (λ names. names_of (view root.now) ≡ Ok names.items) }
+pub(crate) fn group_names(alloc: Global, root: &Value) -> Result<Names, SettingsError>
+    ensures ok { IfOk result (λ names. names_of (view root.now) ≡ Ok names.texts.keys) }
     ensures refused { IfErr result (λ e. e ≢ SettingsError.Memory → names_of (view root.now) ≡ Err e) }
 {
     let Some(names) = listed(alloc, root)? else {
@@ -23,10 +57,7 @@ pub(crate) fn group_names(alloc: Global, root: &Value) -> Result<Vec<Text<32>>, 
     if let Some(place) = first_bad(&names) {
         return Err(SettingsError::BadName(place));
     }
-    if let Some(place) = first_twice(&names) {
-        return Err(SettingsError::TwiceNamed(place));
-    }
-    Ok(kept(alloc, &names)?)
+    distinct(alloc, &names)
 }
 
 /// The texts that are listed as groups, where there are 1 to 1,000 and nothing else is listed.
@@ -94,39 +125,29 @@ fn first_bad(names: &[&str]) -> Option<usize>
     None
 }
 
-/// Whether the name is one of those before it.
-fn came_before(before: &[&str], name: &str) -> bool
-    ensures { result ≡ list_any (λ t. bytes_eq t name.now) (map (λ s. s.now) before.now) }
+/// The names, each kept in a text of its own, or the place, from 1, of the first that stands before it too.
+fn distinct(alloc: Global, names: &[&str]) -> Result<Names, SettingsError>
+    requires good { first_bad 1 (map (λ s. s.now) names.now) ≡ None }
+    requires few { length names.now < 2 ^ 32 }
+    ensures ok { IfOk result (λ made. unless_twice (map (λ s. s.now) names.now) (first_twice [] 1 (map (λ s. s.now) names.now)) ≡ Ok made.texts.keys) }
+    ensures refused { IfErr result (λ e. e ≢ SettingsError.Memory
+        → unless_twice (map (λ s. s.now) names.now) (first_twice [] 1 (map (λ s. s.now) names.now)) ≡ Err e) }
 {
-    for other in before {
-        if *other == name {
-            return true;
-        }
-    }
-    false
-}
-
-/// The place, from 1, of the first name that stands before it too.
-fn first_twice(names: &[&str]) -> Option<usize>
-    requires { length names.now < 2 ^ 32 }
-    ensures { result ≡ first_twice [] 1 (map (λ s. s.now) names.now) }
-{
+    let mut kept = IndexSet::new(alloc);
     for (i, name) in names.iter().enumerate() {
-        if came_before(&names[..i], *name) {
-            return Some(i + 1);
+        if !add(&mut kept, *name)? {
+            return Err(SettingsError::TwiceNamed(i + 1));
         }
     }
-    None
+    Ok(Names { texts: kept })
 }
 
-/// The names, each kept in a text of its own.
-fn kept(alloc: Global, names: &[&str]) -> Result<Vec<Text<32>>, AllocError>
-    requires { first_bad 1 (map (λ s. s.now) names.now) ≡ None }
-    ensures { IfOk result (λ kept. kept.items ≡ map (λ s. s.now) names.now) }
+/// Adds the name behind the others, where it is not one of them: it answers whether it is not.
+fn add(kept: &mut IndexSet<Text<32>>, name: &str) -> Result<bool, AllocError>
+    requires { length name.now ≤ 32 }
+    ensures is_new { IfOk result (λ is_new. is_new ≡ not (list_any (λ t. bytes_eq t name.now) kept.old.keys)) }
+    ensures added { IfOk result (λ is_new. IsTrue is_new → kept.new.keys ≡ kept.old.keys ++ name.now ∷ []) }
 {
-    let mut kept = Vec::new(alloc);
-    for name in names {
-        kept.push(Text::new(*name).unwrap())?;
-    }
-    Ok(kept)
+    let is_new = kept.insert(Text::new(name).unwrap())?;
+    Ok(is_new)
 }

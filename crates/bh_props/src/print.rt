@@ -1,13 +1,15 @@
 //! The lines that show what is in force.
 
-ghost use Rattle.std.specs.Prelude.{◌≡◌, ◌<◌, All, Some};
+ghost use Rattle.std.specs.Prelude.{◌≡◌, ◌<◌, All, Some, IfSome};
 ghost use Rattle.std.specs.List.{flat_map};
 ghost use Rattle.std.specs.Fmt.{WritesOnOk};
 ghost use Rattle.bh_base.specs.Commands.{command_count};
 ghost use Rattle.bh_props.specs.Commands.{commands_in};
+ghost use Rattle.bh_props.specs.ByGroup.{AreByGroup};
 ghost use Rattle.bh_props.specs.Printed.{value_of, property_line, lines_of, subject_lines, further_lines, number_or};
 ghost use Rattle.bh_props.specs.Shown.{settings_view};
 
+use crate::by_group::{Further, by_group};
 use crate::commands::Commands;
 use crate::property::Property;
 use crate::settings::Settings;
@@ -22,14 +24,70 @@ impl fmt::Display for Settings {
     ghost output = { λ s. Some (lines_of (settings_view s)) };
 
     fn fmt<W: fmt::Write>(&self, f: &mut fmt::Formatter<W>) -> fmt::Result {
+        let gathered = gathered(self);
         let mut place = 0;
         for (name, props) in self.groups.iter() {
             write_subject(f, Scope::Group, name.as_str(), props, 0, self.audit_steps)?;
-            write_further(f, place, props, &self.commands, self.audit_steps)?;
+            write_commands(f, place, props, &self.commands, &gathered, self.audit_steps)?;
             place += 1;
         }
         Ok(())
     }
+}
+
+/// The further commands by their groups, where there is memory for such lists.
+fn gathered(settings: &Settings) -> Option<Vec<Vec<Further>>>
+    ensures { IfSome result (λ lists. AreByGroup settings.now.commands.entries lists.items) }
+{
+    let alloc = *settings.groups.allocator();
+    match by_group(alloc, settings.groups.len(), &settings.commands) {
+        Ok(lists) => Some(lists),
+        Err(_) => None,
+    }
+}
+
+/// Writes the lines of the further commands of the group at the place. Where they are not gathered, they are sought
+/// among all.
+fn write_commands<W: fmt::Write>(
+    f: &mut fmt::Formatter<W>,
+    place: usize,
+    props: &GroupProps,
+    commands: &Commands,
+    gathered: &Option<Vec<Vec<Further>>>,
+    audit_steps: Option<u64>,
+) -> fmt::Result
+    requires known { All (λ c. c.1.0 ≡ place → c.1.1 < command_count props.now) commands.now.entries }
+    requires gathered { IfSome gathered.now (λ lists. AreByGroup commands.now.entries lists.items) }
+    ensures { WritesOnOk W.write_str_gives f.old result
+        (further_lines audit_steps props.now (commands_in place commands.now.entries)) f.new }
+{
+    match gathered {
+        Some(lists) if place < lists.len() => write_listed(f, props, &lists[place], audit_steps),
+        _ => write_further(f, place, props, commands, audit_steps),
+    }
+}
+
+/// Writes the lines of the further commands of a group.
+fn write_listed<W: fmt::Write>(
+    f: &mut fmt::Formatter<W>,
+    props: &GroupProps,
+    further: &[Further],
+    audit_steps: Option<u64>,
+) -> fmt::Result
+    requires { All (λ c. c.1.1 < command_count props.now) further.now }
+    ensures { WritesOnOk W.write_str_gives f.old result (further_lines audit_steps props.now further.now) f.new }
+{
+    for command in further {
+        write_subject(
+            f,
+            Scope::Command,
+            command.0.as_str(),
+            props,
+            command.1.1,
+            audit_steps,
+        )?;
+    }
+    Ok(())
 }
 
 /// Writes the lines of the further commands of the group at the place.

@@ -1,6 +1,7 @@
 //! The table of the properties (Hystrix wiki, "Configuration").
 
-ghost use Rattle.std.specs.Prelude.{◌≡◌, Some};
+ghost use Rattle.std.specs.Prelude.{◌≡◌, Some, map};
+ghost use Rattle.bh_props.specs.Tree.{keys_of};
 ghost use Rattle.bh_props.specs.Table.{row, row_of_code, a_row, whole};
 
 use crate::value::{Kind, MOST, PropertyValue};
@@ -145,6 +146,44 @@ impl Property {
             Property::QueueThreshold => whole("queueSizeRejectionThreshold", 5).at(
                 Place::ThreadPool,
             ),
+        }
+    }
+    /// The parts of the property's dotted name.
+    pub(crate) fn keys(self) -> &'static [&'static str]
+        ensures { map (λ s. s.now) result.now ≡ keys_of (row self).name }
+    {
+        match self {
+            Property::AuditSteps => &["service", "auditSteps"],
+            Property::Slots => &["service", "slots"],
+            Property::Strategy => &["execution", "isolation", "strategy"],
+            Property::Timeout => &["execution", "isolation", "thread", "timeoutInMilliseconds"],
+            Property::TimeoutOn => &["execution", "timeout", "enabled"],
+            Property::Semaphore => &[
+                "execution",
+                "isolation",
+                "semaphore",
+                "maxConcurrentRequests",
+            ],
+            Property::FallbackPermits => &[
+                "fallback",
+                "isolation",
+                "semaphore",
+                "maxConcurrentRequests",
+            ],
+            Property::FallbackOn => &["fallback", "enabled"],
+            Property::CircuitOn => &["circuitBreaker", "enabled"],
+            Property::Volume => &["circuitBreaker", "requestVolumeThreshold"],
+            Property::SleepWindow => &["circuitBreaker", "sleepWindowInMilliseconds"],
+            Property::ErrorPercent => &["circuitBreaker", "errorThresholdPercentage"],
+            Property::ForceOpen => &["circuitBreaker", "forceOpen"],
+            Property::ForceClosed => &["circuitBreaker", "forceClosed"],
+            Property::Window => &["metrics", "rollingStats", "timeInMilliseconds"],
+            Property::Buckets => &["metrics", "rollingStats", "numBuckets"],
+            Property::HealthInterval => &["metrics", "healthSnapshot", "intervalInMilliseconds"],
+            Property::CacheOn => &["requestCache", "enabled"],
+            Property::CoreSize => &["coreSize"],
+            Property::MaxQueue => &["maxQueueSize"],
+            Property::QueueThreshold => &["queueSizeRejectionThreshold"],
         }
     }
 }

@@ -9,12 +9,12 @@ ghost use Rattle.bh_props.specs.Shown.{settings_view};
 use crate::check::{check_values, check_windows};
 use crate::commands::further_commands;
 use crate::error::SettingsError;
-use crate::names::group_names;
+use crate::in_force::Sections;
+use crate::names::{Names, group_names};
 use crate::service::check_service;
 use crate::settings::{Settings, audit_steps_in_force, groups_in_force};
 use crate::subject::subjects;
 use crate::value::Fault;
-use bh_base::Text;
 use std::alloc::Global;
 use toml::Value;
 
@@ -45,22 +45,23 @@ fn read_tree(alloc: Global, root: &Value) -> Result<Settings, SettingsError>
 }
 
 /// The settings of a parsed file whose groups are known.
-fn read_groups(alloc: Global, root: &Value, names: &[Text<32>]) -> Result<Settings, SettingsError>
-    requires distinct { first_twice [] 1 names.now ≡ None }
-    requires few { length names.now ≤ 1000 }
-    ensures ok { IfOk result (λ s. settings_of_groups (view root.now) names.now ≡ Ok (settings_view s)) }
+fn read_groups(alloc: Global, root: &Value, names: &Names) -> Result<Settings, SettingsError>
+    requires distinct { first_twice [] 1 names.now.texts.keys ≡ None }
+    requires few { length names.now.texts.keys ≤ 1000 }
+    ensures ok { IfOk result (λ s. settings_of_groups (view root.now) names.now.texts.keys ≡ Ok (settings_view s)) }
     ensures refused { IfErr result (λ e. e ≢ SettingsError.Memory
-        → settings_of_groups (view root.now) names.now ≡ Err e) }
+        → settings_of_groups (view root.now) names.now.texts.keys ≡ Err e) }
 {
     check_service(root, names)?;
     let commands = further_commands(alloc, root, names)?;
-    let subjects = subjects(alloc, names, &commands)?;
-    check_values(root, Fault::WrongType, &subjects)?;
-    check_values(root, Fault::OutOfRange, &subjects)?;
-    check_windows(root, &subjects)?;
+    let subjects = subjects(alloc, names.texts.as_slice(), &commands)?;
+    let sections = Sections::of(root);
+    check_values(&sections, Fault::WrongType, &subjects)?;
+    check_values(&sections, Fault::OutOfRange, &subjects)?;
+    check_windows(&sections, &subjects)?;
     Ok(Settings {
-        groups: groups_in_force(alloc, root, names, &commands)?,
-        audit_steps: audit_steps_in_force(root),
+        groups: groups_in_force(alloc, &sections, names.texts.as_slice(), &commands)?,
+        audit_steps: audit_steps_in_force(&sections),
         commands,
     })
 }

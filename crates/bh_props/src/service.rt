@@ -1,20 +1,18 @@
 //! What stands under `service`.
 
 ghost use Rattle.std.specs.Prelude.{◌≡◌, string_bytes};
-ghost use Rattle.std.specs.List.{list_any};
-ghost use Rattle.std.specs.Str.{bytes_eq};
 ghost use Rattle.toml.specs.View.{view, table_view};
 ghost use Rattle.bh_props.specs.Tree.{all_members};
 ghost use Rattle.bh_props.specs.Refusals.{is_key, has_keys, is_table, is_service_member, checked_service};
 
 use crate::error::SettingsError;
-use bh_base::Text;
+use crate::names::Names;
 use toml::{Table, Value};
 
 /// Refuses a key under `service` that is not known, slots of something else than `default` or a group, and a `command`
 /// that is no table.
-pub(crate) fn check_service(root: &Value, names: &[Text<32>]) -> Result<(), SettingsError>
-    ensures { result ≡ checked_service names.now (view root.now) }
+pub(crate) fn check_service(root: &Value, names: &Names) -> Result<(), SettingsError>
+    ensures { result ≡ checked_service names.now.texts.keys (view root.now) }
 {
     match root.get("service") {
         Some(Value::Table(service)) if has_known_members(service, names) => Ok(()),
@@ -23,8 +21,8 @@ pub(crate) fn check_service(root: &Value, names: &[Text<32>]) -> Result<(), Sett
 }
 
 /// Whether each member of `service` is known.
-fn has_known_members(service: &Table, names: &[Text<32>]) -> bool
-    ensures { result ≡ all_members (is_service_member names.now) (table_view service.now) }
+fn has_known_members(service: &Table, names: &Names) -> bool
+    ensures { result ≡ all_members (is_service_member names.now.texts.keys) (table_view service.now) }
 {
     for (key, value) in service.iter() {
         if !is_known_member(key.as_str(), value, names) {
@@ -35,8 +33,8 @@ fn has_known_members(service: &Table, names: &[Text<32>]) -> bool
 }
 
 /// Whether the member may stand under `service`.
-fn is_known_member(key: &str, value: &Value, names: &[Text<32>]) -> bool
-    ensures { result ≡ is_service_member names.now key.now (view value.now) }
+fn is_known_member(key: &str, value: &Value, names: &Names) -> bool
+    ensures { result ≡ is_service_member names.now.texts.keys key.now (view value.now) }
 {
     match key {
         "groups" | "auditSteps" => true,
@@ -47,8 +45,8 @@ fn is_known_member(key: &str, value: &Value, names: &[Text<32>]) -> bool
 }
 
 /// Whether it is a table of slots by `default` and groups.
-fn has_group_keys(slots: &Value, names: &[Text<32>]) -> bool
-    ensures { result ≡ has_keys names.now (view slots.now) }
+fn has_group_keys(slots: &Value, names: &Names) -> bool
+    ensures { result ≡ has_keys names.now.texts.keys (view slots.now) }
 {
     match slots {
         Value::Table(table) => are_group_keys(table, names),
@@ -57,8 +55,8 @@ fn has_group_keys(slots: &Value, names: &[Text<32>]) -> bool
 }
 
 /// Whether each key is `default` or a group.
-fn are_group_keys(table: &Table, names: &[Text<32>]) -> bool
-    ensures { result ≡ all_members (λ key d. is_key names.now key) (table_view table.now) }
+fn are_group_keys(table: &Table, names: &Names) -> bool
+    ensures { result ≡ all_members (λ key d. is_key names.now.texts.keys key) (table_view table.now) }
 {
     for (key, _value) in table.iter() {
         if !is_group_key(key.as_str(), names) {
@@ -69,18 +67,11 @@ fn are_group_keys(table: &Table, names: &[Text<32>]) -> bool
 }
 
 /// Whether the key is `default` or a group.
-fn is_group_key(key: &str, names: &[Text<32>]) -> bool
-    ensures { result ≡ is_key names.now key.now }
+fn is_group_key(key: &str, names: &Names) -> bool
+    ensures { result ≡ is_key names.now.texts.keys key.now }
 {
     match key {
         "default" => true,
-        _ => is_listed(key, names),
+        _ => names.is_listed(key),
     }
-}
-
-/// Whether the key is the name of a group.
-pub(crate) fn is_listed(key: &str, names: &[Text<32>]) -> bool
-    ensures { result ≡ list_any (λ name. bytes_eq name key.now) names.now }
-{
-    names.iter().any(|name| name.as_str() == key)
 }

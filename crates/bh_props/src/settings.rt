@@ -1,23 +1,23 @@
 //! The settings of a file that nothing refuses.
 
-ghost use Rattle.std.specs.Prelude.{◌≡◌, ◌≤◌, [], None, length, All, IfOk, IfSome};
+ghost use Rattle.std.specs.Prelude.{◌≡◌, ◌≤◌, [], ◌∷◌, None, length, map, All, IfOk, IfSome};
 ghost use Rattle.std.proofs.Props.{props};
 ghost use Rattle.toml.specs.View.{view};
 ghost use Rattle.bh_base.specs.Commands.{each_from};
 ghost use Rattle.bh_base.specs.Ranges.{IsInRange, IsQueueLength-prop};
 ghost use Rattle.bh_props.specs.InForce.{in_force};
+ghost use Rattle.bh_props.specs.Found.{AreFound, IsFound};
 ghost use Rattle.bh_props.specs.Names.{first_twice};
-ghost use Rattle.bh_props.specs.Settings.{IsAuditLimit, IsFurther, truth, strategy, optional_number, props_of, command_in_force, commands_in_force, group_in_force};
+ghost use Rattle.bh_props.specs.Settings.{IsAuditLimit, IsFurther, truth, strategy, optional_number, props_of, command_in_force, group_in_force};
 
-use crate::check::number_in_force;
+use crate::by_group::{Further, by_group};
 use crate::commands::Commands;
-use crate::in_force::in_force;
+use crate::in_force::{Given, Sections};
 use crate::property::Property;
 use crate::value::PropertyValue;
 use bh_base::{CommandProps, GroupProps, Strategy, Text};
 use indexmap::IndexMap;
 use std::alloc::{AllocError, Global};
-use toml::Value;
 
 /// The settings of a service. Each number is in its range.
 #[derive(Debug, Drop)]
@@ -41,112 +41,124 @@ pub struct Settings {
 /// The groups in listed order, each with its properties in force.
 pub(crate) fn groups_in_force(
     alloc: Global,
-    root: &Value,
+    sections: &Sections,
     names: &[Text<32>],
     commands: &Commands,
 ) -> Result<IndexMap<Text<32>, GroupProps>, AllocError>
+    requires found { AreFound sections.now }
     requires distinct { first_twice [] 1 names.now ≡ None }
     requires few { length names.now ≤ 1000 }
     ensures { IfOk result (λ groups.
-        groups.entries ≡ each_from 0 (group_in_force (view root.now) commands.now.entries) names.now) }
+        groups.entries ≡ each_from 0 (group_in_force (view sections.now.root.now) commands.now.entries) names.now) }
 {
+    let further = by_group(alloc, names.len(), commands)?;
     let mut groups = IndexMap::new(alloc);
     for (place, name) in names.iter().enumerate() {
-        let own = commands_in_force(alloc, root, name.as_str(), commands, place as u32)?;
-        groups.insert(*name, props_in_force(root, name.as_str(), own))?;
+        let own = commands_in_force(alloc, sections, name.as_str(), &further[place])?;
+        groups.insert(*name, props_in_force(sections, name.as_str(), own))?;
     }
     Ok(groups)
 }
 
-/// The properties of the commands of the group at the place, by their numbers: its own, then its further ones.
+/// The properties of the commands of a group, by their numbers: its own, then its further ones.
 fn commands_in_force(
     alloc: Global,
-    root: &Value,
+    sections: &Sections,
     group: &str,
-    commands: &Commands,
-    place: u32,
+    further: &[Further],
 ) -> Result<Vec<CommandProps>, AllocError>
-    ensures { IfOk result (λ own. own.items ≡ commands_in_force (view root.now) commands.now.entries place group.now) }
+    requires { AreFound sections.now }
+    ensures { IfOk result (λ own. own.items
+        ≡ command_in_force (view sections.now.root.now) group.now ∷ map (λ c. command_in_force (view sections.now.root.now) c.0) further.now) }
 {
-    let mut own = vec![in alloc; command_in_force(root, group)]?;
-    for (name, command) in commands.iter() {
-        if command.0 == place {
-            own.push(command_in_force(root, name.as_str()))?;
-        }
+    let mut own = Vec::with_capacity(alloc, further.len() + 1)?;
+    own.push(command_in_force(sections, group))?;
+    for command in further {
+        own.push(command_in_force(sections, command.0.as_str()))?;
     }
     Ok(own)
 }
 
 /// The limit of audited steps.
-pub(crate) fn audit_steps_in_force(root: &Value) -> Option<u64>
-    ensures { result ≡ optional_number (in_force Property.AuditSteps [] (view root.now)) }
+pub(crate) fn audit_steps_in_force(sections: &Sections) -> Option<u64>
+    requires { AreFound sections.now }
+    ensures { result ≡ optional_number (in_force Property.AuditSteps [] (view sections.now.root.now)) }
 {
-    optional_number_in_force(root, Property::AuditSteps, "")
+    sections.named("").optional_number(Property::AuditSteps)
 }
 
 /// The properties of a group with these commands, each by the value in force.
-fn props_in_force(root: &Value, group: &str, commands: Vec<CommandProps>) -> GroupProps
-    ensures { result ≡ props_of commands.items (λ p. in_force p group.now (view root.now)) }
+fn props_in_force(sections: &Sections, group: &str, commands: Vec<CommandProps>) -> GroupProps
+    requires { AreFound sections.now }
+    ensures { result ≡ props_of commands.items (λ p. in_force p group.now (view sections.now.root.now)) }
 {
+    let given = sections.named(group);
     GroupProps {
-        slots: number_in_force(root, Property::Slots, group),
-        core: number_in_force(root, Property::CoreSize, group),
-        max_queue: optional_number_in_force(root, Property::MaxQueue, group),
-        queue_threshold: number_in_force(root, Property::QueueThreshold, group),
+        slots: given.number(Property::Slots),
+        core: given.number(Property::CoreSize),
+        max_queue: given.optional_number(Property::MaxQueue),
+        queue_threshold: given.number(Property::QueueThreshold),
         commands,
     }
 }
 
 /// The properties of a command, each by the value in force.
-fn command_in_force(root: &Value, name: &str) -> CommandProps
-    ensures { result ≡ command_in_force (view root.now) name.now }
+fn command_in_force(sections: &Sections, name: &str) -> CommandProps
+    requires { AreFound sections.now }
+    ensures { result ≡ command_in_force (view sections.now.root.now) name.now }
 {
+    let given = sections.named(name);
     CommandProps {
-        strategy: strategy_in_force(root, name),
-        timeout_ms: number_in_force(root, Property::Timeout, name),
-        timeout_on: truth_in_force(root, Property::TimeoutOn, name),
-        semaphore: number_in_force(root, Property::Semaphore, name),
-        fallback_permits: number_in_force(root, Property::FallbackPermits, name),
-        fallback_on: truth_in_force(root, Property::FallbackOn, name),
-        circuit_on: truth_in_force(root, Property::CircuitOn, name),
-        volume: number_in_force(root, Property::Volume, name),
-        sleep_ms: number_in_force(root, Property::SleepWindow, name),
-        percent: number_in_force(root, Property::ErrorPercent, name),
-        force_open: truth_in_force(root, Property::ForceOpen, name),
-        force_closed: truth_in_force(root, Property::ForceClosed, name),
-        window_ms: number_in_force(root, Property::Window, name),
-        buckets: number_in_force(root, Property::Buckets, name),
-        health_ms: number_in_force(root, Property::HealthInterval, name),
-        cache_on: truth_in_force(root, Property::CacheOn, name),
+        strategy: given.strategy(),
+        timeout_ms: given.number(Property::Timeout),
+        timeout_on: given.truth(Property::TimeoutOn),
+        semaphore: given.number(Property::Semaphore),
+        fallback_permits: given.number(Property::FallbackPermits),
+        fallback_on: given.truth(Property::FallbackOn),
+        circuit_on: given.truth(Property::CircuitOn),
+        volume: given.number(Property::Volume),
+        sleep_ms: given.number(Property::SleepWindow),
+        percent: given.number(Property::ErrorPercent),
+        force_open: given.truth(Property::ForceOpen),
+        force_closed: given.truth(Property::ForceClosed),
+        window_ms: given.number(Property::Window),
+        buckets: given.number(Property::Buckets),
+        health_ms: given.number(Property::HealthInterval),
+        cache_on: given.truth(Property::CacheOn),
     }
 }
 
-/// The truth value in force of a property that is one and has no fault.
-fn truth_in_force(root: &Value, property: Property, name: &str) -> bool
-    ensures { result ≡ truth (in_force property name.now (view root.now)) }
-{
-    match in_force(root, property, name) {
-        Ok(PropertyValue::Truth(b)) => b,
-        _ => false,
+impl Given<'_> {
+    /// The truth value in force of a property that is one and has no fault.
+    fn truth(&self, property: Property) -> bool
+        requires { IsFound self.now }
+        ensures { result ≡ truth (in_force property self.now.name.now (view self.now.sections.root.now)) }
+    {
+        match self.in_force(property) {
+            Ok(PropertyValue::Truth(b)) => b,
+            _ => false,
+        }
     }
-}
 
-/// The strategy in force.
-fn strategy_in_force(root: &Value, name: &str) -> Strategy
-    ensures { result ≡ strategy (in_force Property.Strategy name.now (view root.now)) }
-{
-    match in_force(root, Property::Strategy, name) {
-        Ok(PropertyValue::Strategy(strategy)) => strategy,
-        _ => Strategy::Thread,
+    /// The strategy in force.
+    fn strategy(&self) -> Strategy
+        requires { IsFound self.now }
+        ensures { result ≡ strategy (in_force Property.Strategy self.now.name.now (view self.now.sections.root.now)) }
+    {
+        match self.in_force(Property::Strategy) {
+            Ok(PropertyValue::Strategy(strategy)) => strategy,
+            _ => Strategy::Thread,
+        }
     }
-}
 
-/// The number in force of a property that may be left out.
-fn optional_number_in_force(root: &Value, property: Property, name: &str) -> Option<u64>
-    ensures { result ≡ optional_number (in_force property name.now (view root.now)) }
-{
-    match in_force(root, property, name) {
-        Ok(PropertyValue::Number(n)) => Some(n),
-        _ => None,
+    /// The number in force of a property that may be left out.
+    fn optional_number(&self, property: Property) -> Option<u64>
+        requires { IsFound self.now }
+        ensures { result ≡ optional_number (in_force property self.now.name.now (view self.now.sections.root.now)) }
+    {
+        match self.in_force(property) {
+            Ok(PropertyValue::Number(n)) => Some(n),
+            _ => None,
+        }
     }
 }

@@ -1,9 +1,9 @@
 //! Whose properties are checked and shown: each group, and behind it its further commands.
 
 ghost use Rattle.std.specs.Prelude.{◌≡◌, ◌≤◌, ◌^◌, ◌++◌, length, map, IfOk, OnOk};
-ghost use Rattle.bh_props.specs.Commands.{commands_in};
 ghost use Rattle.bh_props.specs.Subjects.{properties_of, a_group, a_command, subjects};
 
+use crate::by_group::{Further, by_group};
 use crate::commands::Commands;
 use crate::property::Property;
 use bh_base::Text;
@@ -45,36 +45,29 @@ pub(crate) fn subjects(
     names: &[Text<32>],
     commands: &Commands,
 ) -> Result<Vec<Subject>, AllocError>
-    requires { length names.now ≤ 1000 }
     ensures { IfOk result (λ made. made.items ≡ subjects names.now commands.now.entries) }
 {
+    let further = by_group(alloc, names.len(), commands)?;
     let mut subjects = Vec::new(alloc);
     for (place, name) in names.iter().enumerate() {
         subjects.push(Subject {
             name: *name,
             scope: Scope::Group,
         })?;
-        push_further(&mut subjects, commands, place as u32)?;
+        push_further(&mut subjects, &further[place])?;
     }
     Ok(subjects)
 }
 
-/// Adds the further commands of the group at the place.
-fn push_further(
-    subjects: &mut Vec<Subject>,
-    commands: &Commands,
-    place: u32,
-) -> Result<(), AllocError>
-    ensures { OnOk result (subjects.new.items
-        ≡ subjects.old.items ++ map (λ c. a_command c.0) (commands_in place commands.now.entries)) }
+/// Adds the further commands of a group.
+fn push_further(subjects: &mut Vec<Subject>, further: &[Further]) -> Result<(), AllocError>
+    ensures { OnOk result (subjects.new.items ≡ subjects.old.items ++ map (λ c. a_command c.0) further.now) }
 {
-    for (name, command) in commands.iter() {
-        if command.0 == place {
-            subjects.push(Subject {
-                name: *name,
-                scope: Scope::Command,
-            })?;
-        }
+    for command in further {
+        subjects.push(Subject {
+            name: command.0,
+            scope: Scope::Command,
+        })?;
     }
     Ok(())
 }

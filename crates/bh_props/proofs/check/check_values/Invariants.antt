@@ -5,4 +5,4 @@ use Rattle.bh_props.proofs.check.check_values.Given as goal
 
 abbrev pub invariant-loop-subject : goal.invariant-loop-subject
 invariant-loop-subject l =
-    checked_values l.fault (view l.root) (drop l.subject-index l.subjects) ≡ checked_values l.fault (view l.root) l.subjects
+    checked_values l.fault (view l.sections.root.now) (drop l.subject-index l.subjects) ≡ checked_values l.fault (view l.sections.root.now) l.subjects

@@ -1,10 +1,8 @@
-use Rattle.std.proofs.Common.{◌≡◌, ◌++◌, map}
+use Rattle.std.proofs.Common.{◌≡◌, ◌∷◌, map, take}
 use Rattle.toml.specs.View.{view}
-use Rattle.bh_props.specs.Commands.{commands_in}
-use Rattle.bh_props.specs.Settings.{command_in_force, commands_in_force}
+use Rattle.bh_props.specs.Settings.{command_in_force}
 use Rattle.bh_props.proofs.settings.commands_in_force.Given as goal
 
-abbrev pub invariant-loop-name : goal.invariant-loop-name
-invariant-loop-name l =
-    l.own.items ++ map (λ c. command_in_force (view l.root) c.0) (commands_in l.place l.name-iterator)
-    ≡ commands_in_force (view l.root) l.commands.entries l.place l.group
+abbrev pub invariant-loop-command : goal.invariant-loop-command
+invariant-loop-command l =
+    l.own.items ≡ command_in_force (view l.sections.root.now) l.group ∷ map (λ c. command_in_force (view l.sections.root.now) c.0) (take l.command-index l.further)

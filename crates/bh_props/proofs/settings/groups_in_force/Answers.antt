@@ -1,11 +1,12 @@
-use Rattle.std.proofs.Common.{◌≡◌, ◌∙◌, ap, List, ℕ}
+use Rattle.std.proofs.Common.{◌≡◌, ◌∙◌, ◌∷◌, ap, List, ℕ, length, map}
 use Rattle.toml.specs.Data.{Data}
 use Rattle.toml.specs.View.{view}
 use Rattle.bh_base.specs.Props.{GroupProps}
 use Rattle.bh_base.specs.declared.props.CommandProps.{CommandProps}
 use Rattle.bh_props.specs.Commands.{Commands}
 use Rattle.bh_props.specs.InForce.{in_force}
-use Rattle.bh_props.specs.Settings.{props_in_force, props_of, commands_in_force}
+use Rattle.bh_props.specs.Settings.{command_in_force, props_in_force, props_of, commands_in_force}
+use Rattle.bh_props.proofs.ByGroup.{list-at}
 use Rattle.bh_props.proofs.Groups.{insert_entry-next}
 use Rattle.bh_props.proofs.settings.groups_in_force.Goals as goal
 
@@ -17,8 +18,12 @@ props-made d cs place name s t own made same_s same_t are is =
 
 pub loop-place-preserved : goal.loop-place-preserved
 loop-place-preserved c =
-    let d : Data = view c.args.root.now in
+    let d : Data = view c.args.sections.now.root.now in
+    let further = list-at c.args.commands.now.entries c.in_ok-further.further.items (length c.args.names.now) c.loop-place.place c.index.result.now c.deref.result.now
+    c.in_ok-further.ensures.further c.in_ok-further.ensures.groups c.loop-place-test.true c.index.ensures c.deref.ensures.value in
     insert_entry-next (props_in_force d c.args.commands.now.entries) _ _ _ _ _ _ c.requires.distinct c.loop-place-test.true c.index-names-place.is
     c.loop-place.invariant
-    (props-made d c.args.commands.now.entries c.loop-place.place _ _ _ _ _ c.as_str.ensures.text c.as_str-in-loop-place.ensures.text c.in_ok-own.ensures c.props_in_force.ensures)
+    (props-made d c.args.commands.now.entries c.loop-place.place _ _ _ _ _ c.as_str.ensures.text c.as_str-in-loop-place.ensures.text
+    (c.in_ok-own.ensures ∙ ap (λ (some : Commands). command_in_force d c.as_str.result.now ∷ map (λ x. command_in_force d x.0) some) further)
+    c.props_in_force.ensures)
     c.in_ok-insert.ensures.entries

@@ -6,4 +6,4 @@ use Rattle.bh_props.proofs.settings.groups_in_force.Given as goal
 
 abbrev pub invariant-loop-place : goal.invariant-loop-place
 invariant-loop-place l =
-    l.groups.entries ≡ each_from 0 (group_in_force (view l.root) l.commands.entries) (take l.place l.names)
+    l.groups.entries ≡ each_from 0 (group_in_force (view l.sections.root.now) l.commands.entries) (take l.place l.names)

@@ -11,9 +11,9 @@ use Rattle.bh_props.proofs.print.SettingsDisplay.fmt.Goals as goal
 grown : (done : List (List ℕ × GroupProps)) (e : List ℕ × GroupProps) (place : ℕ) → place ≡ length done → place + 1 ≡ length (done ++ e ∷ [])
 grown done e place at = omega (arith, length-append done (e ∷ []))
 
-pub write_further-requires : goal.write_further-requires
-write_further-requires g c =
-    let (done, whole, at, written) = c.loop-name.invariant in
+pub write_commands-requires-clause-known : goal.write_commands-requires-clause-known
+write_commands-requires-clause-known g c =
+    let (done, whole, at, gathered, written) = c.loop-name.invariant in
     let e : List ℕ × GroupProps = (c.in-Some.name.now, c.in-Some.props.now) in
     let iter : c.loop-name.name-iterator ≡ e ∷ c.next.new.self = grind (arith, common_steps) in
     λ k d within is.
@@ -27,14 +27,15 @@ write_further-requires g c =
 
 pub loop-name-preserved : goal.loop-name-preserved
 loop-name-preserved g c =
-    let (done, whole, at, written) = c.loop-name.invariant in
+    let (done, whole, at, gathered, written) = c.loop-name.invariant in
     let e : List ℕ × GroupProps = (c.in-Some.name.now, c.in-Some.props.now) in
     let iter : c.loop-name.name-iterator ≡ e ∷ c.next.new.self = grind (arith, common_steps) in
     let own = c.write_subject.ensures in
-    let further = c.write_further.ensures in (
+    let further = c.write_commands.ensures in (
       done ++ e ∷ [],
       whole ∙ ap (λ t. done ++ t) iter ∙ sym (append_assoc done (e ∷ []) c.next.new.self),
       grown done e c.loop-name.place at,
+      gathered,
       λ plain.
           let first = rw c.as_str.ensures.text at own (written plain).plain (search rules) in
           has_written_of_eq _ _ _ _ _ (rows-next (group_lines (settings_view c.args.self.now)) done e c.loop-name.place _ _ at refl)
