@@ -7,3 +7,5 @@ pub mod LinesThen
 pub mod GroupNumber
 pub mod PortErrors
 pub mod Room
+pub mod PlainLanes
+pub mod PlainReading

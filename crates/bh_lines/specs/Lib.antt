@@ -9,4 +9,5 @@ pub mod Sent
 pub mod FaultLine
 pub mod ToldLine
 pub mod Flat
+pub mod Plain
 pub mod Front

@@ -73,6 +73,13 @@ command_of (Some c) = do
   name ← or_fault faults.Field (as_str c)
   Ok (Some name)
 
+-- a whole number of 64 bits, where one is said
+abbrev pub number_if_any : Option Data → Result (Option ℕ) Fault
+number_if_any None = Ok None
+number_if_any (Some d) = do
+  n ← or_fault faults.Field (option_and_then as_u64 (as_number d))
+  Ok (Some n)
+
 -- how a fallback ended, by its word: the value stands beside a success, and nothing is read beside another end
 abbrev pub fallback_end_of : List ℕ → Data → Result FallbackEnd Fault
 fallback_end_of word d =

@@ -10,13 +10,14 @@ ghost use Rattle.serde_json.specs.Find.{get};
 ghost use Rattle.serde_json.specs.Read.{read, number_of, number_from};
 ghost use Rattle.bh_lines.specs.Flat.{are_members, is_flat, is_over, is_scalar_then, is_whole, scalar_data, flat_data, ReadsScalar, ReadsMembers};
 
+use crate::plain::read_plain;
 use arrayvec::ArrayVec;
 use fast_float::Numeral;
 use json::{Reader, Scratch, Token};
 use std::alloc::AllocError;
 
 /// More than a step has; `is_flat` has the same number.
-const MOST_MEMBERS: usize = 8;
+pub(crate) const MOST_MEMBERS: usize = 8;
 
 /// A value that holds no others. A number is whole and of 64 bits.
 #[derive(Clone, Copy, Debug, Default)]
@@ -60,6 +61,11 @@ impl<'a> FlatObject<'a> {
         ensures value { IfOk result (λ found. found ≡ true → read line.now ≡ Some (flat_data self.new.members.items)) }
         ensures err { OnErr result (self.new.members.items ≡ self.old.members.items) }
     {
+        scratch.reserve(line.len())?;
+        self.members.clear();
+        if read_plain(line, &mut self.members) {
+            return Ok(true);
+        }
         let mut reader = Reader::new(line, scratch)?;
         let Some(Token::BeginObject) = reader.next() else {
             return Ok(false);
@@ -75,6 +81,7 @@ impl<'a> FlatObject<'a> {
     }
 
     /// The value of the member, if there is one.
+    #[inline(always)]
     pub fn get(&self, name: &str) -> Option<Scalar<'a>>
         ensures { option_map scalar_data result ≡ get name.now (flat_data self.now.members.items) }
     {

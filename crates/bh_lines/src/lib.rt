@@ -6,6 +6,7 @@ pub mod flat;
 pub mod front;
 pub mod lines;
 pub mod members;
+mod plain;
 pub mod port_error;
 pub mod replies;
 pub mod script_line;

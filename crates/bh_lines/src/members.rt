@@ -5,8 +5,9 @@ ghost use Rattle.serde_json.specs.View.{view};
 ghost use Rattle.serde_json.specs.Find.{get, as_str, as_number, as_u64, as_bool};
 ghost use Rattle.serde_json.specs.Read.{read};
 ghost use Rattle.bh_lines.specs.Flat.{scalar_data, members_data};
-ghost use Rattle.bh_lines.specs.StepLine.{text_at, number_at, truth_at};
+ghost use Rattle.bh_lines.specs.StepLine.{text_at, number_at, truth_at, command_of, number_if_any, found_command};
 
+use crate::fault::Fault;
 use crate::flat::{FlatObject, Scalar};
 use serde_json::Value;
 use std::alloc::{AllocError, Global};
@@ -31,6 +32,7 @@ pub enum Members<'a> {
 
 impl<'a> Members<'a> {
     /// Whether there is such a member, of whatever type.
+    #[inline(always)]
     pub fn has(self, name: &str) -> bool
         ensures { result ≡ is_some (get name.now (members_data self.entry)) }
     {
@@ -41,6 +43,7 @@ impl<'a> Members<'a> {
     }
 
     /// The member, where it is a text.
+    #[inline(always)]
     pub fn text(self, name: &str) -> Option<&'a str>
         ensures { option_map (λ s. s.now) result ≡ text_at name.now (members_data self.entry) }
     {
@@ -51,6 +54,7 @@ impl<'a> Members<'a> {
     }
 
     /// The member, where it is a whole number of 64 bits.
+    #[inline(always)]
     pub fn number(self, name: &str) -> Option<u64>
         ensures { result ≡ number_at name.now (members_data self.entry) }
     {
@@ -60,7 +64,50 @@ impl<'a> Members<'a> {
         }
     }
 
+    /// The member, where there is one. `Field` comes where it is no text.
+    #[inline(always)]
+    pub(crate) fn text_if_any(self, name: &str) -> Result<Option<&'a str>, Fault>
+        ensures { found_command result ≡ command_of (get name.now (members_data self.entry)) }
+    {
+        let text = match self {
+            Members::Flat(object) => match object.get(name) {
+                Some(scalar) => scalar_text(scalar),
+                None => return Ok(None),
+            },
+            Members::Tree(value) => match value.get(name) {
+                Some(value) => value.as_str(),
+                None => return Ok(None),
+            },
+        };
+        match text {
+            Some(text) => Ok(Some(text)),
+            None => Err(Fault::Field),
+        }
+    }
+
+    /// The member, where there is one. `Field` comes where it is no whole number of 64 bits.
+    #[inline(always)]
+    pub(crate) fn number_if_any(self, name: &str) -> Result<Option<u64>, Fault>
+        ensures { result ≡ number_if_any (get name.now (members_data self.entry)) }
+    {
+        let number = match self {
+            Members::Flat(object) => match object.get(name) {
+                Some(scalar) => scalar_number(scalar),
+                None => return Ok(None),
+            },
+            Members::Tree(value) => match value.get(name) {
+                Some(value) => value.as_u64(),
+                None => return Ok(None),
+            },
+        };
+        match number {
+            Some(number) => Ok(Some(number)),
+            None => Err(Fault::Field),
+        }
+    }
+
     /// The member, where it is a truth value.
+    #[inline(always)]
     pub fn truth(self, name: &str) -> Option<bool>
         ensures { result ≡ truth_at name.now (members_data self.entry) }
     {

@@ -168,13 +168,7 @@ fn fallback_end_of<'a>(word: &str, members: Members<'a>) -> Result<EndLine<'a>, 
 pub fn command_of(members: Members<'_>) -> Result<Option<&str>, Fault>
     ensures { found_command result ≡ command_of (get (codes "command") (members_data members.entry)) }
 {
-    if !members.has("command") {
-        return Ok(None);
-    }
-    match members.text("command") {
-        Some(name) => Ok(Some(name)),
-        None => Err(Fault::Field),
-    }
+    members.text_if_any("command")
 }
 
 /// The context and the key of a request where they stand, of any length: both or neither. `Field` comes where only one
@@ -182,13 +176,12 @@ pub fn command_of(members: Members<'_>) -> Result<Option<&str>, Fault>
 pub fn cache_of(members: Members<'_>) -> Result<Option<(u64, &str)>, Fault>
     ensures { found_cache result ≡ cache_of (get (codes "context") (members_data members.entry)) (get (codes "key") (members_data members.entry)) }
 {
-    match (members.has("context"), members.has("key")) {
-        (false, false) => Ok(None),
-        (true, true) => {
-            let context = members.number("context").ok_or(Fault::Field)?;
-            let key = members.text("key").ok_or(Fault::Field)?;
-            Ok(Some((context, key)))
-        }
+    match (
+        members.number_if_any("context")?,
+        members.text_if_any("key")?,
+    ) {
+        (None, None) => Ok(None),
+        (Some(context), Some(key)) => Ok(Some((context, key))),
         _ => Err(Fault::Field),
     }
 }

@@ -1,0 +1,43 @@
+use Rattle.std.proofs.Common.{◌≡◌, ◌<◌, [], ◌∷◌, ◌++◌, length, drop, refl, ap, ◌∙◌, arith}
+use Rattle.json.specs.Token.{Token}
+use Rattle.json.specs.Lex.{fresh, after_comma, between, lex, punctuate, tokens}
+use Rattle.bh_lines.specs.Flat.{is_flat}
+use Rattle.bh_lines.proofs.FlatReading.{read_flat}
+use Rattle.bh_lines.proofs.PlainReading.{tokens-open, begun, next_member, last_member, nothing_left}
+use Rattle.bh_lines.proofs.plain.read_plain.Goals as goal
+
+pub loop-found-init : goal.loop-found-init
+loop-found-init c = (fresh, refl, begun _ c.args.members.now.items c.requires)
+
+pub loop-found-preserved : goal.loop-found-preserved
+loop-found-preserved c =
+    let line = c.args.line.now in
+    let so_far = c.loop-found in
+    let next = c.in-Some in
+    let pushed : c.try_push.new.self.items ≡ so_far.members.items ++ next.found.member ∷ [] = grind arith in
+    let room : length so_far.members.items < 8 = grind arith in
+    (after_comma, refl, next_member _ so_far.members.items c.try_push.new.self.items line so_far.place next.found so_far.invariant next.ensures room pushed c.if-found.false)
+
+pub returns-then-found-clause-found : goal.returns-then-found-clause-found
+returns-then-found-clause-found c ended =
+    let line = c.args.line.now in
+    let so_far = c.loop-found in
+    let next = c.in-Some in
+    let pushed : c.try_push.new.self.items ≡ so_far.members.items ++ next.found.member ∷ [] = grind arith in
+    let room : length so_far.members.items < 8 = grind arith in
+    let first = punctuate fresh (lex between (drop 1 line)) in
+    let all = last_member first so_far.members.items c.try_push.new.self.items line so_far.place next.found so_far.invariant next.ensures room pushed c.if-found.true (nothing_left line next.found.next ended) in
+    let opens : tokens line ≡ Token.begin_object ∷ first = ap tokens (c.if-not-is_at.ensures.stands refl) ∙ tokens-open (drop 1 line) in
+    ap is_flat opens ∙ all.1
+
+pub returns-then-found-clause-value : goal.returns-then-found-clause-value
+returns-then-found-clause-value c ended =
+    let line = c.args.line.now in
+    let so_far = c.loop-found in
+    let next = c.in-Some in
+    let pushed : c.try_push.new.self.items ≡ so_far.members.items ++ next.found.member ∷ [] = grind arith in
+    let room : length so_far.members.items < 8 = grind arith in
+    let first = punctuate fresh (lex between (drop 1 line)) in
+    let all = last_member first so_far.members.items c.try_push.new.self.items line so_far.place next.found so_far.invariant next.ensures room pushed c.if-found.true (nothing_left line next.found.next ended) in
+    let opens : tokens line ≡ Token.begin_object ∷ first = ap tokens (c.if-not-is_at.ensures.stands refl) ∙ tokens-open (drop 1 line) in
+    read_flat line c.try_push.new.self.items first opens all.0

@@ -1,0 +1,47 @@
+-- What stands in front of a text, and the tokens that it is.
+use Rattle.std.specs.Prelude.{◌≡◌, ℕ, List, ◌∷◌, ◌++◌, drop, Bool, true, false, Some}
+use Rattle.json.specs.Token.{Token}
+use Rattle.json.specs.Word.{ends_word}
+use Rattle.json.specs.Lex.{Place, fresh, after_value, after_comma, may_begin, between, lex, punctuate}
+use Rattle.json.specs.Lex as lexer
+use Rattle.json.specs.Print.{IsNumber}
+use Rattle.serde_json.specs.Data.{unsigned}
+use Rattle.serde_json.specs.Read.{number_of}
+use Rattle.bh_lines.specs.Flat.{is_scalar, ReadsScalar}
+use Rattle.bh_lines.specs.declared.flat.Scalar.{Scalar}
+use Rattle.bh_lines.specs.declared.plain.PlainMember.{PlainMember}
+
+-- the text begins with a string of this content, and `rest` follows
+abbrev pub IsTextThen : List ℕ → List ℕ → List ℕ → Type 0
+IsTextThen text found rest = lex between text ≡ lexer.token (Token.string found) ∷ lex between rest
+
+-- the text begins with a key of this name and its colon, and `rest` follows
+abbrev pub IsKeyThen : List ℕ → List ℕ → List ℕ → Type 0
+IsKeyThen text name rest = (p : Place) → may_begin p ≡ true → punctuate p (lex between text) ≡ Token.key name ∷ punctuate fresh (lex between rest)
+
+-- the text begins with a number that is whole and of 64 bits, and `rest` follows
+pub record IsNumberThen (text : List ℕ) (found : ℕ) (rest : List ℕ) : Type 0 where
+  pub digits : List ℕ
+  pub split : text ≡ digits ++ rest
+  pub is_number : IsNumber digits
+  pub is_found : number_of digits ≡ Some (unsigned found)
+
+-- the text begins with a token that is this scalar, and `rest` follows, if a word ends there
+pub record IsScalarThen (text : List ℕ) (found : Scalar) (rest : List ℕ) : Type 0 where
+  pub token : Token
+  pub scalar : is_scalar token ≡ true
+  pub reads : (ts : List Token) → ReadsScalar found (token ∷ ts) ts
+  pub lexed : ends_word rest ≡ true → lex between text ≡ lexer.token token ∷ lex between rest
+
+-- what follows a member: the bracket that closes its object, or a comma
+abbrev pub behind_member : Bool → List ℕ → List Token
+behind_member true rest = Token.end_object ∷ punctuate after_value (lex between rest)
+behind_member false rest = punctuate after_comma (lex between rest)
+
+-- at the place stands this member, with the comma or the bracket that follows it
+pub record IsMemberThen (line : List ℕ) (place : ℕ) (found : PlainMember) : Type 0 where
+  pub token : Token
+  pub scalar : is_scalar token ≡ true
+  pub reads : (ts : List Token) → ReadsScalar found.member.value (token ∷ ts) ts
+  pub tokens : (p : Place) → may_begin p ≡ true
+      → punctuate p (lex between (drop place line)) ≡ Token.key found.member.name.now ∷ token ∷ behind_member found.is_last (drop found.next line)
