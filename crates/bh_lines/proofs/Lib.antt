@@ -1,11 +1,13 @@
 pub mod Cutting
 pub mod Taking
 pub mod Fronting
-pub mod Sending
+pub mod Putting
+pub mod Unescaped
+pub mod Texts
+pub mod Counting
 pub mod FlatReading
 pub mod LinesThen
 pub mod GroupNumber
 pub mod PortErrors
-pub mod Room
 pub mod PlainLanes
 pub mod PlainReading

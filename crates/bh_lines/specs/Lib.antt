@@ -1,11 +1,10 @@
-pub mod Bounded
 pub mod Lines
 pub mod Taken
 pub mod Names
 pub mod StepLine
 pub mod ScriptLine
 pub mod ReplyLine
-pub mod Sent
+pub mod Puts
 pub mod FaultLine
 pub mod ToldLine
 pub mod Flat

@@ -1,9 +1,8 @@
 //! The faults of a line, and the lines that answer them.
 
 ghost use Rattle.std.specs.Prelude.{◌≡◌, ◌++◌, OnErr, OnOk};
-ghost use Rattle.bh_lines.specs.FaultLine.{fault_word, fault_line};
+ghost use Rattle.bh_lines.specs.FaultLine.{fault_line};
 
-use crate::replies::put_error;
 use std::alloc::{AllocError, Global};
 
 /// Why nothing is done for a line: the first that holds.
@@ -33,27 +32,27 @@ pub enum Fault {
 
 /// Puts the line that answers a faulty line, with its line feed, behind the bytes: an object whose one member `error` has
 /// the fault's word. It fails only for want of memory, and leaves the bytes as they were then.
-#[tactic(auto, unfolding(crate::specs::FaultLine::fault_line))]
 pub fn put_fault(alloc: Global, bytes: &mut Vec<u8>, fault: Fault) -> Result<(), AllocError>
     ensures ok { OnOk result (bytes.new.items ≡ bytes.old.items ++ fault_line fault) }
     ensures err { OnErr result (bytes.new.items ≡ bytes.old.items) }
 {
-    put_error(alloc, bytes, fault_word(fault))
+    bytes.extend_from_slice(fault_text(fault).as_bytes())
 }
 
-/// The word of a fault.
-fn fault_word(fault: Fault) -> &'static str
-    ensures { result.now ≡ fault_word fault }
+/// The line of a fault.
+#[tactic(auto, unfolding(crate::specs::FaultLine::fault_line, json::specs::Print::escape_byte))]
+fn fault_text(fault: Fault) -> &'static str
+    ensures { result.now ≡ fault_line fault }
 {
     match fault {
-        Fault::Syntax => "syntax",
-        Fault::Field => "field",
-        Fault::Op => "op",
-        Fault::Group => "group",
-        Fault::Command => "command",
-        Fault::Long => "long",
-        Fault::Name => "name",
-        Fault::Like => "like",
-        Fault::Groups => "groups",
+        Fault::Syntax => "{\"error\":\"syntax\"}\n",
+        Fault::Field => "{\"error\":\"field\"}\n",
+        Fault::Op => "{\"error\":\"op\"}\n",
+        Fault::Group => "{\"error\":\"group\"}\n",
+        Fault::Command => "{\"error\":\"command\"}\n",
+        Fault::Long => "{\"error\":\"long\"}\n",
+        Fault::Name => "{\"error\":\"name\"}\n",
+        Fault::Like => "{\"error\":\"like\"}\n",
+        Fault::Groups => "{\"error\":\"groups\"}\n",
     }
 }

@@ -6,13 +6,13 @@ pub mod flat;
 pub mod front;
 pub mod lines;
 pub mod members;
+mod pieces;
 mod plain;
 pub mod port_error;
 pub mod replies;
 pub mod script_line;
 pub mod step_line;
 pub mod told;
-mod writing;
 
 pub use fault::{Fault, put_fault};
 pub use front::{FrontLine, end_line, front_line};

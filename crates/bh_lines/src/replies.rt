@@ -1,22 +1,19 @@
 //! Replies, each printed as a line of compact JSON with its members in the order of their names.
 
-ghost use Rattle.std.specs.Prelude.{◌≡◌, ◌≤◌, ◌++◌, ◌∷◌, [], false, map, length, take, option_copied, IfOk, IsOk, OnErr, OnOk, string_bytes};
-ghost use Rattle.json.specs.Print.{print};
+ghost use Rattle.std.specs.Prelude.{◌≡◌, ◌+◌, ◌*◌, ◌≤◌, ◌++◌, ◌∷◌, [], ℕ, List, false, map, length, take, codes, decimal, Some, None, option_copied, IfOk, IsOk, OnErr, OnOk, string_bytes};
 ghost use Rattle.serde_json.specs.View.{view};
-ghost use Rattle.serde_json.specs.Written.{has_float};
-ghost use Rattle.bh_lines.specs.ReplyLine.{cause_word, fallback_word, circuit_word, named, numbered, fallback_due_data, assigned_data, expired_data, run_fallback_data, closed_data, value_data, fallback_value_data, error_answer_data, events_data, metrics_data, answer_data, reply_data, reply_line, json_line};
+ghost use Rattle.serde_json.specs.Written.{comma_if, has_float, compact_text};
+ghost use Rattle.json.specs.Print.{escape, quoted};
+ghost use Rattle.bh_lines.specs.ReplyLine.{cause_word, fallback_word, circuit_word, events_data, fallback_due_data, assigned_data, expired_data, run_fallback_data, closed_data, value_data, fallback_value_data, error_answer_data, metrics_data, answer_data, reply_data, reply_line, json_line};
 ghost use Rattle.bh_lines.specs.FaultLine.{error_data};
-ghost use Rattle.bh_lines.specs.Bounded.{IsShortAnswer, IsShortName, IsShortReply};
-ghost use Rattle.bh_lines.specs.Sent.{Sends, data_tokens, counts_tokens};
+ghost use Rattle.bh_lines.specs.Puts.{Puts, count_text, counts_text, counts_most};
 
-use crate::writing::{
-    Member, begin_object, end_object, write_key, write_members, write_number, write_object,
+use crate::pieces::{
+    put_around_number, put_around_string, put_text, put_with_number, put_with_string,
 };
 use bh_base::{Answer, Cause, CircuitState, Counts, FallbackFault, Metrics, Reply, Text};
-use json::Writer;
 use serde_json::Value;
 use std::alloc::{AllocError, Global};
-use std::mem;
 
 /// Puts the line that says why nothing was done, with its line feed, behind the bytes: an object whose one member `error`
 /// is the text. It fails only for want of memory, and leaves the bytes as they were then.
@@ -25,11 +22,8 @@ pub fn put_error(alloc: Global, bytes: &mut Vec<u8>, why: &str) -> Result<(), Al
     ensures err { OnErr result (bytes.new.items ≡ bytes.old.items) }
 {
     let start = bytes.len();
-    let mut writer = Writer::new(mem::replace(bytes, Vec::new(alloc)));
-    let members = [Member::Text("error", why)];
-    let written = write_object(&mut writer, &members);
-    *bytes = writer.into_inner();
-    end_line(bytes, start, written)
+    let put = put_around_string(bytes, r#"{"error":""#, why, r#""}"#);
+    end_line(bytes, start, put)
 }
 
 /// Puts the line of a reply, with its line feed, behind the bytes. It fails only for want of memory, and leaves the bytes
@@ -47,24 +41,22 @@ pub fn put_reply(
     ensures err { OnErr result (bytes.new.items ≡ bytes.old.items) }
 {
     let start = bytes.len();
-    let mut writer = Writer::new(mem::replace(bytes, Vec::new(alloc)));
-    let written = write_reply(&mut writer, reply, command);
-    *bytes = writer.into_inner();
-    end_line(bytes, start, written)
+    let put = put_reply_object(bytes, reply, command);
+    end_line(bytes, start, put)
 }
 
-/// Puts a line feed behind the bytes where the line was written, and takes what was written of it off them where not.
+/// Puts a line feed behind the bytes where the line was put, and takes what was put of it off them where not.
 pub(crate) fn end_line(
     bytes: &mut Vec<u8>,
     start: usize,
-    written: Result<(), AllocError>,
+    put: Result<(), AllocError>,
 ) -> Result<(), AllocError>
     requires { start ≤ length bytes.old.items }
     ensures ok { OnOk result (bytes.new.items ≡ bytes.old.items ++ 10 ∷ []) }
-    ensures written { OnOk result (IsOk written) }
+    ensures put { OnOk result (IsOk put) }
     ensures err { OnErr result (bytes.new.items ≡ take start bytes.old.items) }
 {
-    let ended = match written {
+    let ended = match put {
         Ok(()) => bytes.push(b'\n').map_err(AllocError::from),
         Err(error) => Err(error),
     };
@@ -85,243 +77,168 @@ pub fn json_line(alloc: Global, value: &Value) -> Result<String, AllocError>
 }
 
 /// The object of a reply, with the name of the further command that an `Assigned` is of.
-pub(crate) fn write_reply(
-    writer: &mut Writer,
+#[tactic(auto, unfolding(json::specs::Print::escape_byte))]
+pub(crate) fn put_reply_object(
+    bytes: &mut Vec<u8>,
     reply: &Reply,
     command: Option<&Text<32>>,
 ) -> Result<(), AllocError>
-    ensures sent { Sends result writer.old writer.new (data_tokens (reply_data (option_copied command.entry) reply.now)) }
-    ensures short { IsShortReply (option_copied command.entry) reply.now }
+    ensures { Puts result bytes.old bytes.new (compact_text (reply_data (option_copied command.entry) reply.now)) 2047 }
 {
     match reply {
-        Reply::Queued(serial) => write_numbered(writer, "queued", *serial),
-        Reply::Inline(serial) => write_numbered(writer, "inline", *serial),
-        Reply::FallbackDue { serial, cause } => write_fallback_due(writer, *serial, *cause),
-        Reply::Joined(serial) => write_numbered(writer, "joined", *serial),
-        Reply::GroupFull => write_named(writer, "group-full"),
-        Reply::Assigned { serial, arg, .. } => write_assigned(writer, *serial, command, arg),
-        Reply::Idle => write_named(writer, "idle"),
-        Reply::Done => write_named(writer, "done"),
-        Reply::Late => write_named(writer, "late"),
-        Reply::NotRunning => write_named(writer, "not-running"),
-        Reply::Expired(count) => write_expired(writer, *count),
-        Reply::Pending => write_named(writer, "pending"),
-        Reply::RunFallback(cause) => write_run_fallback(writer, *cause),
-        Reply::Answered(answer) => write_answer(writer, answer),
-        Reply::NoTicket => write_named(writer, "no-ticket"),
-        Reply::NotInFallback => write_named(writer, "not-in-fallback"),
-        Reply::Closed(count) => write_closed(writer, *count),
-        Reply::Metrics(metrics) => write_metrics(writer, metrics),
-        Reply::Worn => write_named(writer, "worn"),
-        Reply::NoCommand => write_named(writer, "no-command"),
-        Reply::NoGroup => write_named(writer, "no-group"),
+        Reply::Queued(serial) => put_numbered(bytes, r#"{"reply":"queued","ticket":"#, *serial),
+        Reply::Inline(serial) => put_numbered(bytes, r#"{"reply":"inline","ticket":"#, *serial),
+        Reply::FallbackDue { serial, cause } => put_fallback_due(bytes, *serial, *cause),
+        Reply::Joined(serial) => put_numbered(bytes, r#"{"reply":"joined","ticket":"#, *serial),
+        Reply::GroupFull => put_text(bytes, r#"{"reply":"group-full"}"#),
+        Reply::Assigned { serial, arg, .. } => put_assigned(bytes, *serial, command, arg),
+        Reply::Idle => put_text(bytes, r#"{"reply":"idle"}"#),
+        Reply::Done => put_text(bytes, r#"{"reply":"done"}"#),
+        Reply::Late => put_text(bytes, r#"{"reply":"late"}"#),
+        Reply::NotRunning => put_text(bytes, r#"{"reply":"not-running"}"#),
+        Reply::Expired(count) => put_expired(bytes, *count),
+        Reply::Pending => put_text(bytes, r#"{"reply":"pending"}"#),
+        Reply::RunFallback(cause) => put_text(bytes, run_fallback_text(*cause)),
+        Reply::Answered(answer) => put_answer(bytes, answer),
+        Reply::NoTicket => put_text(bytes, r#"{"reply":"no-ticket"}"#),
+        Reply::NotInFallback => put_text(bytes, r#"{"reply":"not-in-fallback"}"#),
+        Reply::Closed(count) => put_closed(bytes, *count),
+        Reply::Metrics(metrics) => put_metrics(bytes, metrics),
+        Reply::Worn => put_text(bytes, r#"{"reply":"worn"}"#),
+        Reply::NoCommand => put_text(bytes, r#"{"reply":"no-command"}"#),
+        Reply::NoGroup => put_text(bytes, r#"{"reply":"no-group"}"#),
     }
 }
 
-/// A reply that is its name alone.
-pub(crate) fn write_named(writer: &mut Writer, name: &str) -> Result<(), AllocError>
-    ensures { Sends result writer.old writer.new (data_tokens (named name.now)) }
+/// A reply that ends with a number.
+#[inline(always)]
+fn put_numbered(bytes: &mut Vec<u8>, front: &str, n: u64) -> Result<(), AllocError>
+    ensures { Puts result bytes.old bytes.new ((front.now ++ decimal n) ++ codes "}") (length front.now + 21) }
 {
-    let members = [Member::Text("reply", name)];
-    write_object(writer, &members)
-}
-
-/// A reply of a name and a ticket.
-fn write_numbered(writer: &mut Writer, name: &str, ticket: u64) -> Result<(), AllocError>
-    ensures { Sends result writer.old writer.new (data_tokens (numbered name.now ticket)) }
-{
-    let members = [
-        Member::Text("reply", name),
-        Member::Number("ticket", ticket),
-    ];
-    write_object(writer, &members)
+    put_around_number(bytes, front, n, "}")
 }
 
 /// A ticket that needs a fallback.
-fn write_fallback_due(writer: &mut Writer, ticket: u64, cause: Cause) -> Result<(), AllocError>
-    ensures { Sends result writer.old writer.new (data_tokens (fallback_due_data ticket cause)) }
+fn put_fallback_due(bytes: &mut Vec<u8>, ticket: u64, cause: Cause) -> Result<(), AllocError>
+    ensures { Puts result bytes.old bytes.new (compact_text (fallback_due_data ticket cause)) 100 }
 {
-    let members = [
-        Member::Text("cause", cause_word(cause)),
-        Member::Text("reply", "fallback-due"),
-        Member::Number("ticket", ticket),
-    ];
-    write_object(writer, &members)
+    put_numbered(bytes, fallback_due_front(cause), ticket)
+}
+
+/// How many tickets timed out.
+#[tactic(auto, unfolding(json::specs::Print::escape_byte))]
+fn put_expired(bytes: &mut Vec<u8>, count: u64) -> Result<(), AllocError>
+    ensures { Puts result bytes.old bytes.new (compact_text (expired_data count)) 100 }
+{
+    put_around_number(bytes, r#"{"count":"#, count, r#","reply":"expired"}"#)
+}
+
+/// How many tickets are cached no longer.
+#[tactic(auto, unfolding(json::specs::Print::escape_byte))]
+fn put_closed(bytes: &mut Vec<u8>, count: u64) -> Result<(), AllocError>
+    ensures { Puts result bytes.old bytes.new (compact_text (closed_data count)) 100 }
+{
+    put_around_number(bytes, r#"{"released":"#, count, r#","reply":"closed"}"#)
 }
 
 /// A run that a worker is to do, of the group's own command or of the further one of the name.
-fn write_assigned(
-    writer: &mut Writer,
+fn put_assigned(
+    bytes: &mut Vec<u8>,
     ticket: u64,
     command: Option<&Text<32>>,
     arg: &Text<64>,
 ) -> Result<(), AllocError>
-    ensures sent { Sends result writer.old writer.new (data_tokens (assigned_data ticket (option_copied command.entry) arg.now)) }
-    ensures arg { length arg.now ≤ 64 }
-    ensures name { IsShortName (option_copied command.entry) }
+    ensures { Puts result bytes.old bytes.new (compact_text (assigned_data ticket (option_copied command.entry) arg.now)) 1000 }
 {
     match command {
-        None => write_own_run(writer, ticket, arg.as_str()),
-        Some(name) => write_run(writer, ticket, name.as_str(), arg.as_str()),
+        None => put_own_run(bytes, ticket, arg.as_str()),
+        Some(name) => put_run(bytes, ticket, name.as_str(), arg.as_str()),
     }
 }
 
 /// A run of the group's own command, whose name does not stand in it.
-fn write_own_run(writer: &mut Writer, ticket: u64, arg: &str) -> Result<(), AllocError>
-    ensures { Sends result writer.old writer.new (data_tokens (assigned_data ticket None arg.now)) }
+fn put_own_run(bytes: &mut Vec<u8>, ticket: u64, arg: &str) -> Result<(), AllocError>
+    ensures { Puts result bytes.old bytes.new (compact_text (assigned_data ticket None arg.now)) (100 + 6 * length arg.now) }
 {
-    let members = [
-        Member::Text("arg", arg),
-        Member::Text("reply", "assigned"),
-        Member::Number("ticket", ticket),
-    ];
-    write_object(writer, &members)
+    put_with_string(bytes, r#"{"arg":""#, arg)?;
+    put_numbered(bytes, r#"","reply":"assigned","ticket":"#, ticket)
 }
 
 /// A run of the further command of the name.
-fn write_run<'a>(
-    writer: &mut Writer,
-    ticket: u64,
-    name: &'a str,
-    arg: &'a str,
-) -> Result<(), AllocError>
-    ensures { Sends result writer.old writer.new (data_tokens (assigned_data ticket (Some name.now) arg.now)) }
+fn put_run(bytes: &mut Vec<u8>, ticket: u64, name: &str, arg: &str) -> Result<(), AllocError>
+    ensures { Puts result bytes.old bytes.new (compact_text (assigned_data ticket (Some name.now) arg.now)) (100 + 6 * length arg.now + 6 * length name.now) }
 {
-    let members = [
-        Member::Text("arg", arg),
-        Member::Text("command", name),
-        Member::Text("reply", "assigned"),
-        Member::Number("ticket", ticket),
-    ];
-    write_object(writer, &members)
-}
-
-/// How many tickets timed out.
-fn write_expired(writer: &mut Writer, count: u64) -> Result<(), AllocError>
-    ensures { Sends result writer.old writer.new (data_tokens (expired_data count)) }
-{
-    let members = [
-        Member::Number("count", count),
-        Member::Text("reply", "expired"),
-    ];
-    write_object(writer, &members)
-}
-
-/// A fallback that the holder is to run.
-fn write_run_fallback(writer: &mut Writer, cause: Cause) -> Result<(), AllocError>
-    ensures { Sends result writer.old writer.new (data_tokens (run_fallback_data cause)) }
-{
-    let members = [
-        Member::Text("cause", cause_word(cause)),
-        Member::Text("reply", "run-fallback"),
-    ];
-    write_object(writer, &members)
-}
-
-/// How many tickets are cached no longer.
-fn write_closed(writer: &mut Writer, count: u64) -> Result<(), AllocError>
-    ensures { Sends result writer.old writer.new (data_tokens (closed_data count)) }
-{
-    let members = [
-        Member::Number("released", count),
-        Member::Text("reply", "closed"),
-    ];
-    write_object(writer, &members)
+    put_with_string(bytes, r#"{"arg":""#, arg)?;
+    put_with_string(bytes, r#"","command":""#, name)?;
+    put_numbered(bytes, r#"","reply":"assigned","ticket":"#, ticket)
 }
 
 /// The answer to a request.
-fn write_answer(writer: &mut Writer, answer: &Answer) -> Result<(), AllocError>
-    ensures sent { Sends result writer.old writer.new (data_tokens (answer_data answer.now)) }
-    ensures short { IsShortAnswer answer.now }
+#[tactic(auto, unfolding(json::specs::Print::escape_byte))]
+fn put_answer(bytes: &mut Vec<u8>, answer: &Answer) -> Result<(), AllocError>
+    ensures { Puts result bytes.old bytes.new (compact_text (answer_data answer.now)) 2000 }
 {
     match answer {
-        Answer::Value(body) => write_value(writer, body.as_str()),
-        Answer::FallbackValue { cause, body } => write_fallback_value(
-            writer,
-            *cause,
-            body.as_str(),
-        ),
-        Answer::Error { cause, fallback } => write_error(writer, *cause, *fallback),
-        Answer::BadRequest => write_named(writer, "bad-request"),
+        Answer::Value(body) => put_body(bytes, body, r#"","reply":"value"}"#),
+        Answer::FallbackValue { cause, body } => put_body(bytes, body, fallback_value_back(*cause)),
+        Answer::Error { cause, fallback } => put_no_value(bytes, *cause, *fallback),
+        Answer::BadRequest => put_text(bytes, r#"{"reply":"bad-request"}"#),
     }
 }
 
-/// The value of a run.
-fn write_value(writer: &mut Writer, body: &str) -> Result<(), AllocError>
-    ensures { Sends result writer.old writer.new (data_tokens (value_data body.now)) }
+/// An answer that has a body.
+fn put_body(bytes: &mut Vec<u8>, body: &Text<256>, back: &str) -> Result<(), AllocError>
+    ensures { Puts result bytes.old bytes.new (codes "{\"body\":\"" ++ (escape body.now ++ back.now)) (1545 + length back.now) }
 {
-    let members = [Member::Text("body", body), Member::Text("reply", "value")];
-    write_object(writer, &members)
-}
-
-/// The value of a fallback.
-fn write_fallback_value(writer: &mut Writer, cause: Cause, body: &str) -> Result<(), AllocError>
-    ensures { Sends result writer.old writer.new (data_tokens (fallback_value_data cause body.now)) }
-{
-    let members = [
-        Member::Text("body", body),
-        Member::Text("cause", cause_word(cause)),
-        Member::Text("reply", "fallback-value"),
-    ];
-    write_object(writer, &members)
+    put_around_string(bytes, r#"{"body":""#, body.as_str(), back)
 }
 
 /// A request with no value.
-fn write_error(writer: &mut Writer, cause: Cause, fallback: FallbackFault) -> Result<(), AllocError>
-    ensures { Sends result writer.old writer.new (data_tokens (error_answer_data cause fallback)) }
+fn put_no_value(
+    bytes: &mut Vec<u8>,
+    cause: Cause,
+    fallback: FallbackFault,
+) -> Result<(), AllocError>
+    ensures { Puts result bytes.old bytes.new (compact_text (error_answer_data cause fallback)) 100 }
 {
-    let members = [
-        Member::Text("cause", cause_word(cause)),
-        Member::Text("fallback", fallback_word(fallback)),
-        Member::Text("reply", "error"),
-    ];
-    write_object(writer, &members)
+    put_text(bytes, error_front(cause))?;
+    put_text(bytes, error_back(fallback))
 }
 
 /// The metrics of a group.
-fn write_metrics(writer: &mut Writer, metrics: &Metrics) -> Result<(), AllocError>
-    ensures { Sends result writer.old writer.new (data_tokens (metrics_data metrics.now)) }
+fn put_metrics(bytes: &mut Vec<u8>, metrics: &Metrics) -> Result<(), AllocError>
+    ensures { Puts result bytes.old bytes.new (compact_text (metrics_data metrics.now)) 1000 }
 {
-    let before = [
-        Member::Number("busy", metrics.busy),
-        Member::Text("circuit", circuit_word(metrics.circuit)),
-        Member::Number("errors", metrics.errors),
-    ];
-    let after = [
-        Member::Number("free", metrics.free),
-        Member::Number("percent", metrics.percent),
-        Member::Number("queued", metrics.queued),
-        Member::Text("reply", "metrics"),
-        Member::Number("total", metrics.total),
-    ];
-    begin_object(writer)?;
-    write_members(writer, &before)?;
-    write_key(writer, "events")?;
-    write_events(writer, &metrics.counts)?;
-    write_members(writer, &after)?;
-    end_object(writer)
+    put_with_number(bytes, r#"{"busy":"#, metrics.busy)?;
+    put_with_number(bytes, circuit_front(metrics.circuit), metrics.errors)?;
+    put_text(bytes, r#","events":"#)?;
+    put_events(bytes, &metrics.counts)?;
+    put_with_number(bytes, r#","free":"#, metrics.free)?;
+    put_with_number(bytes, r#","percent":"#, metrics.percent)?;
+    put_with_number(bytes, r#","queued":"#, metrics.queued)?;
+    put_numbered(bytes, r#","reply":"metrics","total":"#, metrics.total)
 }
 
-/// The names of the kinds of events, in their order.
-const KIND_NAMES: [&str; 13] = [
-    "BAD_REQUEST",
-    "EXCEPTION_THROWN",
-    "FAILURE",
-    "FALLBACK_FAILURE",
-    "FALLBACK_MISSING",
-    "FALLBACK_REJECTION",
-    "FALLBACK_SUCCESS",
-    "RESPONSE_FROM_CACHE",
-    "SEMAPHORE_REJECTED",
-    "SHORT_CIRCUITED",
-    "SUCCESS",
-    "THREAD_POOL_REJECTED",
-    "TIMEOUT",
+/// The names of the kinds of events, in their order, each as it stands before its count.
+const KIND_FRONTS: [&str; 13] = [
+    r#""BAD_REQUEST":"#,
+    r#""EXCEPTION_THROWN":"#,
+    r#""FAILURE":"#,
+    r#""FALLBACK_FAILURE":"#,
+    r#""FALLBACK_MISSING":"#,
+    r#""FALLBACK_REJECTION":"#,
+    r#""FALLBACK_SUCCESS":"#,
+    r#""RESPONSE_FROM_CACHE":"#,
+    r#""SEMAPHORE_REJECTED":"#,
+    r#""SHORT_CIRCUITED":"#,
+    r#""SUCCESS":"#,
+    r#""THREAD_POOL_REJECTED":"#,
+    r#""TIMEOUT":"#,
 ];
 
-/// Each kind of event that there was, and how often.
-fn write_events(writer: &mut Writer, counts: &Counts) -> Result<(), AllocError>
-    ensures { Sends result writer.old writer.new (data_tokens (events_data counts.now)) }
+/// The object of each kind of event that there was, and how often.
+fn put_events(bytes: &mut Vec<u8>, counts: &Counts) -> Result<(), AllocError>
+    ensures { Puts result bytes.old bytes.new (compact_text (events_data counts.now)) 600 }
 {
     let listed = [
         counts.bad_request,
@@ -338,65 +255,125 @@ fn write_events(writer: &mut Writer, counts: &Counts) -> Result<(), AllocError>
         counts.thread_pool_rejected,
         counts.timeout,
     ];
-    begin_object(writer)?;
-    write_counts(writer, &KIND_NAMES, &listed)?;
-    end_object(writer)
+    put_text(bytes, "{")?;
+    put_counts(bytes, &KIND_FRONTS, &listed)?;
+    put_text(bytes, "}")
 }
 
-/// A member for each count under its name, unless it is 0.
-fn write_counts(writer: &mut Writer, names: &[&str], counts: &[u64]) -> Result<(), AllocError>
-    requires { length names.now ≡ length counts.now }
-    ensures { Sends result writer.old writer.new (counts_tokens (map (λ name. name.now) names.now) counts.now) }
+/// Each count that is not 0 behind its front, with commas between.
+fn put_counts(bytes: &mut Vec<u8>, fronts: &[&str], counts: &[u64]) -> Result<(), AllocError>
+    ensures { Puts result bytes.old bytes.new (counts_text false (map (λ front. front.now) fronts.now) counts.now) (counts_most (map (λ front. front.now) fronts.now)) }
 {
-    for (name, count) in names.iter().zip(counts) {
-        write_count(writer, name, *count)?;
+    let mut later = false;
+    for (front, count) in fronts.iter().zip(counts) {
+        put_count(bytes, later, front, *count)?;
+        later |= *count != 0;
     }
     Ok(())
 }
 
-/// The count under the name, unless it is 0.
-fn write_count(writer: &mut Writer, name: &str, count: u64) -> Result<(), AllocError>
-    ensures { Sends result writer.old writer.new (counts_tokens (name.now ∷ []) (count ∷ [])) }
+/// The count behind its front, unless it is 0.
+fn put_count(bytes: &mut Vec<u8>, later: bool, front: &str, count: u64) -> Result<(), AllocError>
+    ensures { Puts result bytes.old bytes.new (count_text later front.now count) (1 + (length front.now + 20)) }
 {
-    if count > 0 {
-        write_number(writer, name, count)
-    } else {
-        Ok(())
+    if count == 0 {
+        return Ok(());
     }
+    put_text(bytes, comma_if(later))?;
+    put_with_number(bytes, front, count)
 }
 
-/// The word of the cause of a fallback.
-fn cause_word(cause: Cause) -> &'static str
-    ensures { result.now ≡ cause_word cause }
+/// A comma, where something stands before.
+fn comma_if(later: bool) -> &'static str
+    ensures { result.now ≡ comma_if later }
+{
+    if later { "," } else { "" }
+}
+
+/// What stands before the ticket that needs a fallback for the cause.
+#[tactic(auto, unfolding(json::specs::Print::escape_byte))]
+fn fallback_due_front(cause: Cause) -> &'static str
+    ensures text { (ticket : ℕ) → (result.now ++ decimal ticket) ++ codes "}" ≡ compact_text (fallback_due_data ticket cause) }
+    ensures short { length result.now ≤ 70 }
 {
     match cause {
-        Cause::ShortCircuited => "short-circuited",
-        Cause::PoolRejected => "thread-pool-rejected",
-        Cause::SemaphoreRejected => "semaphore-rejected",
-        Cause::Failure => "failure",
-        Cause::Timeout => "timeout",
+        Cause::ShortCircuited => r#"{"cause":"short-circuited","reply":"fallback-due","ticket":"#,
+        Cause::PoolRejected =>
+            r#"{"cause":"thread-pool-rejected","reply":"fallback-due","ticket":"#,
+        Cause::SemaphoreRejected =>
+            r#"{"cause":"semaphore-rejected","reply":"fallback-due","ticket":"#,
+        Cause::Failure => r#"{"cause":"failure","reply":"fallback-due","ticket":"#,
+        Cause::Timeout => r#"{"cause":"timeout","reply":"fallback-due","ticket":"#,
     }
 }
 
-/// The word of the reason why no fallback gave a value.
-fn fallback_word(fault: FallbackFault) -> &'static str
-    ensures { result.now ≡ fallback_word fault }
+/// The object of a fallback that the holder is to run.
+#[tactic(auto, unfolding(json::specs::Print::escape_byte))]
+fn run_fallback_text(cause: Cause) -> &'static str
+    ensures text { result.now ≡ compact_text (run_fallback_data cause) }
+    ensures short { length result.now ≤ 60 }
+{
+    match cause {
+        Cause::ShortCircuited => r#"{"cause":"short-circuited","reply":"run-fallback"}"#,
+        Cause::PoolRejected => r#"{"cause":"thread-pool-rejected","reply":"run-fallback"}"#,
+        Cause::SemaphoreRejected => r#"{"cause":"semaphore-rejected","reply":"run-fallback"}"#,
+        Cause::Failure => r#"{"cause":"failure","reply":"run-fallback"}"#,
+        Cause::Timeout => r#"{"cause":"timeout","reply":"run-fallback"}"#,
+    }
+}
+
+/// What stands behind the body of a fallback for the cause.
+fn fallback_value_back(cause: Cause) -> &'static str
+    ensures text { result.now ≡ codes "\",\"cause\":" ++ (quoted (cause_word cause) ++ codes ",\"reply\":\"fallback-value\"}") }
+    ensures short { length result.now ≤ 60 }
+{
+    match cause {
+        Cause::ShortCircuited => r#"","cause":"short-circuited","reply":"fallback-value"}"#,
+        Cause::PoolRejected => r#"","cause":"thread-pool-rejected","reply":"fallback-value"}"#,
+        Cause::SemaphoreRejected => r#"","cause":"semaphore-rejected","reply":"fallback-value"}"#,
+        Cause::Failure => r#"","cause":"failure","reply":"fallback-value"}"#,
+        Cause::Timeout => r#"","cause":"timeout","reply":"fallback-value"}"#,
+    }
+}
+
+/// The front of a request with no value, up to the reason why no fallback gave one.
+#[tactic(auto, unfolding(json::specs::Print::escape_byte))]
+fn error_front(cause: Cause) -> &'static str
+    ensures text { result.now ≡ codes "{\"cause\":" ++ (quoted (cause_word cause) ++ codes ",\"fallback\":") }
+    ensures short { length result.now ≤ 50 }
+{
+    match cause {
+        Cause::ShortCircuited => r#"{"cause":"short-circuited","fallback":"#,
+        Cause::PoolRejected => r#"{"cause":"thread-pool-rejected","fallback":"#,
+        Cause::SemaphoreRejected => r#"{"cause":"semaphore-rejected","fallback":"#,
+        Cause::Failure => r#"{"cause":"failure","fallback":"#,
+        Cause::Timeout => r#"{"cause":"timeout","fallback":"#,
+    }
+}
+
+/// The reason why no fallback gave a value, and what stands behind it.
+#[tactic(auto, unfolding(json::specs::Print::escape_byte))]
+fn error_back(fault: FallbackFault) -> &'static str
+    ensures text { result.now ≡ quoted (fallback_word fault) ++ codes ",\"reply\":\"error\"}" }
+    ensures short { length result.now ≤ 30 }
 {
     match fault {
-        FallbackFault::Failed => "failed",
-        FallbackFault::Rejected => "rejected",
-        FallbackFault::Missing => "missing",
-        FallbackFault::Disabled => "disabled",
+        FallbackFault::Failed => r#""failed","reply":"error"}"#,
+        FallbackFault::Rejected => r#""rejected","reply":"error"}"#,
+        FallbackFault::Missing => r#""missing","reply":"error"}"#,
+        FallbackFault::Disabled => r#""disabled","reply":"error"}"#,
     }
 }
 
-/// The word of the state of a circuit.
-fn circuit_word(circuit: CircuitState) -> &'static str
-    ensures { result.now ≡ circuit_word circuit }
+/// What stands between the busy runs and the errors, for the state of a circuit.
+#[tactic(auto, unfolding(json::specs::Print::escape_byte))]
+fn circuit_front(circuit: CircuitState) -> &'static str
+    ensures text { result.now ≡ codes ",\"circuit\":" ++ (quoted (circuit_word circuit) ++ codes ",\"errors\":") }
+    ensures short { length result.now ≤ 40 }
 {
     match circuit {
-        CircuitState::Closed => "closed",
-        CircuitState::Open(_) => "open",
-        CircuitState::HalfOpen(_, _) => "half-open",
+        CircuitState::Closed => r#","circuit":"closed","errors":"#,
+        CircuitState::Open(_) => r#","circuit":"open","errors":"#,
+        CircuitState::HalfOpen(_, _) => r#","circuit":"half-open","errors":"#,
     }
 }

@@ -1,9 +1,6 @@
-use Rattle.bh_lines.specs.FaultLine.{error_data}
-use Rattle.bh_lines.proofs.Sending.{line-put}
-use Rattle.std.proofs.Common.{◌∙◌, ap}
+use Rattle.bh_lines.proofs.Putting.{line-put}
+use Rattle.bh_lines.proofs.Texts.{error-line}
 use Rattle.bh_lines.proofs.replies.put_error.Goals as goal
 
 pub returns-clause-ok : goal.returns-clause-ok
-returns-clause-ok c =
-    line-put (error_data c.args.why.now) c.end_line.result c.write_object-written.result c.new-writer.result c.write_object-written.new.writer c.args.bytes.now.items c.into_inner.result.items c.end_line.new.bytes.items
-    (c.new-writer.ensures.before ∙ ap (λ v. v.items) c.replace.ensures.value) c.new-writer.ensures.tokens c.write_object-written.ensures c.into_inner.ensures.items c.end_line.ensures.ok c.end_line.ensures.written
+returns-clause-ok c = line-put _ _ _ _ c.end_line.new.bytes _ _ _ c.put_around_string-put.ensures c.end_line.ensures.ok c.end_line.ensures.put (error-line c.args.why.now)

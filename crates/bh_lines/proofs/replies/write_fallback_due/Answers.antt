@@ -1,4 +1,0 @@
-use Rattle.bh_lines.proofs.replies.write_fallback_due.Goals as goal
-
-pub returns : goal.returns
-returns c = rw (← c.cause_word.ensures) c.write_object.ensures

@@ -1,6 +1,0 @@
-use Rattle.std.proofs.Common.{arith}
-use Rattle.bh_lines.proofs.Sending.{sent-one}
-use Rattle.bh_lines.proofs.writing.begin_object.Goals as goal
-
-pub returns : goal.returns
-returns c = sent-one _ _ _ _ (omega arith) c.begin_object.ensures
