@@ -1,13 +1,16 @@
 -- A run of answers, from the bytes that had come to those that are left.
-use Rattle.std.proofs.Common.{◌≡◌, ℕ, min, List, [], take, ◌++◌, Option, Some, None, Result, Ok, Err, IfErr, String, string_bytes, refl, sym, ◌∙◌, subst, ap, append-nil, append_assoc}
+use Rattle.std.proofs.Common.{◌≡◌, ◌+◌, ◌-◌, ◌≤◌, ℕ, false, min, List, [], take, drop, length, ◌++◌, Option, Some, None, Result, Ok, Err, IfErr, refl, sym, ◌∙◌, subst, ap, append-nil, append_assoc, arith, length-drop, length-take}
+use Rattle.std.proofs.lemmas.List.{drop-drop, take_all}
+use Rattle.std.specs.Borrow.{Bor}
 use Rattle.std.proofs.KnownBytes.{Appends-trans, Appends-nil}
 use Rattle.std.specs.Io.KnownBytes.{Appends}
-use Rattle.std.specs.declared.alloc.Global.{Global}
 use Rattle.bh_port.specs.GroupsView.{GroupsView}
 use Rattle.bh_lines.specs.declared.port_error.PortError.{PortError}
 use Rattle.bh_lines.specs.declared.port_error.PortError.TheVariants.{Read, Write, Line, Memory}
-use Rattle.bh_lines.specs.Lines.{Cut, line, ended, cut, stops}
-use Rattle.bh_lines.specs.Taken.{TakesLine, IsLast, IsMemoryOrLine}
+use Rattle.bh_lines.specs.Lines.{Cut, line, ended, cut, has_line, stops}
+use Rattle.bh_lines.specs.declared.front.FrontLine.{FrontLine}
+use Rattle.bh_lines.specs.Front.{IsFront, IsEnd}
+use Rattle.bh_lines.specs.Taken.{IsMemoryOrLine}
 use Rattle.bh_streams.specs.Watched.{WritesFront}
 use Rattle.bh_streams.proofs.Fronts.{front-of-more, whole-front, take-front}
 use Rattle.bh_port.specs.Course.{Course, line_act}
@@ -30,11 +33,11 @@ answered-none a service before groups old agrees = record {
   stops_is = λ more. refl;
 }
 
-answered-one : (o m n : List ℕ) (service : SettingsView) (before : Course) (was now : GroupsView) (old mid new : List ℕ) (s : String Global)
-    → (done : ScriptAnswered (Some o) (Some m) service before was old mid) → TakesLine mid (Ok (Some s)) new → AnswersLine service done.later (string_bytes s) now m n
+answered-one : (o m n : List ℕ) (service : SettingsView) (before : Course) (was now : GroupsView) (old mid new bytes : List ℕ)
+    → (done : ScriptAnswered (Some o) (Some m) service before was old mid) → ((more : List ℕ) → cut (mid ++ more) ≡ line bytes (cut (new ++ more))) → AnswersLine service done.later bytes now m n
     → ScriptAnswered (Some o) (Some n) service before now old new
-answered-one o m n service before was now old mid new s done taken answer =
-    let said = line_act service done.later.entries (string_bytes s) in
+answered-one o m n service before was now old mid new bytes done taken answer =
+    let said = line_act service done.later.entries bytes in
     let reply = answer_to service done.later said in record {
       out = done.out ++ reply;
       later = course_with service done.later said;
@@ -42,36 +45,60 @@ answered-one o m n service before was now old mid new s done taken answer =
       wrote = Appends-trans (Some o) (Some m) (Some n) done.out reply done.wrote answer.wrote;
       text_is = λ more.
           done.text_is more
-          ∙ ap (λ k. done.out ++ text service done.later k) (taken.1 more)
-          ∙ ap (λ ys. done.out ++ ys) (text-line service done.later (string_bytes s) _)
+          ∙ ap (λ k. done.out ++ text service done.later k) (taken more)
+          ∙ ap (λ ys. done.out ++ ys) (text-line service done.later bytes _)
           ∙ sym (append_assoc done.out reply _);
-      stops_is = λ more. done.stops_is more ∙ ap stops (taken.1 more);
+      stops_is = λ more. done.stops_is more ∙ ap stops (taken more);
     }
 
 -- what a line does, whatever came before
 abbrev pub DoesLine : SettingsView → GroupsView → List ℕ → GroupsView → List ℕ → List ℕ → Type 0
 DoesLine service was bytes now m n = (before : Course) → GroupsShow service was before → AnswersLine service before bytes now m n
 
--- one line more was taken and answered
-pub answered-found : (o m n : List ℕ) (service : SettingsView) (before : Course) (was now : GroupsView) (old mid new bytes : List ℕ) (found : Option (String Global)) (s : String Global)
-    → ScriptAnswered (Some o) (Some m) service before was old mid → found ≡ Some s → TakesLine mid (Ok found) new → bytes ≡ string_bytes s → DoesLine service was bytes now m n
-    → ScriptAnswered (Some o) (Some n) service before now old new
-answered-found o m n service before was now old mid new bytes found s done is taken same does =
-    answered-one o m n service before was now old mid new s done
-    (subst (λ (f : Option (String Global)). TakesLine mid (Ok f) new) is taken)
-    (subst (λ (ys : List ℕ). AnswersLine service done.later ys now m n) same (does done.later done.agrees))
+-- what stands behind the bytes that were taken, as the code cuts it
+abbrev pub behind : ℕ → List ℕ → List ℕ
+behind taken old = take (length old - taken) (drop taken old)
 
--- no line could be taken
-pub refused-next : (a b : Option (List ℕ)) (service : SettingsView) (before : Course) (groups : GroupsView) (old mid new more : List ℕ) (e : PortError)
-    → ScriptAnswered a b service before groups old mid → TakesLine mid (Err e) new → ScriptOutcome a b service before (cut (old ++ more)) (Err e)
-refused-next a b service before groups old mid new more Line done taken =
+behind-is : (taken : ℕ) (old : List ℕ) → behind taken old ≡ drop taken old
+behind-is taken old = take_all (length old - taken) (drop taken old) (omega (arith, length-drop taken old))
+
+-- the line in front of what is left takes no more than that
+pub front-within : (old : List ℕ) (taken : ℕ) (found : Option FrontLine) (front : FrontLine) → found ≡ Some front → IsFront (behind taken old) (Ok found) → taken ≤ length old
+    → taken + front.taken ≤ length old
+front-within old taken found front is in_front low =
+    let next : IsFront (behind taken old) (Ok (Some front)) = subst (λ (f : Option FrontLine). IsFront (behind taken old) (Ok f)) is in_front in
+    omega (arith, next.1, length-take (length old - taken) (drop taken old))
+
+-- one line more was answered, that in front of what is left
+pub answered-found : (o m n : List ℕ) (service : SettingsView) (before : Course) (was now : GroupsView) (old : List ℕ) (taken : ℕ) (found : Option FrontLine) (front : FrontLine)
+    → ScriptAnswered (Some o) (Some m) service before was old (drop taken old) → found ≡ Some front → IsFront (behind taken old) (Ok found) → DoesLine service was front.text.now now m n
+    → ScriptAnswered (Some o) (Some n) service before now old (drop (taken + front.taken) old)
+answered-found o m n service before was now old taken found front done is in_front does =
+    let some : IsFront (behind taken old) (Ok (Some front)) = subst (λ (f : Option FrontLine). IsFront (behind taken old) (Ok f)) is in_front in
+    let next : IsFront (drop taken old) (Ok (Some front)) = subst (λ (ys : List ℕ). IsFront ys (Ok (Some front))) (behind-is taken old) some in
+    subst (λ (ys : List ℕ). ScriptAnswered (Some o) (Some n) service before now old ys) (drop-drop front.taken taken old)
+    (answered-one o m n service before was now old (drop taken old) (drop front.taken (drop taken old)) front.text.now done next.2 (does done.later done.agrees))
+
+refused-line : (a b : Option (List ℕ)) (service : SettingsView) (before : Course) (groups : GroupsView) (old mid more : List ℕ) (e : PortError)
+    → ScriptAnswered a b service before groups old mid → IsFront mid (Err e) → ScriptOutcome a b service before (cut (old ++ more)) (Err e)
+refused-line a b service before groups old mid more Line done refused =
     let all : text service before (cut (old ++ more)) ≡ done.out =
-    done.text_is more ∙ ap (λ k. done.out ++ text service done.later k) (taken more) ∙ ap (λ ys. done.out ++ ys) (text-stopped service done.later) ∙ append-nil done.out in
-    (subst (λ (ys : List ℕ). Appends a b ys) (sym all) done.wrote, done.stops_is more ∙ ap stops (taken more))
-refused-next a b service before groups old mid new more Memory done taken =
-    subst (λ (ys : List ℕ). WritesFront a b ys) (sym (done.text_is more)) (whole-front a b done.out _ done.wrote)
-refused-next a b service before groups old mid new more Read done taken = absurd taken
-refused-next a b service before groups old mid new more Write done taken = absurd taken
+    done.text_is more ∙ ap (λ k. done.out ++ text service done.later k) (refused more) ∙ ap (λ ys. done.out ++ ys) (text-stopped service done.later) ∙ append-nil done.out in
+    (subst (λ (ys : List ℕ). Appends a b ys) (sym all) done.wrote, done.stops_is more ∙ ap stops (refused more))
+refused-line a b service before groups old mid more Memory done refused = absurd refused
+refused-line a b service before groups old mid more Read done refused = absurd refused
+refused-line a b service before groups old mid more Write done refused = absurd refused
+
+-- the line in front of what is left is refused
+pub refused-next : (a b : Option (List ℕ)) (service : SettingsView) (before : Course) (groups : GroupsView) (old : List ℕ) (taken : ℕ) (more : List ℕ) (e : PortError)
+    → ScriptAnswered a b service before groups old (drop taken old) → IsFront (behind taken old) (Err e) → ScriptOutcome a b service before (cut (old ++ more)) (Err e)
+refused-next a b service before groups old taken more e done refused =
+    refused-line a b service before groups old (drop taken old) more e done (subst (λ (ys : List ℕ). IsFront ys (Err e)) (behind-is taken old) refused)
+
+-- no line has ended in what is left
+pub none-left : (old : List ℕ) (taken : ℕ) (found : Option FrontLine) → found ≡ None → IsFront (behind taken old) (Ok found) → has_line (drop taken old) ≡ false
+none-left old taken found is in_front =
+    ap has_line (sym (behind-is taken old)) ∙ subst (λ (f : Option FrontLine). IsFront (behind taken old) (Ok f)) is in_front
 
 -- a line was taken, and there was no memory to answer it
 pub unanswered : (o m n : List ℕ) (service : SettingsView) (before : Course) (groups : GroupsView) (old mid more : List ℕ)
@@ -81,14 +108,14 @@ unanswered o m n service before groups old mid more done kept =
     subst (λ (ys : List ℕ). WritesFront (Some o) (Some n) ys) (sym (done.text_is more)) (whole-front (Some o) (Some n) done.out _ wrote)
 
 -- the last line of an input
-pub last-found : (o n : List ℕ) (service : SettingsView) (before : Course) (was now : GroupsView) (rest bytes : List ℕ) (found : Option (String Global)) (s : String Global) (x : Unit {0})
-    → found ≡ Some s → IsLast rest (Ok found) → bytes ≡ string_bytes s → DoesLine service was bytes now o n → GroupsShow service was before
+pub last-found : (o n : List ℕ) (service : SettingsView) (before : Course) (was now : GroupsView) (rest : List ℕ) (found : Option (Bor (List ℕ))) (bytes : Bor (List ℕ)) (x : Unit {0})
+    → found ≡ Some bytes → IsEnd rest (Ok found) → DoesLine service was bytes.now now o n → GroupsShow service was before
     → ScriptOutcome (Some o) (Some n) service before (cut rest) (Ok x)
-last-found o n service before was now rest bytes found s x is last same does agrees =
-    let said = line_act service before.entries bytes in
-    let is_line : cut rest ≡ line bytes ended = subst (λ (f : Option (String Global)). IsLast rest (Ok f)) is last ∙ ap (λ ys. line ys ended) (sym same) in
+last-found o n service before was now rest found bytes x is last does agrees =
+    let said = line_act service before.entries bytes.now in
+    let is_line : cut rest ≡ line bytes.now ended = subst (λ (f : Option (Bor (List ℕ))). IsEnd rest (Ok f)) is last in
     let all : text service before (cut rest) ≡ answer_to service before said =
-    ap (text service before) is_line ∙ text-line service before bytes ended ∙ ap (λ ys. answer_to service before said ++ ys) (text-ended service (course_with service before said)) ∙ append-nil _ in
+    ap (text service before) is_line ∙ text-line service before bytes.now ended ∙ ap (λ ys. answer_to service before said ++ ys) (text-ended service (course_with service before said)) ∙ append-nil _ in
     (subst (λ (ys : List ℕ). Appends (Some o) (Some n) ys) (sym all) (does before agrees).wrote, ap stops is_line)
 
 -- there was no memory to answer the last line
@@ -96,17 +123,17 @@ pub last-unanswered : (o n : List ℕ) (service : SettingsView) (before : Course
 last-unanswered o n service before c kept = (0, kept-appends o n kept)
 
 -- there is no last line
-pub last-none : (o : List ℕ) (service : SettingsView) (before : Course) (rest : List ℕ) (found : Option (String Global)) (x : Unit {0})
-    → found ≡ None → IsLast rest (Ok found) → ScriptOutcome (Some o) (Some o) service before (cut rest) (Ok x)
+pub last-none : (o : List ℕ) (service : SettingsView) (before : Course) (rest : List ℕ) (found : Option (Bor (List ℕ))) (x : Unit {0})
+    → found ≡ None → IsEnd rest (Ok found) → ScriptOutcome (Some o) (Some o) service before (cut rest) (Ok x)
 last-none o service before rest found x is last =
-    let is_end : cut rest ≡ ended = subst (λ (f : Option (String Global)). IsLast rest (Ok f)) is last in
+    let is_end : cut rest ≡ ended = subst (λ (f : Option (Bor (List ℕ))). IsEnd rest (Ok f)) is last in
     (subst (λ (ys : List ℕ). Appends (Some o) (Some o) ys) (sym (ap (text service before) is_end ∙ text-ended service before)) (Appends-nil (Some o)), ap stops is_end)
 
--- the last line is refused, or memory was wanting
-pub last-refused : (o : List ℕ) (service : SettingsView) (before : Course) (rest : List ℕ) (e : PortError) → IsLast rest (Err e) → ScriptOutcome (Some o) (Some o) service before (cut rest) (Err e)
+-- the last line is refused
+pub last-refused : (o : List ℕ) (service : SettingsView) (before : Course) (rest : List ℕ) (e : PortError) → IsEnd rest (Err e) → ScriptOutcome (Some o) (Some o) service before (cut rest) (Err e)
 last-refused o service before rest Line last =
     (subst (λ (ys : List ℕ). Appends (Some o) (Some o) ys) (sym (ap (text service before) last ∙ text-stopped service before)) (Appends-nil (Some o)), ap stops last)
-last-refused o service before rest Memory last = (0, Appends-nil (Some o))
+last-refused o service before rest Memory last = absurd last
 last-refused o service before rest Read last = absurd last
 last-refused o service before rest Write last = absurd last
 

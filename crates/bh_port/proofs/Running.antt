@@ -101,14 +101,14 @@ progress-stops (Some all) (Some left) w0 w1 w2 service groups buffer r p o =
     let done = p.answered in
     outcome-after w0 w1 w2 service done.out (new_course service) done.later _ _ r done.wrote (all-text all left w0 w1 service groups buffer p) (all-stops all left w0 w1 service groups buffer p) (o done.later left done.agrees)
 
--- the run stops where the input ends
-pub progress-ends : (all now w0 w1 w2 : Option (List ℕ)) (service : SettingsView) (groups : GroupsView) (buffer : List ℕ) (r : Result (Unit {0}) PortError)
-    → Progress all now w0 w1 service groups buffer → IsAtEnd now → ((before : Course) → GroupsShow service groups before → ScriptOutcome w1 w2 service before (cut buffer) r)
+-- the run stops where the input ends, over the bytes of the buffer as they were lent
+pub progress-ends : (all now w0 w1 w2 : Option (List ℕ)) (service : SettingsView) (groups : GroupsView) (lent buffer : List ℕ) (r : Result (Unit {0}) PortError)
+    → Progress all now w0 w1 service groups buffer → IsAtEnd now → lent ≡ buffer → ((before : Course) → GroupsShow service groups before → ScriptOutcome w1 w2 service before (cut lent) r)
     → IfSome all (λ input. ScriptOutcome w0 w2 service (new_course service) (cut input) r)
-progress-ends None now w0 w1 w2 service groups buffer r p e o = tt
-progress-ends (Some all) None w0 w1 w2 service groups buffer r p e o = absurd p
-progress-ends (Some all) (Some left) w0 w1 w2 service groups buffer r p e o =
-    let same : buffer ≡ buffer ++ left = sym (append-nil buffer) ∙ ap (λ ys. buffer ++ ys) (sym e) in
+progress-ends None now w0 w1 w2 service groups lent buffer r p e lends o = tt
+progress-ends (Some all) None w0 w1 w2 service groups lent buffer r p e lends o = absurd p
+progress-ends (Some all) (Some left) w0 w1 w2 service groups lent buffer r p e lends o =
+    let same : lent ≡ buffer ++ left = lends ∙ sym (append-nil buffer) ∙ ap (λ ys. buffer ++ ys) (sym e) in
     let done = p.answered in
     outcome-after w0 w1 w2 service done.out (new_course service) done.later _ _ r done.wrote (all-text all left w0 w1 service groups buffer p) (all-stops all left w0 w1 service groups buffer p)
     (subst (λ (ys : List ℕ). ScriptOutcome w1 w2 service done.later (cut ys) r) same (o done.later done.agrees))

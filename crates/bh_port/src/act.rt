@@ -1,6 +1,6 @@
 //! What a line asks of the groups of a run, and what it is told.
 
-ghost use Rattle.std.specs.Prelude.{◌≡◌, Err, IfOk, MatchResult, Ok, OnErr, OnOk};
+ghost use Rattle.std.specs.Prelude.{◌≡◌, Err, IfOk, MatchResult, Ok, OnErr, OnOk, option_copied};
 ghost use Rattle.bh_lines.specs.declared.told.Told.TheVariants as told;
 ghost use Rattle.bh_lines.specs.Flat.{members_data};
 ghost use Rattle.bh_lines.specs.ScriptLine.{asked_at};
@@ -11,7 +11,7 @@ ghost use Rattle.bh_port.specs.Course.{Course, IsActOf, act_asked, is_free, line
 ghost use Rattle.bh_port.specs.Script.{GroupsShow};
 ghost use Rattle.bh_port.specs.Text.{told_by, with_act};
 
-use crate::commands::{further_command, told_command};
+use crate::commands::{assigned_command, further_command};
 use crate::groups::Groups;
 use crate::steps::{group_number, tell_step};
 use bh_base::{GroupId, Reply, Step, Text};
@@ -149,6 +149,7 @@ impl Groups {
             LineAct::Step(step) => {
                 let mut reply = Reply::NoGroup;
                 let command = self.make_step(settings, step, &mut reply);
+                let command = command.copied();
                 Ok(Told::Reply { reply, command })
             }
             LineAct::Register { name, like } => {
@@ -166,20 +167,20 @@ impl Groups {
     }
 
     /// Makes the step that a line asks for, writes its reply where the caller keeps it, and answers the name of the further
-    /// command whose run is assigned, as in `Told::Reply`: a line is told both.
-    pub(crate) fn make_step(
+    /// command whose run is assigned, as in `Told::Reply`, where the settings have it: a line is told both.
+    pub(crate) fn make_step<'a>(
         &mut self,
-        settings: &Settings,
+        settings: &'a Settings,
         step: &Step,
         reply: &mut Reply,
-    ) -> Option<Text<32>>
+    ) -> Option<&'a Text<32>>
         requires { IsActOf (settings_view settings.now) self.old.entries (act.Step step.now) }
         ensures told { (before : Course) → GroupsShow (settings_view settings.now) self.old before →
-            told.Reply reply.new result ≡ told_by (settings_view settings.now) before (act.Step step.entry.now) }
+            told.Reply reply.new (option_copied result) ≡ told_by (settings_view settings.now) before (act.Step step.entry.now) }
         ensures agrees { (before : Course) → GroupsShow (settings_view settings.now) self.old before →
             GroupsShow (settings_view settings.now) self.new (with_act (settings_view settings.now) before (act.Step step.entry.now)) }
     {
         self.apply_to(step.group, step.now, &step.op, reply);
-        told_command(settings, self, step.group, reply)
+        assigned_command(settings, self, step.group, reply)
     }
 }

@@ -79,10 +79,22 @@ pub fn told_command(
 ) -> Option<Text<32>>
     ensures { result ≡ told_name (settings_view settings.now) groups.now.entries group.0 reply.now }
 {
+    assigned_command(settings, groups, group, reply).copied()
+}
+
+/// The same name where the settings have it, so that it can be told without a copy.
+pub(crate) fn assigned_command<'a>(
+    settings: &'a Settings,
+    groups: &Groups,
+    group: GroupId,
+    reply: &Reply,
+) -> Option<&'a Text<32>>
+    ensures { option_copied result ≡ told_name (settings_view settings.now) groups.now.entries group.0 reply.now }
+{
     match reply {
         Reply::Assigned { command, .. } => {
             let entry = groups.entry(group)?;
-            command_name(settings, GroupId(entry.like), *command).copied()
+            command_name(settings, GroupId(entry.like), *command)
         }
         _ => None,
     }

@@ -1,7 +1,6 @@
 //! A run of a script: lines are answered as they come, each by the line of what it is told or of its fault.
 
-ghost use Rattle.std.specs.Prelude.{◌≡◌, ◌⊎◌, ◌++◌, ℕ, List, false, Some, Err, OnOk, OnErr, IfErr, option_copied};
-ghost use Rattle.bh_lines.specs.ReplyLine.{reply_line};
+ghost use Rattle.std.specs.Prelude.{◌≡◌, ◌⊎◌, ◌++◌, ◌≤◌, ℕ, List, drop, false, length, Some, Err, OnOk, OnErr, IfErr, IfOk};
 ghost use Rattle.bh_props.specs.Shown.{settings_view};
 ghost use Rattle.bh_lines.specs.Lines.{cut, has_line};
 ghost use Rattle.bh_lines.specs.Taken.{IsMemoryOrLine};
@@ -14,8 +13,8 @@ ghost use Rattle.bh_port.specs.Script.{GroupsShow, AnswersLine, ScriptAnswered, 
 
 use crate::act::{LineAct, line_act};
 use crate::groups::Groups;
-use bh_base::{Reply, Text};
-use bh_lines::{Fault, PortError, Told, last_line, next_line, put_fault, put_reply, put_told};
+use bh_base::Reply;
+use bh_lines::{Fault, PortError, end_line, front_line, put_fault, put_reply, put_told};
 use bh_props::Settings;
 use bh_streams::{WatchedWriter, write};
 use bytes::BytesMut;
@@ -23,90 +22,97 @@ use json::Scratch;
 use std::alloc::{AllocError, Global};
 use std::io::Write;
 
-/// A run of a script: the groups, the bytes whose line has not ended, what the last line asked for, the reply to the last
-/// step, the answers that are to be written at once, the last of them by itself, and what reading a line takes in memory.
+/// A run of a script: the groups, what the last line asked for, the reply to the last step, the answers that are to be
+/// written at once, and what reading a line takes in memory. The bytes that have come stand
+/// elsewhere, so that each line is answered from where it stands in them.
 #[derive(Drop)]
 pub struct Run {
     pub alloc: Global,
     pub groups: Groups,
-    pub buffer: BytesMut,
     pub act: LineAct,
     pub reply: Reply,
     pub out: Vec<u8>,
-    /// The library's writer clears as many bytes beyond its text as stand before it, so an answer is put here first.
-    pub answer: Vec<u8>,
     pub scratch: Scratch,
 }
 
 impl Run {
-    /// Answers each line that has ended, and writes the answers at once; also where the next line is refused.
+    /// Answers each line of the buffer that has ended, and writes the answers at once; also where the next line is refused.
+    /// The buffer then begins behind the last of them.
     pub fn write_answers<W: Write>(
         &mut self,
         settings: &Settings,
+        buffer: &mut BytesMut,
         writer: &mut WatchedWriter<'_, W>,
     ) -> Result<(), PortError>
         ensures answered { OnOk result ((before : Course) → GroupsShow (settings_view settings.now) self.old.groups before →
-            ScriptAnswered (bytes_held W.contents writer.old) (bytes_held W.contents writer.new) (settings_view settings.now) before self.new.groups self.old.buffer.items self.new.buffer.items) }
-        ensures none_left { OnOk result (has_line self.new.buffer.items ≡ false) }
+            ScriptAnswered (bytes_held W.contents writer.old) (bytes_held W.contents writer.new) (settings_view settings.now) before self.new.groups buffer.old.items buffer.new.items) }
+        ensures none_left { OnOk result (has_line buffer.new.items ≡ false) }
         ensures no_read { IfErr result IsNotRead }
         ensures same_writer { (writer_of writer.new).ghost_name ≡ (writer_of writer.old).ghost_name }
         ensures refused { result ≡ Err PortError.Write → OneRefused writer.old writer.new }
         ensures not_refused { (result ≡ Err PortError.Write) ⊎ NoneRefused writer.old writer.new }
         ensures stopped { IfErr result (λ e. (before : Course) (more : List ℕ) → GroupsShow (settings_view settings.now) self.old.groups before →
-            ScriptOutcome (bytes_held W.contents writer.old) (bytes_held W.contents writer.new) (settings_view settings.now) before (cut (self.old.buffer.items ++ more)) (Err e)) }
+            ScriptOutcome (bytes_held W.contents writer.old) (bytes_held W.contents writer.new) (settings_view settings.now) before (cut (buffer.old.items ++ more)) (Err e)) }
     {
         self.out.clear();
-        let answered = self.answer_lines(settings);
+        let answered = self.answer_lines(settings, buffer.as_slice());
         write(writer, self.out.as_slice())?;
-        answered
+        let taken = answered?;
+        buffer.advance(taken);
+        Ok(())
     }
 
     /// Answers the line at the end of the input that no line feed ended, if any, and writes the answer.
     pub fn write_last<W: Write>(
         &mut self,
         settings: &Settings,
+        rest: &[u8],
         writer: &mut WatchedWriter<'_, W>,
     ) -> Result<(), PortError>
-        requires { has_line self.old.buffer.items ≡ false }
+        requires { has_line rest.now ≡ false }
         ensures no_read { IfErr result IsNotRead }
         ensures same_writer { (writer_of writer.new).ghost_name ≡ (writer_of writer.old).ghost_name }
         ensures refused { result ≡ Err PortError.Write → OneRefused writer.old writer.new }
         ensures not_refused { (result ≡ Err PortError.Write) ⊎ NoneRefused writer.old writer.new }
         ensures outcome { (before : Course) → GroupsShow (settings_view settings.now) self.old.groups before →
-            ScriptOutcome (bytes_held W.contents writer.old) (bytes_held W.contents writer.new) (settings_view settings.now) before (cut self.old.buffer.items) result }
+            ScriptOutcome (bytes_held W.contents writer.old) (bytes_held W.contents writer.new) (settings_view settings.now) before (cut rest.now) result }
     {
         self.out.clear();
-        let answered = self.answer_last(settings);
+        let answered = self.answer_last(settings, rest);
         write(writer, self.out.as_slice())?;
         answered
     }
 
-    /// Answers each line that has ended, behind what is to be written, and keeps the bytes that follow the last of them.
-    fn answer_lines(&mut self, settings: &Settings) -> Result<(), PortError>
-        ensures answered { OnOk result ((before : Course) → GroupsShow (settings_view settings.now) self.old.groups before →
-            ScriptAnswered (Some self.old.out.items) (Some self.new.out.items) (settings_view settings.now) before self.new.groups self.old.buffer.items self.new.buffer.items) }
-        ensures none_left { OnOk result (has_line self.new.buffer.items ≡ false) }
+    /// Answers each line of the bytes that has ended, behind what is to be written, and tells how many of the bytes these
+    /// lines take.
+    fn answer_lines(&mut self, settings: &Settings, bytes: &[u8]) -> Result<usize, PortError>
+        ensures within { IfOk result (λ taken. taken ≤ length bytes.now) }
+        ensures answered { IfOk result (λ taken. (before : Course) → GroupsShow (settings_view settings.now) self.old.groups before →
+            ScriptAnswered (Some self.old.out.items) (Some self.new.out.items) (settings_view settings.now) before self.new.groups bytes.now (drop taken bytes.now)) }
+        ensures none_left { IfOk result (λ taken. has_line (drop taken bytes.now) ≡ false) }
         ensures kinds { IfErr result IsMemoryOrLine }
         ensures stopped { IfErr result (λ e. (before : Course) (more : List ℕ) → GroupsShow (settings_view settings.now) self.old.groups before →
-            ScriptOutcome (Some self.old.out.items) (Some self.new.out.items) (settings_view settings.now) before (cut (self.old.buffer.items ++ more)) (Err e)) }
+            ScriptOutcome (Some self.old.out.items) (Some self.new.out.items) (settings_view settings.now) before (cut (bytes.now ++ more)) (Err e)) }
     {
-        'lines: while let Some(line) = next_line(&mut self.buffer)? {
-            self.answer_line(settings, line.as_str())?;
+        let mut taken = 0;
+        'lines: while let Some(line) = front_line(&bytes[taken..])? {
+            self.answer_line(settings, line.text)?;
+            taken += line.taken;
         }
-        Ok(())
+        Ok(taken)
     }
 
     /// Answers the line at the end of the input that no line feed ended, if any.
-    fn answer_last(&mut self, settings: &Settings) -> Result<(), PortError>
-        requires { has_line self.old.buffer.items ≡ false }
+    fn answer_last(&mut self, settings: &Settings, rest: &[u8]) -> Result<(), PortError>
+        requires { has_line rest.now ≡ false }
         ensures kinds { IfErr result IsMemoryOrLine }
         ensures outcome { (before : Course) → GroupsShow (settings_view settings.now) self.old.groups before →
-            ScriptOutcome (Some self.old.out.items) (Some self.new.out.items) (settings_view settings.now) before (cut self.old.buffer.items) result }
+            ScriptOutcome (Some self.old.out.items) (Some self.new.out.items) (settings_view settings.now) before (cut rest.now) result }
     {
-        let Some(line) = last_line(&mut self.buffer)? else {
+        let Some(line) = end_line(rest)? else {
             return Ok(());
         };
-        self.answer_line(settings, line.as_str())?;
+        self.answer_line(settings, line)?;
         Ok(())
     }
 
@@ -115,7 +121,6 @@ impl Run {
         ensures answers { OnOk result ((before : Course) → GroupsShow (settings_view settings.now) self.old.groups before →
             AnswersLine (settings_view settings.now) before line.now self.new.groups self.old.out.items self.new.out.items) }
         ensures kept { OnErr result (self.new.out.items ≡ self.old.out.items) }
-        ensures left { self.new.buffer ≡ self.old.buffer }
     {
         let said = line_act(
             self.alloc,
@@ -139,17 +144,10 @@ impl Run {
         ensures agrees { OnOk result ((before : Course) → GroupsShow (settings_view settings.now) self.old.groups before →
             GroupsShow (settings_view settings.now) self.new.groups (with_act (settings_view settings.now) before self.old.act)) }
         ensures kept { OnErr result (self.new.out.items ≡ self.old.out.items) }
-        ensures left { self.new.buffer ≡ self.old.buffer }
     {
         if let LineAct::Step(step) = &self.act {
             let command = self.groups.make_step(settings, step, &mut self.reply);
-            return append_reply(
-                self.alloc,
-                &mut self.answer,
-                &mut self.out,
-                &self.reply,
-                command.as_ref(),
-            );
+            return put_reply(self.alloc, &mut self.out, &self.reply, command);
         }
         self.answer_change(settings)
     }
@@ -163,12 +161,11 @@ impl Run {
         ensures agrees { OnOk result ((before : Course) → GroupsShow (settings_view settings.now) self.old.groups before →
             GroupsShow (settings_view settings.now) self.new.groups (with_act (settings_view settings.now) before self.old.act)) }
         ensures kept { OnErr result (self.new.out.items ≡ self.old.out.items) }
-        ensures left { self.new.buffer ≡ self.old.buffer }
     {
         let Ok(told) = self.groups.act(settings, &self.act) else {
             return Err(AllocError);
         };
-        append_told(self.alloc, &mut self.answer, &mut self.out, &told)
+        put_told(self.alloc, &mut self.out, &told)
     }
 
     /// Puts the line of a fault behind what is to be written.
@@ -176,54 +173,7 @@ impl Run {
         ensures wrote { OnOk result (self.new.out.items ≡ self.old.out.items ++ fault_line fault) }
         ensures same { self.new.groups ≡ self.old.groups }
         ensures kept { OnErr result (self.new.out.items ≡ self.old.out.items) }
-        ensures left { self.new.buffer ≡ self.old.buffer }
     {
-        append_fault(self.alloc, &mut self.answer, &mut self.out, fault)
+        put_fault(self.alloc, &mut self.out, fault)
     }
-}
-
-/// Puts the line of a reply behind the bytes, by way of a buffer for one line.
-fn append_reply(
-    alloc: Global,
-    line: &mut Vec<u8>,
-    bytes: &mut Vec<u8>,
-    reply: &Reply,
-    command: Option<&Text<32>>,
-) -> Result<(), AllocError>
-    ensures ok { OnOk result (bytes.new.items ≡ bytes.old.items ++ reply_line (option_copied command.entry) reply.now) }
-    ensures err { OnErr result (bytes.new.items ≡ bytes.old.items) }
-{
-    line.clear();
-    put_reply(alloc, line, reply, command)?;
-    bytes.extend_from_slice(line.as_slice())
-}
-
-/// Puts the line of what is told behind the bytes, by way of a buffer for one line.
-fn append_told(
-    alloc: Global,
-    line: &mut Vec<u8>,
-    bytes: &mut Vec<u8>,
-    told: &Told,
-) -> Result<(), AllocError>
-    ensures ok { OnOk result (bytes.new.items ≡ bytes.old.items ++ told_line told.now) }
-    ensures err { OnErr result (bytes.new.items ≡ bytes.old.items) }
-{
-    line.clear();
-    put_told(alloc, line, told)?;
-    bytes.extend_from_slice(line.as_slice())
-}
-
-/// Puts the line of the fault behind the bytes, by way of a buffer for one line.
-fn append_fault(
-    alloc: Global,
-    line: &mut Vec<u8>,
-    bytes: &mut Vec<u8>,
-    fault: Fault,
-) -> Result<(), AllocError>
-    ensures ok { OnOk result (bytes.new.items ≡ bytes.old.items ++ fault_line fault) }
-    ensures err { OnErr result (bytes.new.items ≡ bytes.old.items) }
-{
-    line.clear();
-    put_fault(alloc, line, fault)?;
-    bytes.extend_from_slice(line.as_slice())
 }

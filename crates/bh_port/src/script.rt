@@ -66,18 +66,17 @@ pub fn script<R: Read, W: Write>(
     let mut run = Run {
         alloc,
         groups,
-        buffer: BytesMut::new(alloc),
         act: LineAct::Retire(GroupId(0)),
         reply: Reply::NoGroup,
         out: Vec::new(alloc),
-        answer: Vec::new(alloc),
         scratch: Scratch::new(alloc),
     };
+    let mut buffer = BytesMut::new(alloc);
     let mut piece = [0u8; READ_SIZE];
     for _ in 0..MOST_READS {
-        run.write_answers(settings, writer)?;
-        if !fill(reader, &mut piece, &mut run.buffer)? {
-            return run.write_last(settings, writer);
+        run.write_answers(settings, &mut buffer, writer)?;
+        if !fill(reader, &mut piece, &mut buffer)? {
+            return run.write_last(settings, buffer.as_slice(), writer);
         }
     }
     Err(PortError::Read)

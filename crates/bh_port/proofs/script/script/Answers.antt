@@ -24,7 +24,7 @@ returns-then-not-branch-clause-text g c =
     let now = progress-lines _ _ _ _ _ _ _ c.write_answers.new.self.groups _ _ c.loop.invariant.progress c.in_ok-write_answers.ensures.answered in
     let piece = c.in_ok-fill.ensures.more in
     let ended = c.in_ok-fill.ensures.end (search rules) in
-    progress-ends _ _ _ _ _ _ _ _ _ (progress-read _ _ _ _ _ _ _ _ _ _ now piece.1 piece.2) ended.0 c.write_last.ensures.outcome
+    progress-ends _ _ _ _ _ _ _ _ _ _ (progress-read _ _ _ _ _ _ _ _ _ _ now piece.1 piece.2) ended.0 c.as_slice.ensures c.write_last.ensures.outcome
 
 pub loop-preserved : goal.loop-preserved
 loop-preserved g c =
@@ -91,5 +91,5 @@ loop-init g c = record {
   none_failed = refl;
   none_refused = refl;
   piece = search rules;
-  progress = rw c.new.ensures.items (progress-start (bytes_left g.R.Read.remaining c.args.reader.now) (bytes_held g.W.Write.contents c.args.writer.now) _ _ c.in_ok-groups.ensures.agrees);
+  progress = rw c.new-buffer.ensures.items (progress-start (bytes_left g.R.Read.remaining c.args.reader.now) (bytes_held g.W.Write.contents c.args.writer.now) _ _ c.in_ok-groups.ensures.agrees);
 }

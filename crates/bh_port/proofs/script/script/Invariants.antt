@@ -14,5 +14,5 @@ invariant-loop g l = record {
   none_refused : NoneRefused l.fn.writer l.writer;
   piece : length l.piece ≡ 65536;
   progress : Progress (bytes_left g.R.Read.remaining l.fn.reader) (bytes_left g.R.Read.remaining l.reader)
-      (bytes_held g.W.Write.contents l.fn.writer) (bytes_held g.W.Write.contents l.writer) (settings_view l.settings) l.run.groups l.run.buffer.items;
+      (bytes_held g.W.Write.contents l.fn.writer) (bytes_held g.W.Write.contents l.writer) (settings_view l.settings) l.run.groups l.buffer.items;
 }

@@ -15,7 +15,7 @@ make_step-command-requires c = subst (IsActOf (settings_view c.args.settings.now
 
 pub returns-in-Step-clause-told : goal.returns-in-Step-clause-told
 returns-in-Step-clause-told c = λ before agrees.
-    c.make_step-command.ensures.told before agrees ∙ sym (ap (told_by (settings_view c.args.settings.now) before) c.in-Step.is)
+    ap (told.Reply c.make_step-command.new.reply) c.copied-command.ensures ∙ c.make_step-command.ensures.told before agrees ∙ sym (ap (told_by (settings_view c.args.settings.now) before) c.in-Step.is)
 
 pub returns-in-Step-clause-agrees : goal.returns-in-Step-clause-agrees
 returns-in-Step-clause-agrees c = λ before agrees.

@@ -11,7 +11,7 @@ returns-clause-told c = λ before agrees.
     let step = c.args.step.now in
     let n = step.group.0 in
     let r = c.apply_to.new.reply in
-    ap (told.Reply r) (c.told_command.ensures ∙ ap (λ es. told_name service es n r) c.apply_to.ensures.entries)
+    ap (told.Reply r) (c.assigned_command.ensures ∙ ap (λ es. told_name service es n r) c.apply_to.ensures.entries)
     ∙ ap (λ es. told_reply service es n r) agrees.entries
     ∙ ap (told_reply service before.entries n) (reply-step service c.args.self.now c.apply_to.new.self before step r agrees c.apply_to.ensures.step)
 

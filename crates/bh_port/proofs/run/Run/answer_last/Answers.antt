@@ -13,4 +13,4 @@ returns-in_err-line-clause-outcome c = λ before agrees.
 
 pub returns-clause-outcome : goal.returns-clause-outcome
 returns-clause-outcome c = λ before agrees.
-    last-found _ _ _ before _ _ _ _ _ _ tt c.in-Some.is c.in_ok-line.ensures c.as_str.ensures.value c.in_ok-answer_line.ensures.answers agrees
+    last-found _ _ _ before _ _ _ _ _ tt c.in-Some.is c.in_ok-line.ensures c.in_ok-answer_line.ensures.answers agrees
