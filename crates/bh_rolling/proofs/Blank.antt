@@ -15,6 +15,7 @@ use Rattle.bh_rolling.specs.declared.ring.Ring.TheInside.{Inside}
 use Rattle.bh_rolling.specs.Buckets.{cleared, fresh, is_within, count_by_age, table_by_age, within_count, IsEmptyAfter}
 use Rattle.bh_rolling.specs.Inside.{ring_view, IsRing}
 use Rattle.bh_rolling.specs.RingView.{empty_ring, IsTableOf}
+use Rattle.bh_rolling.specs.Stretches.{stretch_at}
 
 -- the bucket has no event
 abbrev pub IsBlank : Bucket → Type 0
@@ -50,11 +51,12 @@ module _ (i : Inside) (start : i.latest ≡ 0) (all : AllByRecursion IsBlank i.b
       rows = map_same _ _ i.window.buckets no_counts (λ age inside. counts_by_same _ _ (λ k. none_kept i.buckets.items (bucket_of i.window i.latest) age k all))
 
   -- and is one
-  pub blank_ring : 0 < i.window.buckets → 0 < i.window.width → length i.buckets.items ≡ i.window.buckets → ((q : ℕ) (d : Bucket) → q < i.window.buckets → (get_or i.buckets.items q d).number % i.window.buckets ≡ q) → IsRing i
-  blank_ring some width len placed = record {
+  pub blank_ring : 0 < i.window.buckets → 0 < i.window.width → length i.buckets.items ≡ i.window.buckets → i.newest ≡ stretch_at i.window i.latest → ((q : ℕ) (d : Bucket) → q < i.window.buckets → (get_or i.buckets.items q d).number % i.window.buckets ≡ q) → IsRing i
+  blank_ring some width len newest placed = record {
     some = some;
     width = width;
     buckets = len;
+    newest = newest;
     placed = placed;
     empty = blank_empty (bucket_of i.window i.latest) i.buckets.items all;
     bounded = λ k. omega (arith, none_within i.window.buckets (bucket_of i.window i.latest) k i.buckets.items all);

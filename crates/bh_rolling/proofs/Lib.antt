@@ -5,3 +5,5 @@ pub mod Counted
 pub mod Recorded
 pub mod Blank
 pub mod Tells
+pub mod Stretches
+pub mod Healths

@@ -17,6 +17,7 @@ use Rattle.bh_rolling.specs.declared.ring.Ring.TheInside.{Inside}
 use Rattle.bh_rolling.specs.Buckets.{table_by_age, renewed, part_within, within_count, IsEmptyAfter}
 use Rattle.bh_rolling.specs.Inside.{ring_view, IsRing}
 use Rattle.bh_rolling.specs.RingView.{ring_count, ring_recorded}
+use Rattle.bh_rolling.specs.Stretches.{stretch_at}
 use Rattle.bh_rolling.proofs.Ages.{within_count-is}
 use Rattle.bh_rolling.proofs.Written.{written, written-number, renewed_is, table_by_age-set}
 
@@ -67,7 +68,7 @@ module _ (i : Inside) (now : ℕ) (kind : EventKind) (d y : Bucket) (ring : IsRi
     (is : y ≡ written (bucket_of i.window now) kind (get_or i.buckets.items (bucket_of i.window now % i.window.buckets) d)) where
   -- the ring with the event in its bucket
   abbrev pub after : Inside
-  after = record { window = i.window; latest = now; buckets = with_item i.buckets (bucket_of i.window now % i.window.buckets) y }
+  after = record { window = i.window; latest = now; newest = stretch_at i.window now; buckets = with_item i.buckets (bucket_of i.window now % i.window.buckets) y }
 
   some : 0 < i.window.buckets
   some = ring.some
@@ -112,6 +113,7 @@ module _ (i : Inside) (now : ℕ) (kind : EventKind) (d y : Bucket) (ring : IsRi
     some = ring.some;
     width = ring.width;
     buckets = length-set i.buckets.items (bucket_of i.window now % i.window.buckets) y ∙ ring.buckets;
+    newest = refl;
     placed = placed;
     empty = all_set (IsEmptyAfter (bucket_of i.window now)) i.buckets.items (bucket_of i.window now % i.window.buckets) y
         (still_empty (bucket_of i.window i.latest) (bucket_of i.window now) i.buckets.items (div_mono i.latest now i.window.width later) ring.empty)

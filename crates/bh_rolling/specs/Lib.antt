@@ -1,3 +1,5 @@
 pub mod RingView
 pub mod Buckets
 pub mod Inside
+pub mod Stretches
+pub mod Healths

@@ -3,6 +3,8 @@
 #![tactic(auto)]
 
 mod counts;
+mod health;
 pub mod ring;
+mod stretch;
 
 pub use ring::Ring;

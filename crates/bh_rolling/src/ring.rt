@@ -3,13 +3,16 @@
 ghost use Rattle.std.specs.Prelude.{◌≡◌, ℕ, ◌+◌, ◌<◌, ◌≤◌, ◌^◌, List, [], ◌∷◌, ◌++◌, IfOk, map};
 ghost use Rattle.bh_base.specs.declared.event.Event.{Event};
 ghost use Rattle.bh_base.specs.declared.event.EventKind.{EventKind};
-ghost use Rattle.bh_base.specs.History.{count, count_in, counts_by};
+ghost use Rattle.bh_base.specs.History.{count, count_in, counts_by, health_by};
 ghost use Rattle.std.specs.List.{range_with_len};
-ghost use Rattle.bh_rolling.specs.Buckets.{cleared, fresh, renewed, part_within, within_count};
+ghost use Rattle.bh_rolling.specs.Buckets.{cleared, fresh, is_within, renewed, part_within, within_count};
+ghost use Rattle.bh_rolling.specs.Healths.{health_part, healths_summed};
 ghost use Rattle.bh_rolling.specs.RingView.{IsTableOf, empty_ring, ring_count, ring_recorded};
 
 use crate::counts::{add, count_in, no_counts, raise};
-use bh_base::{Counts, EventKind, Moment, Window};
+use crate::health::{add_health, no_health};
+use crate::stretch::Stretch;
+use bh_base::{Counts, EventKind, Health, Moment, Window};
 use std::alloc::{AllocError, Global};
 use std::marker::Model;
 
@@ -32,6 +35,8 @@ pub struct Ring {
     window: Window,
     /// The moment of the latest event, 0 where there is none.
     latest: Moment,
+    /// The stretch that the latest moment lies in.
+    newest: Stretch,
     /// The buckets, each at its number modulo how many there are.
     buckets: Vec<Bucket>,
 }
@@ -56,9 +61,11 @@ impl Ring {
         ensures empty { IfOk result (λ ring. ring ≡ empty_ring (record { buckets = buckets; width = width })) }
         ensures events { IfOk result (λ ring. IsTableOf ring []) }
     {
+        let window = Window { buckets, width };
         Ok(Ring {
-            window: Window { buckets, width },
+            window,
             latest: 0,
+            newest: Stretch::at(&window, 0),
             buckets: new_buckets(alloc, buckets)?,
         })
     }
@@ -72,11 +79,11 @@ impl Ring {
         ensures recorded { self.new ≡ ring_recorded now kind self.old }
         ensures events { (events : List Event) → IsTableOf self.old events → IsTableOf self.new (events ++ record { moment = now; kind = kind } ∷ []) }
     {
-        let number = now / self.window.width;
-        let place = (number % self.window.buckets) as usize;
-        let bucket = &mut self.buckets[place];
-        renew(bucket, number);
+        let newest = self.newest.later(&self.window, now);
+        let bucket = &mut self.buckets[newest.place];
+        renew(bucket, newest.number);
         raise(&mut bucket.counts, kind);
+        self.newest = newest;
         self.latest = now;
     }
 
@@ -86,7 +93,17 @@ impl Ring {
         ensures counts { result ≡ counts_by (ring_count self.now now) }
         ensures bound { (k : EventKind) → count_in result k ≤ 2 ^ 60 }
     {
-        sum_within(&self.buckets, self.window.buckets, now / self.window.width)
+        let end = self.newest.later(&self.window, now);
+        sum_within(&self.buckets, self.window.buckets, end.number)
+    }
+
+    /// Health in the window at the moment, which is no earlier than any recorded: the counts of health's kinds alone.
+    pub fn health(&self, now: Moment) -> Health
+        requires { self.now.latest ≤ now }
+        ensures { result ≡ health_by (ring_count self.now now) }
+    {
+        let end = self.newest.later(&self.window, now);
+        health_within(&self.buckets, self.window.buckets, end.number)
     }
 
     /// How many events of the kind lie in the window at the moment, which is no earlier than any recorded.
@@ -104,6 +121,7 @@ impl Ring {
         ensures events { IsTableOf self.new [] }
     {
         clear_buckets(&mut self.buckets);
+        self.newest = Stretch::at(&self.window, 0);
         self.latest = 0;
     }
 }
@@ -141,12 +159,19 @@ fn clear_buckets(buckets: &mut [Bucket])
     }
 }
 
+/// Whether the bucket has one of the `count` numbers up to `last`.
+fn is_within(bucket: &Bucket, count: u64, last: u64) -> bool
+    ensures { result ≡ is_within count last bucket.now }
+{
+    bucket.number <= last && last - bucket.number < count
+}
+
 /// Adds what the bucket has, where it has one of the `count` numbers up to `last`.
 fn add_within(sums: &mut Counts, bucket: &Bucket, count: u64, last: u64)
     requires { (k : EventKind) → count_in sums.old k + part_within count last k bucket.now < 2 ^ 64 }
     ensures { sums.new ≡ counts_by (λ k. count_in sums.old k + part_within count last k bucket.now) }
 {
-    if bucket.number <= last && last - bucket.number < count {
+    if is_within(bucket, count, last) {
         add(sums, &bucket.counts);
     }
 }
@@ -161,4 +186,27 @@ fn sum_within(buckets: &[Bucket], count: u64, last: u64) -> Counts
         add_within(&mut sums, bucket, count, last);
     }
     sums
+}
+
+/// Adds what the bucket has of health, where it has one of the `count` numbers up to `last`.
+fn add_health_within(health: &mut Health, bucket: &Bucket, count: u64, last: u64)
+    requires errors { health.old.errors ≤ health.old.total }
+    requires few { health.old.total + (health_part count last bucket.now).total < 2 ^ 64 }
+    ensures { health.new ≡ healths_summed health.old (health_part count last bucket.now) }
+{
+    if is_within(bucket, count, last) {
+        add_health(health, &bucket.counts);
+    }
+}
+
+/// Health over the buckets that have one of the `count` numbers up to `last`.
+fn health_within(buckets: &[Bucket], count: u64, last: u64) -> Health
+    requires { (k : EventKind) → within_count count last k buckets.now ≤ 2 ^ 60 }
+    ensures { result ≡ health_by (λ k. within_count count last k buckets.now) }
+{
+    let mut health = no_health();
+    for bucket in buckets {
+        add_health_within(&mut health, bucket, count, last);
+    }
+    health
 }

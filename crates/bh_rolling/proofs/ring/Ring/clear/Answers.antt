@@ -7,11 +7,11 @@ use Rattle.bh_rolling.specs.RingView.{RingView, IsTableOf, empty_ring}
 use Rattle.bh_rolling.proofs.Blank.{blank_ring, blank_view, empty_tells, cleared_blank, cleared_length, cleared_number}
 use Rattle.bh_rolling.proofs.ring.Ring.clear.Goals as goal
 
-abbrev left : goal.After-self-2-1 → Inside
-left c = record { window = c.self.inside.window; latest = 0; buckets = with_items c.self.inside.buckets c.clear_buckets.new.buckets }
+abbrev left : goal.After-self-3-1 → Inside
+left c = record { window = c.self.inside.window; latest = 0; newest = c.at-self-inside.result; buckets = with_items c.self.inside.buckets c.clear_buckets.new.buckets }
 
 -- the buckets after the loop are those before it, cleared
-are : (c : goal.After-self-2-1) → (with_items c.self.inside.buckets c.clear_buckets.new.buckets).items ≡ map cleared c.self.inside.buckets.items
+are : (c : goal.After-self-3-1) → (with_items c.self.inside.buckets c.clear_buckets.new.buckets).items ≡ map cleared c.self.inside.buckets.items
 are c =
     let old = c.self.inside.buckets in
     let done : c.clear_buckets.new.buckets ≡ map cleared old.items = rw c.deref_mut.ensures.value at c.clear_buckets.ensures in
@@ -21,7 +21,7 @@ pub invariant_of-self : goal.invariant_of-self
 invariant_of-self c =
     let old = c.self.inside.buckets in
     let ring = c.self.invariant in
-    blank_ring (left c) refl (cleared_blank old.items (left c).buckets.items (are c)) ring.some ring.width (cleared_length old.items (left c).buckets.items (are c) ∙ ring.buckets)
+    blank_ring (left c) refl (cleared_blank old.items (left c).buckets.items (are c)) ring.some ring.width (cleared_length old.items (left c).buckets.items (are c) ∙ ring.buckets) c.at-self-inside.ensures
     (λ q d inside. ap (λ n. n % c.self.inside.window.buckets) (cleared_number old.items (left c).buckets.items (are c) q d (omega (arith, ring.buckets))) ∙ ring.placed q d inside)
 
 pub returns-clause-empty : goal.returns-clause-empty
