@@ -1,6 +1,6 @@
 -- A ticket comes.
 use Rattle.std.proofs.Common.{◌≡◌, ℕ, zero, suc, ◌+◌, ◌<◌, ◌≤◌, inl, inr, Bool, true, false, List, [], ◌∷◌, ◌++◌, length, Option, Some, None, refl, ◌∙◌, sym, ap, subst, arith}
-use Rattle.std.specs.Prelude.{◌||◌, ◌≢◌, eqb, reverse, slice_get, is_some, if◌then◌else◌}
+use Rattle.std.specs.Prelude.{◌||◌, ◌≢◌, max, eqb, reverse, slice_get, is_some, if◌then◌else◌}
 use Rattle.std.proofs.lemmas.Bool.{cases_eq, eq-eqb, ne_eqb}
 use Rattle.std.proofs.lemmas.List.{nil_from_length, length-reverse, length-set}
 use Rattle.bh_base.specs.declared.ticket.Ticket.{Ticket}
@@ -11,9 +11,12 @@ use Rattle.bh_cache.specs.declared.lists.GroupLists.{GroupLists}
 use Rattle.bh_tickets.specs.declared.group_slots.GroupSlots.{GroupSlots}
 use Rattle.bh_slot_arena.specs.Slots.{lists_in, slots_on, with_payload, with_moved}
 use Rattle.bh_cache.specs.Slots.{Slots, has, is_on, is_live_list, is_live, is_owned, ticket_at, list_for, serial_in, InOrder, count_below, has_one, one, IsArena}
-use Rattle.bh_tickets.specs.GroupSlots.{IsNumbered, IsGroupSlots, CanAdd, IsAdded, count_at, counted_in, is_any, may_go}
+use Rattle.bh_tickets.specs.GroupSlots.{AreInTurn, IsNumbered, IsGroupSlots, CanAdd, IsAdded, count_at, counted_in, is_any, may_go, with_submit}
 use Rattle.bh_tickets.specs.declared.counts.CommandCounts.{CommandCounts}
-use Rattle.bh_tickets.specs.Counts.{HasRoomFor, counts_of}
+use Rattle.bh_tickets.specs.Counts.{HasRoomFor, all_more, counts_of, is_open, open_since}
+use Rattle.bh_tickets.proofs.InTime.{times_more}
+use Rattle.bh_tickets.proofs.InTurn.{IsTurned, turns_less, turns_more}
+use Rattle.bh_tickets.proofs.Since.{since_more, since_own}
 use Rattle.bh_tickets.proofs.ByCommand.{counts_more, has_room}
 use Rattle.bh_tickets.specs.declared.group_slots.Needless.TheVariants as needless
 use Rattle.bh_cache.proofs.Order.{order_same, order_without, order_append, front_on, front_none, count_le, count_same}
@@ -102,6 +105,10 @@ or_second : (b c : Bool) → c ≡ true → (b || c) ≡ true
 or_second true c e = refl
 or_second false c e = e
 
+-- no list for a state is the free one
+pub not_free : (g : GroupLists) (r : TicketState) → IsNumbered g → g.free ≢ list_for g r
+not_free g r n = each_list (λ l. g.free ≢ l) g (λ e. absurd (omega (arith, e, n.queued))) (λ e. absurd (omega (arith, e, n.running))) (λ e. absurd (omega (arith, e, n.settled))) r
+
 module _ (a b : Slots) (s : GroupSlots) (x : ℕ) (v : Ticket) (arena : IsArena a 0) (group : IsGroupSlots a s) (back : slice_get (reverse (slots_on a 0 s.lists.free)) 0 ≡ Some x) (can : CanAdd s v)
     (serials : IsArena a 1) (names : IsArena a 2) (is : b ≡ with_placed s.lists x (Some v) (with_moved 0 x (list_for s.lists v.state) (with_payload x v a))) where
   on : is_on a 0 s.lists.free x ≡ true
@@ -177,7 +184,22 @@ module _ (a b : Slots) (s : GroupSlots) (x : ℕ) (v : Ticket) (arena : IsArena 
       let m : count_at b s.lists q ≡ count_below (length a.payloads) (λ y. has_one q (ticket_at b s.lists y)) = ap (λ n. count_below n (λ y. has_one q (ticket_at b s.lists y))) touched.slots in
       omega (arith, k, l, m, count_point (λ y. has_one q (ticket_at a s.lists y)) (λ y. has_one q (ticket_at b s.lists y)) (length a.payloads) x within (λ y ne. ap (has_one q) (else_same y ne)))
 
-  module _ (r : GroupSlots) (made : r ≡ record (counted_in v s) { slots = record s.slots { taken = s.slots.taken + 1 }; next = s.next + 1 }) where
+  -- the running tickets, where what is noted of their turn fits the list of the new one
+  pub turns_now : (last : ℕ) (in_turn : Bool) → IsTurned a s v.serial s.lists.free (list_for s.lists v.state) last in_turn → AreInTurn b s.lists last in_turn
+  turns_now last in_turn turned = elim (cases_eq (list_for s.lists v.state) s.lists.running) [
+    | inl k ↦
+        let at_end : slots_on b 0 s.lists.running ≡ without x (slots_on a 0 s.lists.running) ++ x ∷ [] =
+        ap (λ (z : Slots). slots_on z 0 s.lists.running) is ∙ placed_on s.lists x (Some v) (with_moved 0 x (list_for s.lists v.state) (with_payload x v a)) s.lists.running ∙ ap (λ l. slots_on (with_moved 0 x l (with_payload x v a)) 0 s.lists.running) k ∙ list_to (with_payload x v a) 0 x s.lists.running arena.wide (omega (arith, group.there, group.numbered.running, group.numbered.settled)) in
+        let now = turned.starts (λ e. not_free s.lists v.state group.numbered e) k in
+        subst (λ n. AreInTurn b s.lists n in_turn) (sym now.0) (subst (AreInTurn b s.lists (if turned.alone then v.serial else max s.last_started v.serial)) (sym now.1)
+        (turns_more a b s.lists x v.serial s.last_started s.in_turn turned.alone at_end (λ y nq. payload_other a b x (list_for s.lists v.state) v touched y nq) (ap serial_in (payload_slot a b x (list_for s.lists v.state) v touched)) turned.none group.turns))
+    | inr nk ↦
+        let was = turned.other nk in
+        subst (λ n. AreInTurn b s.lists n in_turn) (sym was.0) (subst (AreInTurn b s.lists s.last_started) (sym was.1)
+        (turns_less a b s.lists x s.last_started s.in_turn (touched.left s.lists.running (λ k. nk (sym k))) (λ y nq. payload_other a b x (list_for s.lists v.state) v touched y nq) group.turns))
+  ]
+
+  module _ (r : GroupSlots) (last : ℕ) (in_turn : Bool) (turns : AreInTurn b s.lists last in_turn) (made : r ≡ record (with_submit v (counted_in v s)) { slots = record s.slots { taken = s.slots.taken + 1 }; next = s.next + 1; last_started = last; in_turn = in_turn }) where
     needed : (y : ℕ) (u : Ticket) → ticket_at b s.lists y ≡ Some u → is_kept u ≡ false → may_go s.needless y ≡ true
     needed y u e k = elim (cases_eq y x) [
       | inl q ↦
@@ -196,13 +218,22 @@ module _ (a b : Slots) (s : GroupSlots) (x : ℕ) (v : Ticket) (arena : IsArena 
       | inr ne ↦ group.known y u (sym (else_same y ne) ∙ e)
     ]
 
+    since : (y : ℕ) (u : Ticket) → ticket_at b s.lists y ≡ Some u → is_open u ≡ true → open_since (all_more v s.commands) u.command ≤ u.submitted
+    since y u e opens = elim (cases_eq y x) [
+      | inl q ↦
+          let f : Some v ≡ Some u = sym now_here ∙ ap (ticket_at b s.lists) (sym q) ∙ e in
+          let g : v ≡ u = cc in
+          subst (λ (z : Ticket). open_since (all_more v s.commands) z.command ≤ z.submitted) g (since_own s.commands v (omega (arith, group.commands, can.command)) (ap is_open g ∙ opens))
+      | inr ne ↦ omega (arith, since_more s.commands v (omega (arith, group.commands, can.command)) u.command, group.since y u (sym (else_same y ne) ∙ e) opens)
+    ]
+
     noted_at : (y : ℕ) → s.needless ≡ needless.One y → is_some (ticket_at b s.lists y) ≡ true
     noted_at y e = elim (cases_eq y x) [
       | inl q ↦ ap (λ z. is_some (ticket_at b s.lists z)) q ∙ ap is_some now_here
       | inr ne ↦ ap is_some (else_same y ne) ∙ group.noted y e
     ]
 
-    whole : IsGroupSlots b (record (counted_in v s) { slots = record s.slots { taken = s.slots.taken + 1 }; next = s.next + 1 })
+    whole : IsGroupSlots b (record (with_submit v (counted_in v s)) { slots = record s.slots { taken = s.slots.taken + 1 }; next = s.next + 1; last_started = last; in_turn = in_turn })
     whole = record {
       numbered = group.numbered;
       there = omega (arith, group.there, touched.count);
@@ -217,6 +248,9 @@ module _ (a b : Slots) (s : GroupSlots) (x : ℕ) (v : Ticket) (arena : IsArena 
       commands = omega (arith, group.commands, length-set {A = CommandCounts});
       counts = counts_more (count_at a s.lists) (count_at b s.lists) v s.commands group.commands can.command group.counts recount;
       known = known;
+      since = since;
+      turns = turns;
+      times = times_more a b s.lists x v s.latest s.in_time else_same now_here (λ y u e. subst (λ n. u.serial < n) (sym can.serial) (group.arranged.below y u e)) group.times;
       needed = needed;
       noted = noted_at;
     }
@@ -237,10 +271,6 @@ module _ (a b : Slots) (s : GroupSlots) (x : ℕ) (v : Ticket) (arena : IsArena 
       items = come_tickets a b s.lists x s.next v group.arranged within was can.serial touched;
     }
 
--- no list for a state is the free one
-pub not_free : (g : GroupLists) (r : TicketState) → IsNumbered g → g.free ≢ list_for g r
-not_free g r n = each_list (λ l. g.free ≢ l) g (λ e. absurd (omega (arith, e, n.queued))) (λ e. absurd (omega (arith, e, n.running))) (λ e. absurd (omega (arith, e, n.settled))) r
-
 -- where a ticket can be added, there is a last free slot
 pub not_full : (a : Slots) (s : GroupSlots) (v : Ticket) → IsArena a 0 → IsGroupSlots a s → CanAdd s v → slice_get (reverse (slots_on a 0 s.lists.free)) 0 ≡ None → ⊥
 not_full a s v arena group can none = absurd (omega (arith, can.room, all_taken a s arena group none))
@@ -251,9 +281,12 @@ to_list a s to r group is = subst (λ l. l < length (lists_in a 0)) (sym is) (ea
 
 -- as the code reads it
 pub add_from : (a b : Slots) (s : GroupSlots) (x to : ℕ) (v : Ticket) → IsArena a 0 → IsGroupSlots a s → slice_get (reverse (slots_on a 0 s.lists.free)) 0 ≡ Some x → CanAdd s v → IsArena a 1 → IsArena a 2 → to ≡ list_for s.lists v.state
-    → b ≡ with_placed s.lists x (Some v) (with_moved 0 x to (with_payload x v a)) → (r : GroupSlots) → r ≡ record (counted_in v s) { slots = record s.slots { taken = s.slots.taken + 1 }; next = s.next + 1 } → IsAdded a s v b r
-add_from a b s x to v arena group back can serials names is moved r made =
-    add_is a b s x v arena group back can serials names (moved ∙ ap (λ l. with_placed s.lists x (Some v) (with_moved 0 x l (with_payload x v a))) is) r made
+    → b ≡ with_placed s.lists x (Some v) (with_moved 0 x to (with_payload x v a)) → (r : GroupSlots) (last : ℕ) (in_turn : Bool) → r ≡ record (with_submit v (counted_in v s)) { slots = record s.slots { taken = s.slots.taken + 1 }; next = s.next + 1; last_started = last; in_turn = in_turn }
+    → IsTurned a s v.serial s.lists.free to last in_turn → IsAdded a s v b r
+add_from a b s x to v arena group back can serials names is moved r last in_turn made turned =
+    let placed = moved ∙ ap (λ l. with_placed s.lists x (Some v) (with_moved 0 x l (with_payload x v a))) is in
+    let turns = turns_now a b s x v arena group back can serials names placed last in_turn (subst (λ l. IsTurned a s v.serial s.lists.free l last in_turn) is turned) in
+    add_is a b s x v arena group back can serials names placed r last in_turn turns made
 
 -- a slot that was written, moved and placed, as the code reads it
 pub placed_from : (a z m b : Slots) (g : GroupLists) (x to : ℕ) (v : Ticket) → x < length a.payloads → z ≡ with_payload x v a → m ≡ with_moved 0 x to z → b ≡ with_placed g x (slice_get m.payloads x) m → b ≡ with_placed g x (Some v) (with_moved 0 x to (with_payload x v a))

@@ -7,7 +7,7 @@ use Rattle.bh_base.specs.declared.ticket.Ticket.{Ticket}
 use Rattle.bh_base.specs.Tickets.{is_of, is_queued, is_in_fallback}
 use Rattle.bh_cache.specs.Slots.{one}
 use Rattle.bh_tickets.specs.declared.counts.CommandCounts.{CommandCounts}
-use Rattle.bh_tickets.specs.Counts.{AreCounts, HasRoomFor, IsCounted, all_less, all_more, busy_of, counts_of, in_fallback_of, no_counts, one_less, one_more, queued_of}
+use Rattle.bh_tickets.specs.Counts.{AreCounts, HasRoomFor, IsCounted, all_less, all_more, busy_of, counts_of, in_fallback_of, zero_counts, one_less, one_more, queued_of}
 
 -- a test counts for one at most
 pub one_few : (b : Bool) → one b ≤ 1
@@ -75,8 +75,8 @@ module _ (f h : (Ticket → Bool) → ℕ) (t : Ticket) (cs : List CommandCounts
   -- the entry of the ticket's command is written
   written : (n : CommandCounts) → AreCounts h t.command n → ((q : Ticket → Bool) → one (q t) ≡ 0 → h q ≡ f q) → (command : ℕ) → command < 16 → AreCounts h command (counts_of (slice_set cs t.command n) command)
   written n now same command lt = elim (cases_eq command t.command) [
-    | inl e ↦ subst (λ c. AreCounts h c (counts_of (slice_set cs t.command n) c)) (sym e) (subst (AreCounts h t.command) (sym (get_or-set_same cs t.command n no_counts (omega (arith, size, known)))) now)
-    | inr ne ↦ subst (AreCounts h command) (sym (get_or-set_other cs t.command command n no_counts ne)) (others_same f h t command (counts_of cs command) ne same (are command lt))
+    | inl e ↦ subst (λ c. AreCounts h c (counts_of (slice_set cs t.command n) c)) (sym e) (subst (AreCounts h t.command) (sym (get_or-set_same cs t.command n zero_counts (omega (arith, size, known)))) now)
+    | inr ne ↦ subst (AreCounts h command) (sym (get_or-set_other cs t.command command n zero_counts ne)) (others_same f h t command (counts_of cs command) ne same (are command lt))
   ]
 
   -- the counts of all commands, where each test counts the ticket no more

@@ -30,6 +30,18 @@ command_kept (change.StartFallback c) t = refl
 command_kept change.AddHolder t = refl
 command_kept change.TimeOut t = refl
 
+-- a ticket keeps the moment of its submit
+pub submitted_kept : (c : TicketChange) (t : Ticket) → (changed_by c t).submitted ≡ t.submitted
+submitted_kept change.StartRun t = refl
+submitted_kept (change.EndRun s) t = refl
+submitted_kept change.StopRun t = refl
+submitted_kept change.ReleaseHolder t = refl
+submitted_kept (change.AnswerHolder a) t = refl
+submitted_kept (change.Answer a) t = refl
+submitted_kept (change.StartFallback c) t = refl
+submitted_kept change.AddHolder t = refl
+submitted_kept change.TimeOut t = refl
+
 -- a ticket keeps its cache name
 pub cache_kept : (c : TicketChange) (t : Ticket) → (changed_by c t).cache ≡ t.cache
 cache_kept change.StartRun t = refl

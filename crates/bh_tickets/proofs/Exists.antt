@@ -25,7 +25,7 @@ use Rattle.bh_tickets.proofs.Puts.{held_at}
 use Rattle.bh_tickets.proofs.Whole.{group_is}
 
 -- whether a ticket in the state runs
-abbrev running_in : TicketState → Bool
+abbrev pub running_in : TicketState → Bool
 running_in r = elim r [ ticket.Running ↦ true | _ ↦ false ]
 
 -- ---- a walk along a list
@@ -97,7 +97,7 @@ any_of_none : (p : Ticket → Bool) (ts : List Ticket) → ((t : Ticket) → IsI
 any_of_none p ts none = any_none p ts (find_none p ts none)
 
 -- a slot of a list of slots that has one
-any_slot : (f : ℕ → Bool) (xs : List ℕ) → list_any f xs ≡ true → (x : ℕ) × (has x xs ≡ true) × (f x ≡ true)
+pub any_slot : (f : ℕ → Bool) (xs : List ℕ) → list_any f xs ≡ true → (x : ℕ) × (has x xs ≡ true) × (f x ≡ true)
 any_slot f [] e = absurd cc
 any_slot f (y ∷ ys) e = by (f y) refl e (any_slot f ys)
   where
@@ -176,6 +176,10 @@ module _ (a : Slots) (ss : List GroupSlots) (i : ℕ) (s : GroupSlots) (whole : 
         by u k true e =
             let z = from_listed (ticket_at a s.lists) (length a.payloads) u k in
             absurd (never (sym (on_its_list z.0 u z.2 e) ∙ none u e))
+
+    -- where no slot has a ticket that passes, contracts see none that passes
+    pub none_at_all : ((x : ℕ) (u : Ticket) → ticket_at a s.lists x ≡ Some u → p u ≡ false) → false ≡ list_any p (group_at (view_of a ss) i).items
+    none_at_all none = sym (shown_any p ∙ any_of_none p (tickets_of a s.lists) (λ u k. let z = from_listed (ticket_at a s.lists) (length a.payloads) u k in none z.0 u z.2))
 
     none_of_three : any_at p a.payloads (slots_on a 0 s.lists.queued) ≡ false → any_at p a.payloads (slots_on a 0 s.lists.running) ≡ false → any_at p a.payloads (slots_on a 0 s.lists.settled) ≡ false → false ≡ list_any p (group_at (view_of a ss) i).items
     none_of_three q r t = none_shown (λ u e. at u.state)

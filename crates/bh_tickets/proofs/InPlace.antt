@@ -1,6 +1,6 @@
 -- A ticket is changed in place.
 use Rattle.std.proofs.Common.{◌≡◌, ℕ, ◌<◌, ◌⊎◌, true, false, Some, refl, ◌∙◌, sym, ap, subst, arith}
-use Rattle.std.specs.Prelude.{◌≢◌, slice_get}
+use Rattle.std.specs.Prelude.{◌≢◌, Bool, slice_get}
 use Rattle.std.proofs.lemmas.Bool.{eq-eqb}
 use Rattle.std.specs.Prelude.{if◌then◌else◌}
 use Rattle.bh_base.specs.declared.ticket.Ticket.{Ticket}
@@ -12,7 +12,8 @@ use Rattle.bh_tickets.specs.declared.group_slots.GroupSlots.{GroupSlots}
 use Rattle.bh_tickets.specs.declared.group_slots.Needless.{Needless}
 use Rattle.bh_tickets.specs.Changes.{IsAllowed, changed_by}
 use Rattle.bh_tickets.specs.GroupSlots.{CanBe, IsGroupSlots, IsPut, counted_in, counted_out, noted}
-use Rattle.bh_tickets.proofs.Changed.{cache_kept, cached_kept, command_kept, serial_kept, waits_kept}
+use Rattle.bh_tickets.proofs.Changed.{cache_kept, cached_kept, command_kept, serial_kept, submitted_kept, waits_kept}
+use Rattle.bh_tickets.proofs.InTurn.{IsTurned}
 use Rattle.bh_tickets.proofs.Puts.{put_from, was_is, within_slots}
 use Rattle.bh_cache.proofs.Places.{get_set}
 
@@ -41,17 +42,19 @@ module _ (a : Slots) (s : GroupSlots) (x : ℕ) (change : TicketChange) (can : C
     -- a slot whose payload is changed, and that is on the list for the new state, has the changed ticket
     pub change_from : (b : Slots) → IsArena a 0 → IsGroupSlots a s → (from to : ℕ) → from ≡ list_for s.lists was.state → to ≡ list_for s.lists read_now.state
         → (from ≡ to → b ≡ with_payload x now a) → (from ≢ to → b ≡ with_moved 0 x to (with_payload x now a))
-        → (r : GroupSlots) (needless : Needless) → r ≡ record (counted_in read_now (counted_out was s)) { needless = needless }
+        → (r : GroupSlots) (needless : Needless) (last : ℕ) (in_turn : Bool) → r ≡ record (counted_in read_now (counted_out was s)) { needless = needless; last_started = last; in_turn = in_turn }
+        → IsTurned a s read_now.serial from to last in_turn
         → ((is_kept read_now ≡ false) × (needless ≡ noted x s.needless)) ⊎ ((is_kept read_now ≡ true) × (needless ≡ s.needless))
         → (t : Ticket) → ticket_at a s.lists x ≡ Some t → IsPut a s x (changed_by change t) b r
-    change_from b arena group from to f g same moved r needless made noting t e =
+    change_from b arena group from to f g same moved r needless last in_turn made turned noting t e =
         let v : Ticket = changed_by change was in
         let w : was ≡ t = some_same was t (sym here_is ∙ e) in
         subst (λ (u : Ticket). IsPut a s x (changed_by change u) b r) w
         (put_from a b s x was v arena group
-        (record { was = was; here = here_is; serial = serial_kept change was; command = command_kept change was; cache = cache_kept change was; cached = cached_kept change was; waits = waits_kept change was (subst (IsAllowed change) allowed_was can.allowed) })
+        (record { was = was; here = here_is; serial = serial_kept change was; command = command_kept change was; submitted = submitted_kept change was; cache = cache_kept change was; cached = cached_kept change was; waits = waits_kept change was (subst (IsAllowed change) allowed_was can.allowed) })
         read from to f (g ∙ ap (λ (u : Ticket). list_for s.lists u.state) read_is)
         (λ q. same q ∙ ap (λ (u : Ticket). with_payload x u a) now_is)
         (λ q. moved q ∙ ap (λ (u : Ticket). with_moved 0 x to (with_payload x u a)) now_is)
-        r needless (made ∙ ap (λ (u : Ticket). record (counted_in u (counted_out was s)) { needless = needless }) read_is)
+        r needless last in_turn (made ∙ ap (λ (u : Ticket). record (counted_in u (counted_out was s)) { needless = needless; last_started = last; in_turn = in_turn }) read_is)
+        (subst (λ (u : Ticket). IsTurned a s u.serial from to last in_turn) read_is turned)
         (subst (λ (u : Ticket). ((is_kept u ≡ false) × (needless ≡ noted x s.needless)) ⊎ ((is_kept u ≡ true) × (needless ≡ s.needless))) read_is noting))

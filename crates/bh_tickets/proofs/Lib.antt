@@ -1,5 +1,8 @@
 pub mod Changed
 pub mod ByCommand
+pub mod Since
+pub mod InTime
+pub mod InTurn
 pub mod Touched
 pub mod Chained
 pub mod Own
@@ -12,6 +15,8 @@ pub mod Finds
 pub mod Times
 pub mod Along
 pub mod TimedAll
+pub mod SinceAll
+pub mod Rising
 pub mod ReleasedAll
 pub mod AddedLists
 pub mod AddedGroup

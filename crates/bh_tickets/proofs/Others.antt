@@ -14,6 +14,8 @@ use Rattle.bh_slot_arena.specs.Slots.{slots_on}
 use Rattle.bh_cache.specs.Slots.{Slots, has, is_on, is_live, is_owned, ticket_at, tickets_of, list_for, serial_in, InOrder, count_below, IsOwn, IsApart, IsFrame, IsArena, has_one, one}
 use Rattle.bh_tickets.specs.GroupSlots.{IsNumbered, IsArranged, IsGroupSlots, count_at, is_any}
 use Rattle.bh_tickets.specs.Counts.{counts_of}
+use Rattle.bh_tickets.proofs.InTime.{had, times_kept}
+use Rattle.bh_tickets.proofs.InTurn.{turns_kept}
 use Rattle.bh_tickets.proofs.ByCommand.{counts_alike}
 use Rattle.bh_cache.proofs.Order.{order_same, count_same}
 use Rattle.bh_cache.specs.Chains.{IsChainFrame}
@@ -164,6 +166,13 @@ module _ (a b : Slots) (h : GroupSlots) (same : IsSame h.lists a b) (arena : IsA
     commands = group.commands;
     counts = λ c lt. counts_alike (count_at a h.lists) (count_at b h.lists) c (counts_of h.commands c) count_alike (group.counts c lt);
     known = λ x t p. group.known x t (sym (at_same x) ∙ p);
+    since = λ x t p opens. group.since x t (sym (at_same x) ∙ p) opens;
+    times = times_kept a b h.lists h.latest h.in_time (λ x u p. had a h.lists x u (sym (at_same x) ∙ p)) group.times;
+    turns = turns_kept a b h.lists h.last_started h.in_turn
+        (λ y i.
+        let was : is_on a 0 h.lists.running y ≡ true = sym (on_same h.lists.running y own_running) ∙ i in
+        (was, ap serial_in (same.payloads h.lists.running y own_running was)))
+        (λ order. subst (InOrder a.payloads) (sym (same.lists h.lists.running own_running)) order) group.turns;
     needed = λ x t p. group.needed x t (sym (at_same x) ∙ p);
     noted = λ x e. ap is_some (at_same x) ∙ group.noted x e;
   }

@@ -1,6 +1,6 @@
 -- One ticket of a group changes.
-use Rattle.std.proofs.Common.{◌≡◌, ℕ, zero, suc, ◌+◌, ◌-◌, ◌<◌, ◌≤◌, ◌⊎◌, inl, inr, Bool, true, false, length, Some, None, refl, ◌∙◌, sym, ap, subst, arith}
-use Rattle.std.specs.Prelude.{◌||◌, ◌≢◌, eqb, slice_get, is_some, if◌then◌else◌}
+use Rattle.std.proofs.Common.{◌≡◌, ℕ, zero, suc, ◌+◌, ◌-◌, ◌<◌, ◌≤◌, ◌⊎◌, inl, inr, Bool, true, false, [], ◌∷◌, ◌++◌, length, Some, None, refl, ◌∙◌, sym, ap, subst, arith}
+use Rattle.std.specs.Prelude.{◌||◌, ◌≢◌, max, eqb, slice_get, is_some, if◌then◌else◌}
 use Rattle.std.proofs.lemmas.Bool.{cases_eq, eq-eqb}
 use Rattle.std.proofs.lemmas.List.{length-set}
 use Rattle.bh_base.specs.declared.ticket.Ticket.{Ticket}
@@ -11,12 +11,16 @@ use Rattle.bh_cache.specs.declared.lists.GroupLists.{GroupLists}
 use Rattle.bh_tickets.specs.declared.counts.CommandCounts.{CommandCounts}
 use Rattle.bh_tickets.specs.declared.group_slots.GroupSlots.{GroupSlots}
 use Rattle.bh_slot_arena.specs.Slots.{lists_in, slots_on, with_payload, with_moved}
-use Rattle.bh_cache.specs.Slots.{Slots, is_on, is_live_list, is_live, is_owned, ticket_at, list_for, serial_in, InOrder, count_below, has_one, one, IsArena}
+use Rattle.bh_cache.specs.Slots.{Slots, has, is_on, is_live_list, is_live, is_owned, ticket_at, list_for, serial_in, InOrder, count_below, has_one, one, IsArena}
 use Rattle.bh_tickets.specs.declared.group_slots.Needless.{Needless}
 use Rattle.bh_tickets.specs.declared.group_slots.Needless.TheVariants as needless
-use Rattle.bh_tickets.specs.GroupSlots.{IsNumbered, IsGroupSlots, CanPut, IsPut, count_at, counted_in, counted_out, is_any, may_go, noted}
-use Rattle.bh_tickets.specs.Counts.{AreCounts, HasRoomFor, IsCounted, all_less, all_more, counts_of, one_less}
+use Rattle.bh_tickets.specs.GroupSlots.{AreInTurn, IsNumbered, IsGroupSlots, CanPut, IsPut, count_at, counted_in, counted_out, is_any, may_go, noted}
+use Rattle.bh_tickets.specs.Counts.{AreCounts, HasRoomFor, IsCounted, all_less, all_more, counts_of, is_open, one_less, open_since}
 use Rattle.bh_tickets.proofs.ByCommand.{counts_less, counts_more, has_room, is_counted}
+use Rattle.bh_tickets.proofs.InTime.{Had, had, times_kept}
+use Rattle.bh_tickets.proofs.InTurn.{IsTurned, turns_kept, turns_less, turns_more}
+use Rattle.bh_cache.proofs.Moves.{list_to}
+use Rattle.bh_tickets.proofs.Since.{since_less, since_more, since_own}
 use Rattle.bh_index_lists.specs.Lists.{without}
 use Rattle.bh_tickets.specs.Changes.{queued_in}
 use Rattle.bh_cache.proofs.Order.{order_same, order_without, count_le, count_same, one_le}
@@ -246,6 +250,47 @@ module _ (a b : Slots) (s : GroupSlots) (x : ℕ) (t v : Ticket) (arena : IsAren
   counts = counts_more (λ q. count_at a s.lists q - one (q t)) (count_at b s.lists) v (all_less t s.commands) (length-set s.commands t.command (one_less t (counts_of s.commands t.command)) ∙ group.commands) v_known
       (counts_without a s x t group here) (λ q. omega (arith, recount q, counted_at a s x t group here q))
 
+  since : (y : ℕ) (u : Ticket) → ticket_at b s.lists y ≡ Some u → is_open u ≡ true → open_since (all_more v (all_less t s.commands)) u.command ≤ u.submitted
+  since y u e opens = elim (cases_eq y x) [
+    | inl q ↦
+        let is : u ≡ v = is_v u (ap (ticket_at b s.lists) (sym q) ∙ e) in
+        subst (λ (z : Ticket). open_since (all_more v (all_less t s.commands)) z.command ≤ z.submitted) (sym is) (since_own (all_less t s.commands) v kept_size (ap is_open (sym is) ∙ opens))
+    | inr ne ↦
+        let same = since_less s.commands t (omega (arith, group.commands, group.known x t here)) u.command in
+        omega (arith, same, since_more (all_less t s.commands) v kept_size u.command, group.since y u (sym (else_same y ne) ∙ e) opens)
+  ]
+    where
+      kept_size : v.command < length (all_less t s.commands)
+      kept_size = omega (arith, v_known, group.commands, length-set s.commands t.command (one_less t (counts_of s.commands t.command)))
+
+  was_there : (y : ℕ) (u : Ticket) → ticket_at b s.lists y ≡ Some u → Had a s.lists u
+  was_there y u e = elim (cases_eq y x) [
+    | inl q ↦
+        let is : u ≡ v = is_v u (ap (ticket_at b s.lists) (sym q) ∙ e) in
+        subst (Had a s.lists) (sym is) (record { slot = x; was = t; here = here; serial = sym serial; submitted = sym (can.submitted ∙ ap (λ (u : Ticket). u.submitted) was) })
+    | inr ne ↦ had a s.lists y u (sym (else_same y ne) ∙ e)
+  ]
+
+  -- the running tickets, where what is noted of their turn fits how the slot moved
+  pub turns_now : (last : ℕ) (in_turn : Bool) → IsTurned a s v.serial (list_for s.lists t.state) (list_for s.lists v.state) last in_turn → AreInTurn b s.lists last in_turn
+  turns_now last in_turn turned = elim (cases_eq (list_for s.lists t.state) (list_for s.lists v.state)) [
+    | inl e ↦
+        let on : slots_on b 0 s.lists.running ≡ slots_on a 0 s.lists.running = ap (λ (z : Slots). slots_on z 0 s.lists.running) (same e) in
+        as_was last in_turn (turned.stays e) (turns_kept a b s.lists s.last_started s.in_turn (λ y i. (sym (ap (has y) on) ∙ i, serial_same y)) (λ order. subst (InOrder a.payloads) (sym on) order) group.turns)
+    | inr ne ↦ elim (cases_eq (list_for s.lists v.state) s.lists.running) [
+      | inl k ↦
+          let at_end : slots_on b 0 s.lists.running ≡ without x (slots_on a 0 s.lists.running) ++ x ∷ [] =
+          ap (λ (z : Slots). slots_on z 0 s.lists.running) (moved ne) ∙ ap (λ l. slots_on (with_moved 0 x l (with_payload x v a)) 0 s.lists.running) k ∙ list_to (with_payload x v a) 0 x s.lists.running arena.wide (omega (arith, group.there, group.numbered.running, group.numbered.settled)) in
+          let now = turned.starts ne k in
+          subst (λ n. AreInTurn b s.lists n in_turn) (sym now.0) (subst (AreInTurn b s.lists (if turned.alone then v.serial else max s.last_started v.serial)) (sym now.1)
+          (turns_more a b s.lists x v.serial s.last_started s.in_turn turned.alone at_end (λ y nq. payload_other a b x (list_for s.lists v.state) v touched y nq) (ap serial_in (payload_slot a b x (list_for s.lists v.state) v touched)) turned.none group.turns))
+      | inr nk ↦ as_was last in_turn (turned.other nk) (turns_less a b s.lists x s.last_started s.in_turn (touched.left s.lists.running (λ k. nk (sym k))) (λ y nq. payload_other a b x (list_for s.lists v.state) v touched y nq) group.turns)
+    ]
+  ]
+    where
+      as_was : (last : ℕ) (in_turn : Bool) → (last ≡ s.last_started) × (in_turn ≡ s.in_turn) → AreInTurn b s.lists s.last_started s.in_turn → AreInTurn b s.lists last in_turn
+      as_was last in_turn is turns = subst (λ n. AreInTurn b s.lists n in_turn) (sym is.0) (subst (AreInTurn b s.lists s.last_started) (sym is.1) turns)
+
   owned_slot : is_owned a s.lists x ≡ true
   owned_slot = or_right (is_on a 0 s.lists.free x) (is_live a s.lists x) (held_at a s.lists x t here).0
 
@@ -261,7 +306,7 @@ module _ (a b : Slots) (s : GroupSlots) (x : ℕ) (t v : Ticket) (arena : IsAren
       ∙ count_same (is_owned b s.lists) (is_owned a s.lists) (length a.payloads) (owned_same a b x (list_for s.lists v.state) v touched s.lists owned_slot owned_list)
       ∙ group.slots
 
-  module _ (r : GroupSlots) (now : Needless) (is : r ≡ record (counted_in v (counted_out t s)) { needless = now })
+  module _ (r : GroupSlots) (now : Needless) (last : ℕ) (in_turn : Bool) (turns : AreInTurn b s.lists last in_turn) (is : r ≡ record (counted_in v (counted_out t s)) { needless = now; last_started = last; in_turn = in_turn })
       (noting : ((is_kept v ≡ false) × (now ≡ noted x s.needless)) ⊎ ((is_kept v ≡ true) × (now ≡ s.needless))) where
     needed : (y : ℕ) (u : Ticket) → ticket_at b s.lists y ≡ Some u → is_kept u ≡ false → may_go now y ≡ true
     needed y u e k = elim (cases_eq y x) [
@@ -286,7 +331,7 @@ module _ (a b : Slots) (s : GroupSlots) (x : ℕ) (t v : Ticket) (arena : IsAren
       ])
     ]
 
-    made : IsGroupSlots b (record (counted_in v (counted_out t s)) { needless = now })
+    made : IsGroupSlots b (record (counted_in v (counted_out t s)) { needless = now; last_started = last; in_turn = in_turn })
     made = record {
       numbered = group.numbered;
       there = omega (arith, group.there, touched.count);
@@ -299,6 +344,9 @@ module _ (a b : Slots) (s : GroupSlots) (x : ℕ) (t v : Ticket) (arena : IsAren
       commands = omega (arith, group.commands, length-set {A = CommandCounts});
       counts = counts;
       known = known;
+      since = since;
+      turns = turns;
+      times = times_kept a b s.lists s.latest s.in_time was_there group.times;
       needed = needed;
       noted = noted_at;
     }
@@ -330,8 +378,12 @@ was_is a g x t u e is = let k = held_at a g x t e in ap (λ b. if b then slice_g
 -- as the code reads it
 pub put_from : (a b : Slots) (s : GroupSlots) (x : ℕ) (t v : Ticket) → IsArena a 0 → IsGroupSlots a s → CanPut a s x v → Some t ≡ slice_get a.payloads x
     → (from to : ℕ) → from ≡ list_for s.lists t.state → to ≡ list_for s.lists v.state → (from ≡ to → b ≡ with_payload x v a) → (from ≢ to → b ≡ with_moved 0 x to (with_payload x v a))
-    → (r : GroupSlots) (now : Needless) → r ≡ record (counted_in v (counted_out t s)) { needless = now } → ((is_kept v ≡ false) × (now ≡ noted x s.needless)) ⊎ ((is_kept v ≡ true) × (now ≡ s.needless)) → IsPut a s x v b r
-put_from a b s x t v arena group can is from to f g same moved r now made noting =
+    → (r : GroupSlots) (now : Needless) (last : ℕ) (in_turn : Bool) → r ≡ record (counted_in v (counted_out t s)) { needless = now; last_started = last; in_turn = in_turn }
+    → IsTurned a s v.serial from to last in_turn → ((is_kept v ≡ false) × (now ≡ noted x s.needless)) ⊎ ((is_kept v ≡ true) × (now ≡ s.needless)) → IsPut a s x v b r
+put_from a b s x t v arena group can is from to f g same moved r now last in_turn made turned noting =
     let k : Some can.was ≡ Some t = sym (can.here) ∙ was_is a s.lists x can.was t can.here (sym is) in
     let was : can.was ≡ t = cc in
-    put_is a b s x t v arena group can was (λ e. same (f ∙ e ∙ sym g)) (λ ne. moved (λ e. ne (sym f ∙ e ∙ g)) ∙ ap (λ l. with_moved 0 x l (with_payload x v a)) g) r now made noting
+    let put = λ (e : list_for s.lists t.state ≡ list_for s.lists v.state). same (f ∙ e ∙ sym g) in
+    let shift = λ (ne : list_for s.lists t.state ≢ list_for s.lists v.state). moved (λ e. ne (sym f ∙ e ∙ g)) ∙ ap (λ l. with_moved 0 x l (with_payload x v a)) g in
+    let turns = turns_now a b s x t v arena group can was put shift last in_turn (subst (λ l. IsTurned a s v.serial l (list_for s.lists v.state) last in_turn) f (subst (λ l. IsTurned a s v.serial from l last in_turn) g turned)) in
+    put_is a b s x t v arena group can was put shift r now last in_turn turns made noting

@@ -122,6 +122,9 @@ module _ (a : Slots) (s : GroupSlots) (b : Slots) (r : GroupSlots) (group : IsGr
         commands = g.commands;
         counts = g.counts;
         known = g.known;
+        since = g.since;
+        times = g.times;
+        turns = g.turns;
         needed = λ x t e k. absurd (not_both x t (ap (λ (l : GroupLists). ticket_at b l x) (sym change.lists) ∙ e) k);
         noted = λ x e. absurd (never x e);
       });

@@ -1,5 +1,5 @@
 -- A ticket goes that nobody needs.
-use Rattle.std.proofs.Common.{◌≡◌, ℕ, ◌+◌, ◌-◌, ◌<◌, inl, inr, Bool, true, false, length, Option, Some, None, refl, ◌∙◌, sym, ap, subst, arith}
+use Rattle.std.proofs.Common.{◌≡◌, ℕ, ◌+◌, ◌-◌, ◌<◌, ◌≤◌, inl, inr, Bool, true, false, length, Option, Some, None, refl, ◌∙◌, sym, ap, subst, arith}
 use Rattle.std.specs.Prelude.{◌||◌, eqb, slice_get, is_some, if◌then◌else◌}
 use Rattle.std.proofs.lemmas.Bool.{cases_eq, eq-eqb, ne_eqb}
 use Rattle.std.proofs.lemmas.List.{length-set}
@@ -12,7 +12,11 @@ use Rattle.bh_slot_arena.specs.Slots.{slots_on, with_moved}
 use Rattle.bh_cache.specs.Slots.{Slots, is_on, is_live, is_live_list, is_owned, ticket_at, list_for, InOrder, count_below, has_one, one, IsArena}
 use Rattle.bh_tickets.specs.GroupSlots.{IsGroupSlots, IsGroupChange, IsReleasedAt, if_kept, may_go, count_at, counted_out, is_any}
 use Rattle.bh_tickets.specs.declared.counts.CommandCounts.{CommandCounts}
+use Rattle.bh_tickets.specs.Counts.{all_less, is_open, open_since}
 use Rattle.bh_tickets.proofs.ByCommand.{counts_less}
+use Rattle.bh_tickets.proofs.InTime.{Had, had, times_kept}
+use Rattle.bh_tickets.proofs.InTurn.{turns_less}
+use Rattle.bh_tickets.proofs.Since.{since_less}
 use Rattle.bh_cache.proofs.Order.{order_without, count_same}
 use Rattle.bh_cache.proofs.Counts.{count_point}
 use Rattle.bh_tickets.proofs.Touched.{IsTouched, touched_moved, at_other, at_slot, touched_arena, touched_frame, owned_same}
@@ -119,6 +123,20 @@ module _ (a b : Slots) (s : GroupSlots) (x : ℕ) (t : Ticket) (arena : IsArena 
     | inr ne ↦ group.known y u (sym (else_same y ne) ∙ e)
   ]
 
+  since : (y : ℕ) (u : Ticket) → ticket_at b s.lists y ≡ Some u → is_open u ≡ true → open_since (all_less t s.commands) u.command ≤ u.submitted
+  since y u e opens = elim (cases_eq y x) [
+    | inl q ↦ let f : None ≡ Some u = sym gone ∙ ap (ticket_at b s.lists) (sym q) ∙ e in absurd cc
+    | inr ne ↦
+        let same = since_less s.commands t (omega (arith, group.commands, group.known x t here)) u.command in
+        omega (arith, same, group.since y u (sym (else_same y ne) ∙ e) opens)
+  ]
+
+  was_there : (y : ℕ) (u : Ticket) → ticket_at b s.lists y ≡ Some u → Had a s.lists u
+  was_there y u e = elim (cases_eq y x) [
+    | inl q ↦ let f : None ≡ Some u = sym gone ∙ ap (ticket_at b s.lists) (sym q) ∙ e in absurd cc
+    | inr ne ↦ had a s.lists y u (sym (else_same y ne) ∙ e)
+  ]
+
   lies : is_on a 0 (list_for s.lists t.state) x ≡ true
   lies = group.arranged.placed x t here
 
@@ -141,6 +159,9 @@ module _ (a b : Slots) (s : GroupSlots) (x : ℕ) (t : Ticket) (arena : IsArena 
       commands = omega (arith, group.commands, length-set {A = CommandCounts});
       counts = counts_less (count_at a s.lists) (count_at b s.lists) t s.commands group.commands (group.known x t here) group.counts recount;
       known = known;
+      since = since;
+      turns = turns_less a b s.lists x s.last_started s.in_turn (touched.left s.lists.running (λ e. absurd (omega (arith, e, group.numbered.running)))) (λ y ne. ap (λ ps. slice_get ps y) same_payload) group.turns;
+      times = times_kept a b s.lists s.latest s.in_time was_there group.times;
       needed = λ y u e k. ap (λ n. may_go n y) many;
       noted = λ y e. absurd (never_one y e);
     }

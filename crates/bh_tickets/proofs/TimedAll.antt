@@ -100,7 +100,8 @@ module _ (a : Slots) (s : GroupSlots) (due : DueRule) (n m : ℕ) (b : Slots) (r
   lists : r.lists ≡ s.lists
   lists = first.swept.change.lists
 
-  all_timed : (y : ℕ) → ticket_at c s.lists y ≡ option_map (timed_out_by due) (ticket_at a s.lists y)
+  -- each ticket has timed out that was due
+  pub all_timed : (y : ℕ) → ticket_at c s.lists y ≡ option_map (timed_out_by due) (ticket_at a s.lists y)
   all_timed y =
       subst (λ (g : GroupLists). ticket_at c g y ≡ (if is_on b 0 g.running y then option_map (timed_out_by due) (ticket_at b g y) else ticket_at b g y)) lists (second.swept.tickets y)
       ∙ by (ticket_at a s.lists y) refl (first.swept.tickets y)

@@ -60,6 +60,7 @@ module _ (a : Slots) (s : GroupSlots) (x : ℕ) (t : Ticket) (due : DueRule) (ar
     here = here;
     serial = refl;
     command = refl;
+    submitted = refl;
     cache = refl;
     cached = refl;
     waits = λ e. absurd (never e);

@@ -14,7 +14,7 @@ use Rattle.bh_cache.proofs.Counts.{count_none, count_point}
 use Rattle.bh_cache.proofs.Order.{count_le, count_same}
 use Rattle.bh_tickets.specs.declared.group_slots.GroupSlots.{GroupSlots}
 use Rattle.bh_tickets.specs.declared.group_slots.Needless.TheVariants as needless
-use Rattle.bh_tickets.specs.Counts.{AreCounts, busy_of, in_fallback_of, no_counts, queued_of}
+use Rattle.bh_tickets.specs.Counts.{AreCounts, busy_of, in_fallback_of, no_counts, queued_of, zero_counts}
 use Rattle.bh_tickets.specs.GroupSlots.{IsGroupSlots, count_at, no_slot_taken, is_any}
 use Rattle.bh_tickets.specs.Spare.{AreFreeOn, IsVacant, free_slots}
 use Rattle.bh_tickets.specs.TicketsView.{no_tickets_in}
@@ -146,6 +146,20 @@ module _ (a : Slots) (g : GroupLists) (vacant : IsVacant a g) where
       first true c e = e
       first false c e = refl
 
+  not_running : (x : ℕ) → is_on a 0 g.running x ≡ false
+  not_running x = second (is_on a 0 g.queued x) (is_on a 0 g.running x) (is_on a 0 g.settled x) (vacant.live x)
+    where
+      second : (b c d : Bool) → (b || (c || d)) ≡ false → c ≡ false
+      second true c d e = absurd cc
+      second false true d e = e
+      second false false d e = refl
+
+  none_running : (x : ℕ) → is_on a 0 g.running x ≡ true → ⊥
+  none_running x on = let z : false ≡ true = sym (not_running x) ∙ on in cc
+
+  no_runs : slots_on a 0 g.running ≡ []
+  no_runs = none_on (slots_on a 0 g.running) not_running
+
   -- what a group keeps without tickets fits its slots
   pub vacant_group : IsArena a 0 → free_slots a g < 2 ^ 63 → IsGroupSlots a (no_slot_taken g (free_slots a g))
   vacant_group arena few = record {
@@ -167,12 +181,15 @@ module _ (a : Slots) (g : GroupLists) (vacant : IsVacant a g) where
     taken = sym (no_count is_any);
     queued = sym (no_count is_queued);
     commands = refl;
-    counts = λ c lt. subst (AreCounts (count_at a g) c) (sym (get_or-replicate 16 c no_counts no_counts lt)) (record {
+    counts = λ c lt. subst (AreCounts (count_at a g) c) (sym (get_or-replicate 16 c no_counts zero_counts lt)) (record {
       busy = sym (no_count (busy_of c));
       queued = sym (no_count (queued_of c));
       in_fallback = sym (no_count (in_fallback_of c));
     });
     known = λ x t e. absurd (no_ticket x t e);
+    since = λ x t e opens. absurd (no_ticket x t e);
+    times = record { before = λ x t e. absurd (no_ticket x t e); rising = λ on x y t u e f le. absurd (no_ticket x t e) };
+    turns = record { below = λ x on. absurd (none_running x on); order = λ on. subst (InOrder a.payloads) (sym no_runs) tt };
     needed = λ x t e k. absurd (no_ticket x t e);
     noted = λ x e. absurd (nothing x e);
   }

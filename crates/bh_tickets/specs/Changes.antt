@@ -1,5 +1,5 @@
 -- What an operation changes of a ticket.
-use Rattle.std.specs.Prelude.{◌≡◌, ◌+◌, ◌-◌, ◌<◌, ◌^◌, Bool, true, false, ◌&&◌, ◌||◌, nat_le, if◌then◌else◌}
+use Rattle.std.specs.Prelude.{◌≡◌, ◌+◌, ◌-◌, ◌<◌, ◌^◌, Bool, true, false, ◌&&◌, ◌||◌, nat_le, nat_lt, if◌then◌else◌}
 use Rattle.bh_base.specs.declared.ticket.Ticket.{Ticket}
 use Rattle.bh_base.specs.declared.ticket.TicketState.{TicketState}
 use Rattle.bh_base.specs.declared.ticket.TicketState.TheVariants as ticket
@@ -39,6 +39,10 @@ joined t = record t { holders = t.holders + 1 }
 -- the ticket has timed out by the rule: it is of the command, queued or running, and was submitted so long before the moment
 abbrev pub is_due_by : DueRule → Ticket → Bool
 is_due_by due t = is_of due.command t && due.timeout_on && (is_queued t || is_running t) && nat_le due.timeout_ms (due.moment - t.submitted)
+
+-- the ticket was submitted so shortly before the moment that it has not timed out
+abbrev pub is_young_by : DueRule → Ticket → Bool
+is_young_by due t = nat_lt (due.moment - t.submitted) due.timeout_ms
 
 -- as it is once it timed out, where it has
 abbrev pub timed_out_by : DueRule → Ticket → Ticket

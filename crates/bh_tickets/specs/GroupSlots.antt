@@ -1,5 +1,5 @@
 -- What a group keeps of its tickets beside their slots, and what its calls do.
-use Rattle.std.specs.Prelude.{eqb, if◌then◌else◌, ◌≡◌, ℕ, ◌+◌, ◌-◌, ◌<◌, ◌^◌, [], ◌∷◌, ◌++◌, filter, map, Bool, true, false, length, replicate, is_some, slice_get, Option, Some, None, List, count_by}
+use Rattle.std.specs.Prelude.{eqb, if◌then◌else◌, ◌≡◌, ℕ, ◌+◌, ◌-◌, ◌<◌, ◌≤◌, ◌^◌, ◌&&◌, ◌||◌, [], ◌∷◌, ◌++◌, filter, map, Bool, nat_le, nat_lt, true, false, length, replicate, is_some, slice_get, Option, Some, None, List, count_by, drop, max}
 use Rattle.std.specs.List.{list_any}
 use Rattle.bh_base.specs.declared.ticket.Ticket.{Ticket}
 use Rattle.bh_base.specs.Tickets.{is_queued, is_kept}
@@ -9,7 +9,7 @@ use Rattle.bh_tickets.specs.declared.group_slots.Needless.{Needless}
 use Rattle.bh_tickets.specs.declared.group_slots.Needless.TheVariants as needless
 use Rattle.bh_tickets.specs.declared.changes.TicketChange.{TicketChange}
 use Rattle.bh_tickets.specs.Changes.{IsAllowed, is_due_by, timed_out_by}
-use Rattle.bh_tickets.specs.Counts.{AreCounts, all_less, all_more, counts_of, no_counts}
+use Rattle.bh_tickets.specs.Counts.{AreCounts, all_less, all_more, all_since, counts_of, is_open, no_counts, open_since}
 use Rattle.std.specs.Option.{option_map}
 use Rattle.bh_cache.specs.declared.lists.GroupLists.{GroupLists}
 use Rattle.bh_tickets.specs.declared.group_slots.GroupSlots.{GroupSlots}
@@ -18,7 +18,7 @@ use Rattle.bh_cache.specs.Cache.{uncached_in}
 use Rattle.bh_cache.specs.Chains.{IsChained, IsChainFrame}
 use Rattle.bh_cache.specs.Listed.{now_is}
 use Rattle.bh_slot_arena.specs.Slots.{lists_in, slots_on}
-use Rattle.bh_cache.specs.Slots.{Slots, is_on, is_owned, ticket_at, tickets_of, list_for, count_below, has_one, one, InOrder, IsArena, IsFrame}
+use Rattle.bh_cache.specs.Slots.{Slots, has, is_on, is_owned, ticket_at, tickets_of, list_for, count_below, has_one, one, serial_in, InOrder, IsArena, IsFrame}
 
 -- the four lists of a group follow on one another
 pub record IsNumbered (g : GroupLists) : Type 0 where
@@ -56,9 +56,31 @@ noted x needless.Nothing = needless.One x
 noted x (needless.One y) = if eqb y x then needless.One y else needless.Many
 noted x needless.Many = needless.Many
 
+-- a ticket of the rule's command may be due: so long may one be queued or running
+abbrev pub may_be_due : DueRule → GroupSlots → Bool
+may_be_due due s = nat_lt due.command 16 && due.timeout_on && nat_le due.timeout_ms (due.moment - open_since s.commands due.command)
+
 -- so many slots, none of which has a ticket
 abbrev pub no_slot_taken : GroupLists → ℕ → GroupSlots
-no_slot_taken lists slots = record { lists = lists; slots = record { max = slots; taken = 0 }; next = 1; queued = 0; commands = replicate 16 no_counts; needless = needless.Nothing }
+no_slot_taken lists slots = record { lists = lists; slots = record { max = slots; taken = 0 }; next = 1; queued = 0; commands = replicate 16 no_counts; needless = needless.Nothing; latest = 0; in_time = true; last_started = 0; in_turn = true }
+
+-- no ticket of the group was submitted after the latest moment, and where they are in time, none before one of an earlier serial
+pub record AreInTime (a : Slots) (g : GroupLists) (latest : ℕ) (in_time : Bool) : Type 0 where
+  pub before : (x : ℕ) (t : Ticket) → ticket_at a g x ≡ Some t → t.submitted ≤ latest
+  pub rising : in_time ≡ true → (x y : ℕ) (t u : Ticket) → ticket_at a g x ≡ Some t → ticket_at a g y ≡ Some u → t.serial ≤ u.serial → t.submitted ≤ u.submitted
+
+-- no running ticket has a greater serial than the last that was started, and where they are in turn, the serials along their list rise
+pub record AreInTurn (a : Slots) (g : GroupLists) (last : ℕ) (in_turn : Bool) : Type 0 where
+  pub below : (x : ℕ) → is_on a 0 g.running x ≡ true → serial_in (slice_get a.payloads x) ≤ last
+  pub order : in_turn ≡ true → InOrder a.payloads (slots_on a 0 g.running)
+
+abbrev pub submitted_in : Option Ticket → ℕ
+submitted_in None = 0
+submitted_in (Some t) = t.submitted
+
+-- along the list of slots, no ticket was submitted before one that lies ahead of it
+pub record IsRising (payloads : List Ticket) (xs : List ℕ) : Type 0 where
+  pub rising : (i x y : ℕ) → slice_get xs i ≡ Some x → has y (drop i xs) ≡ true → submitted_in (slice_get payloads x) ≤ submitted_in (slice_get payloads y)
 
 -- what a group keeps fits its tickets in the arena
 pub record IsGroupSlots (a : Slots) (s : GroupSlots) : Type 0 where
@@ -74,6 +96,10 @@ pub record IsGroupSlots (a : Slots) (s : GroupSlots) : Type 0 where
   pub counts : (command : ℕ) → command < 16 → AreCounts (count_at a s.lists) command (counts_of s.commands command)
   -- each ticket is of a command that is counted
   pub known : (x : ℕ) (t : Ticket) → ticket_at a s.lists x ≡ Some t → t.command < 16
+  -- no ticket of a command waits or runs that was submitted before its counts tell
+  pub since : (x : ℕ) (t : Ticket) → ticket_at a s.lists x ≡ Some t → is_open t ≡ true → open_since s.commands t.command ≤ t.submitted
+  pub times : AreInTime a s.lists s.latest s.in_time
+  pub turns : AreInTurn a s.lists s.last_started s.in_turn
   -- a ticket that nobody needs was noted, and a slot that was noted alone has a ticket
   pub needed : (x : ℕ) (t : Ticket) → ticket_at a s.lists x ≡ Some t → is_kept t ≡ false → may_go s.needless x ≡ true
   pub noted : (x : ℕ) → s.needless ≡ needless.One x → is_some (ticket_at a s.lists x) ≡ true
@@ -95,12 +121,25 @@ counted_out t s = record s { queued = s.queued - one (is_queued t); commands = a
 abbrev pub counted_in : Ticket → GroupSlots → GroupSlots
 counted_in t s = record s { queued = s.queued + one (is_queued t); commands = all_more t s.commands }
 
--- the slot has a ticket of this serial, this command and this cache name, which waits if this one does
+-- a group to which the ticket was submitted, of the next serial
+abbrev pub with_submit : Ticket → GroupSlots → GroupSlots
+with_submit v s = record s { latest = max s.latest v.submitted; in_time = s.in_time && nat_le s.latest v.submitted }
+
+-- a group in which a ticket of the serial begins to run, after others or alone
+abbrev pub with_start : ℕ → Bool → GroupSlots → GroupSlots
+with_start serial alone s = record s { last_started = if alone then serial else max s.last_started serial; in_turn = alone || (s.in_turn && nat_lt s.last_started serial) }
+
+-- a group of whose command tickets may be queued or running since then
+abbrev pub with_since : ℕ → ℕ → GroupSlots → GroupSlots
+with_since command since s = record s { commands = all_since command since s.commands }
+
+-- the slot has a ticket of this serial, this command, this submit and this cache name, which waits if this one does
 pub record CanPut (a : Slots) (s : GroupSlots) (x : ℕ) (v : Ticket) : Type 0 where
   pub was : Ticket
   pub here : ticket_at a s.lists x ≡ Some was
   pub serial : v.serial ≡ was.serial
   pub command : v.command ≡ was.command
+  pub submitted : v.submitted ≡ was.submitted
   pub cache : v.cache ≡ was.cache
   pub cached : v.cached ≡ was.cached
   pub waits : is_queued v ≡ true → is_queued was ≡ true
@@ -161,6 +200,11 @@ pub record IsTimed (a : Slots) (s : GroupSlots) (x : ℕ) (due : DueRule) (n : �
   pub tickets : (y : ℕ) → ticket_at b s.lists y ≡ option_map (λ t. if eqb y x then timed_out_by due t else t) (ticket_at a s.lists y)
   pub count : n + count_at b s.lists (is_due_by due) ≡ count_at a s.lists (is_due_by due)
   pub walk : (l : ℕ) → (l ≡ s.lists.settled → ⊥) → slots_on b 0 l ≡ (if has_one (is_due_by due) (ticket_at a s.lists x) then without x (slots_on a 0 l) else slots_on a 0 l)
+
+-- the later bound is not after the earlier one, nor after the submit of the ticket, where that is of the rule's command and not due
+pub record IsSinceAt (o : Option Ticket) (due : DueRule) (before after : ℕ) : Type 0 where
+  pub earlier : after ≤ before
+  pub own : (t : Ticket) → o ≡ Some t → t.command ≡ due.command → is_due_by due t ≡ false → after ≤ t.submitted
 
 -- the group's tickets are cached in the context no more
 pub record IsUncached (a : Slots) (s : GroupSlots) (context n : ℕ) (b : Slots) (r : GroupSlots) : Type 0 where

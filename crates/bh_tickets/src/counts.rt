@@ -5,15 +5,18 @@ ghost use Rattle.bh_base.specs.declared.ticket.Ticket.{Ticket};
 ghost use Rattle.bh_cache.specs.Slots.{one};
 ghost use Rattle.bh_tickets.specs.Counts.{HasRoomFor, IsCounted, no_counts, one_less, one_more};
 
-use crate::states::{is_in_fallback, is_queued};
+use crate::states::{is_in_fallback, is_open, is_queued};
 use bh_base::Ticket;
 
-/// How many tickets of a command are busy, queued and in their fallback.
+/// How many tickets of a command are busy, queued and in their fallback, and since when one may be queued or running.
 #[derive(Clone, Copy, Debug)]
 pub struct CommandCounts {
     pub busy: u64,
     pub queued: u64,
     pub in_fallback: u64,
+    /// None that is queued or running was submitted before; the greatest number, where there surely is none. It goes up
+    /// again only by a walk that looks for tickets that are due.
+    pub open_since: u64,
 }
 
 /// What a ticket adds to a count: 1 where it counts, else 0.
@@ -32,6 +35,7 @@ impl CommandCounts {
             busy: 0,
             queued: 0,
             in_fallback: 0,
+            open_since: u64::MAX,
         }
     }
 
@@ -53,5 +57,8 @@ impl CommandCounts {
         self.busy += one(ticket.busy);
         self.queued += one(is_queued(ticket));
         self.in_fallback += one(is_in_fallback(ticket));
+        if is_open(ticket) {
+            self.open_since = self.open_since.min(ticket.submitted);
+        }
     }
 }

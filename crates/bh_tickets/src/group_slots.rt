@@ -1,11 +1,11 @@
 //! What a group keeps of its tickets beside their slots, and the changes of one slot.
 
-ghost use Rattle.std.specs.Prelude.{◌≡◌, ◌≢◌, ◌+◌, ◌-◌, ◌<◌, ◌≤◌, ◌^◌, Some, true, length, is_some};
+ghost use Rattle.std.specs.Prelude.{◌≡◌, ◌&&◌, ◌≢◌, ◌+◌, ◌-◌, ◌<◌, ◌≤◌, ◌^◌, Some, true, length, is_some};
 ghost use Rattle.bh_base.specs.declared.ticket.Ticket.{Ticket};
 ghost use Rattle.bh_base.specs.Tickets.{is_queued, is_kept};
 ghost use Rattle.bh_slot_arena.specs.Slots.{lists_in, with_moved};
 ghost use Rattle.bh_cache.specs.Slots.{IsArena, list_for, ticket_at, one};
-ghost use Rattle.bh_tickets.specs.GroupSlots.{IsGroupSlots, CanBe, IsPut, CanAdd, IsAdded, IsReleasedAt, IsTimed, IsUncached, counted_in, counted_out, no_slot_taken, noted};
+ghost use Rattle.bh_tickets.specs.GroupSlots.{IsGroupSlots, CanBe, IsPut, CanAdd, IsAdded, IsReleasedAt, IsSinceAt, IsTimed, IsUncached, counted_in, counted_out, may_be_due, no_slot_taken, noted, with_since, with_start, with_submit};
 ghost use Rattle.bh_tickets.specs.Changes.{changed_by};
 ghost use Rattle.bh_tickets.specs.Counts.{HasRoomFor, IsCounted, counts_of};
 
@@ -13,7 +13,7 @@ use crate::changes::{TicketChange, apply};
 use crate::counts::{CommandCounts, one};
 use crate::states::{DueRule, is_due, is_kept, is_queued};
 use bh_admit::Permits;
-use bh_base::{Serial, Ticket, TicketState};
+use bh_base::{Moment, Serial, Ticket, TicketState};
 use bh_cache::{GroupLists, drop_context, place, place_free};
 use bh_slot_arena::Arena;
 
@@ -39,6 +39,14 @@ pub struct GroupSlots {
     /// What is counted of the tickets of each command, by its number.
     pub commands: [CommandCounts; 16],
     pub needless: Needless,
+    /// No ticket was submitted later.
+    pub latest: Moment,
+    /// Surely no ticket was submitted before one of an earlier serial.
+    pub in_time: bool,
+    /// No running ticket has a greater serial.
+    pub last_started: Serial,
+    /// Surely the running tickets lie in the order of their serials.
+    pub in_turn: bool,
 }
 
 impl GroupSlots {
@@ -53,7 +61,18 @@ impl GroupSlots {
             queued: 0,
             commands: [CommandCounts::new(); 16],
             needless: Needless::Nothing,
+            latest: 0,
+            in_time: true,
+            last_started: 0,
+            in_turn: true,
         }
+    }
+
+    /// Whether the running tickets surely lie in the order of their submits.
+    pub fn running_rises(&self) -> bool
+        ensures { result ≡ (self.now.in_time && self.now.in_turn) }
+    {
+        self.in_time && self.in_turn
     }
 }
 
@@ -109,6 +128,33 @@ fn count_in(group: &mut GroupSlots, ticket: &Ticket)
     group.commands[ticket.command as usize].count_in(ticket);
 }
 
+/// The ticket, which is of the next serial, is noted among the submits.
+fn note_submit(group: &mut GroupSlots, ticket: &Ticket)
+    ensures { group.new ≡ with_submit ticket.now group.old }
+{
+    group.in_time = group.in_time && group.latest <= ticket.submitted;
+    group.latest = group.latest.max(ticket.submitted);
+}
+
+/// A ticket of the serial goes to the end of a list, where it lies on another: where it begins to run, it is noted whether
+/// the running tickets lie in turn. They do where it runs alone, or after tickets of smaller serials.
+fn note_move(group: &mut GroupSlots, serial: Serial, alone: bool, from: usize, to: usize)
+    ensures rest { group.new ≡ record group.old { last_started = group.new.last_started; in_turn = group.new.in_turn } }
+    ensures stays { from ≡ to → group.new ≡ group.old }
+    ensures other { to ≢ group.old.lists.running → group.new ≡ group.old }
+    ensures starts { from ≢ to → to ≡ group.old.lists.running → group.new ≡ with_start serial alone group.old }
+{
+    if from == to || to != group.lists.running {
+        return;
+    }
+    group.in_turn = alone || group.in_turn && group.last_started < serial;
+    group.last_started = if alone {
+        serial
+    } else {
+        group.last_started.max(serial)
+    };
+}
+
 /// Moves a slot to the end of a list, where it lies on another.
 fn move_on(arena: &mut Arena<Ticket, 3>, slot: u32, from: usize, to: usize)
     requires slot { slot < length arena.old.payloads }
@@ -141,6 +187,8 @@ pub fn change(
     count_in(group, ticket);
     let to = list_for(&group.lists, &ticket.state);
     let needed = is_kept(ticket);
+    let alone = arena.len_of(0, group.lists.running) == 0;
+    note_move(group, ticket.serial, alone, from, to);
     move_on(arena, slot, from, to);
     if !needed {
         group.needless = noted(group.needless, slot);
@@ -160,13 +208,17 @@ pub fn add(arena: &mut Arena<Ticket, 3>, group: &mut GroupSlots, ticket: &Ticket
     let Some(slot) = arena.back(0, group.lists.free) else {
         return;
     };
+    let from = group.lists.free;
     let to = list_for(&group.lists, &ticket.state);
+    let alone = arena.len_of(0, group.lists.running) == 0;
     arena.partition(1);
     arena.partition(2);
     arena.set(slot, *ticket);
     arena.move_to_back(0, slot, to);
     place(arena, &group.lists, slot);
     count_in(group, ticket);
+    note_submit(group, ticket);
+    note_move(group, ticket.serial, alone, from, to);
     group.next += 1;
 }
 
@@ -203,19 +255,57 @@ pub fn drop_cached(arena: &mut Arena<Ticket, 3>, group: &mut GroupSlots, context
     count
 }
 
-/// The ticket in the slot has timed out, where it is due; answers how many did.
+/// Whether a ticket of the rule's command may be due, by what is counted of the command alone. Where it is false, surely
+/// none is due.
+pub fn may_be_due(group: &GroupSlots, due: &DueRule) -> bool
+    requires { length group.now.commands ≡ 16 }
+    ensures { result ≡ may_be_due due.now group.now }
+{
+    if due.command >= 16 || !due.timeout_on {
+        return false;
+    }
+    let since = group.commands[due.command as usize].open_since;
+    due.moment.saturating_sub(since) >= due.timeout_ms
+}
+
+/// Since then tickets of the command may be queued or running.
+pub fn set_open_since(group: &mut GroupSlots, command: u8, since: u64)
+    requires { command < length group.old.commands }
+    ensures { group.new ≡ with_since command since group.old }
+{
+    group.commands[command as usize].open_since = since;
+}
+
+/// The earlier of a moment and the ticket's submit, where the ticket is of the rule's command.
+fn since_with(since: u64, ticket: &Ticket, due: &DueRule) -> u64
+    ensures earlier { result ≤ since }
+    ensures own { ticket.now.command ≡ due.now.command → result ≤ ticket.now.submitted }
+{
+    if ticket.command == due.command {
+        since.min(ticket.submitted)
+    } else {
+        since
+    }
+}
+
+/// The ticket in the slot has timed out, where it is due; answers how many did. One of the rule's command that is not due
+/// was not submitted before `since`.
 pub fn time_out_at(
     arena: &mut Arena<Ticket, 3>,
     group: &mut GroupSlots,
     slot: u32,
     due: &DueRule,
+    since: &mut u64,
 ) -> u64
     requires arena { IsArena arena.old 0 }
     requires group { IsGroupSlots arena.old group.old }
     requires there { is_some (ticket_at arena.old group.old.lists slot) ≡ true }
-    ensures { IsTimed arena.old group.old slot due.now result arena.new group.new }
+    ensures timed { IsTimed arena.old group.old slot due.now result arena.new group.new }
+    ensures since { IsSinceAt (ticket_at arena.old group.old.lists slot) due.now since.old since.new }
 {
-    if !is_due(arena.get(slot), due) {
+    let ticket = arena.get(slot);
+    if !is_due(ticket, due) {
+        *since = since_with(*since, ticket, due);
         return 0;
     }
     change(arena, group, slot, &TicketChange::TimeOut);

@@ -2,7 +2,8 @@
 
 ghost use Rattle.std.specs.Prelude.{◌≡◌, ◌-◌, ◌<◌, nat_lt};
 ghost use Rattle.bh_base.specs.Tickets.{is_in_fallback, is_kept, is_queued, is_running, is_unanswered};
-ghost use Rattle.bh_tickets.specs.Changes.{is_due_by};
+ghost use Rattle.bh_tickets.specs.Changes.{is_due_by, is_young_by};
+ghost use Rattle.bh_tickets.specs.Counts.{is_open};
 ghost use Rattle.bh_tickets.specs.TicketsView.{is_used};
 
 use bh_base::{Moment, Ticket, TicketState};
@@ -29,6 +30,13 @@ pub fn is_running(ticket: &Ticket) -> bool
     ensures { result ≡ is_running ticket.now }
 {
     matches!(ticket.state, TicketState::Running)
+}
+
+/// Whether the ticket can time out: it waits, or its run is under way.
+pub fn is_open(ticket: &Ticket) -> bool
+    ensures { result ≡ is_open ticket.now }
+{
+    is_queued(ticket) || is_running(ticket)
 }
 
 /// Whether a holder runs the ticket's fallback.
@@ -67,6 +75,13 @@ pub fn is_kept(ticket: &Ticket) -> bool
     ensures { result ≡ is_kept ticket.now }
 {
     ticket.busy || 0 < ticket.holders || ticket.cached
+}
+
+/// Whether the ticket was submitted too late to be due.
+pub fn is_young(ticket: &Ticket, due: &DueRule) -> bool
+    ensures { result ≡ is_young_by due.now ticket.now }
+{
+    due.moment.saturating_sub(ticket.submitted) < due.timeout_ms
 }
 
 /// Whether the ticket is to time out.

@@ -1,26 +1,47 @@
 //! Walks along all of a group's tickets, which may move the ticket at hand to another list.
 
-ghost use Rattle.std.specs.Prelude.{◌≡◌, ◌≢◌, true};
+ghost use Rattle.std.specs.Prelude.{◌≡◌, ◌≢◌, ◌<◌, true};
 ghost use Rattle.bh_slot_arena.specs.Slots.{slots_on};
 ghost use Rattle.bh_cache.specs.Slots.{IsArena, is_live_list};
-ghost use Rattle.bh_tickets.specs.GroupSlots.{IsGroupSlots, IsReleased};
-ghost use Rattle.bh_tickets.specs.Sweeps.{IsReleasedFrom, IsTimedFrom, IsTimedOut};
+ghost use Rattle.bh_tickets.specs.GroupSlots.{IsGroupSlots, IsReleased, IsRising};
+ghost use Rattle.bh_tickets.specs.Sweeps.{IsReleasedFrom, IsSinceFrom, IsTimedFrom, IsTimedOut};
 
-use crate::group_slots::{GroupSlots, Needless, release_at, time_out_at};
-use crate::states::DueRule;
+use crate::group_slots::{
+    GroupSlots, Needless, may_be_due, release_at, set_open_since, time_out_at,
+};
+use crate::states::{DueRule, is_young};
 use bh_base::Ticket;
 use bh_slot_arena::Arena;
 
-/// Each of the group's tickets that is due has timed out. How many did.
+/// Each of the group's tickets that is due has timed out. How many did. It takes no walk where what is counted of the
+/// command shows that none is due.
 pub fn time_out(arena: &mut Arena<Ticket, 3>, group: &mut GroupSlots, due: &DueRule) -> u64
     requires arena { IsArena arena.old 0 }
     requires group { IsGroupSlots arena.old group.old }
     ensures { IsTimedOut arena.old group.old due.now result arena.new group.new }
 {
+    if !may_be_due(group, due) {
+        return 0;
+    }
+    time_out_open(arena, group, due)
+}
+
+/// Each of the group's tickets that is due has timed out, by a walk along those that are queued or running. How many did.
+/// The walk finds anew since when tickets of the command are queued or running.
+fn time_out_open(arena: &mut Arena<Ticket, 3>, group: &mut GroupSlots, due: &DueRule) -> u64
+    requires arena { IsArena arena.old 0 }
+    requires group { IsGroupSlots arena.old group.old }
+    requires known { due.now.command < 16 }
+    ensures { IsTimedOut arena.old group.old due.now result arena.new group.new }
+{
     arena.partition(0);
     let lists = group.lists;
-    let queued = time_out_on(arena, group, lists.queued, due);
-    let running = time_out_on(arena, group, lists.running, due);
+    let mut since = u64::MAX;
+    let rising = group.in_time;
+    let queued = time_out_on(arena, group, lists.queued, rising, due, &mut since);
+    let rising = group.running_rises();
+    let running = time_out_on(arena, group, lists.running, rising, due, &mut since);
+    set_open_since(group, due.command, since);
     queued + running
 }
 
@@ -63,18 +84,24 @@ fn release_all(arena: &mut Arena<Ticket, 3>, group: &mut GroupSlots)
     group.needless = Needless::Nothing;
 }
 
-/// The tickets of a list have timed out, where they are due. How many did.
+/// The tickets of a list have timed out, where they are due. How many did. Those of the rule's command that are not due
+/// were not submitted before `since`. Where the tickets lie in the order of their submits, the walk ends at the first of
+/// the command that was submitted too late.
 fn time_out_on(
     arena: &mut Arena<Ticket, 3>,
     group: &mut GroupSlots,
     list: usize,
+    rising: bool,
     due: &DueRule,
+    since: &mut u64,
 ) -> u64
     requires arena { IsArena arena.old 0 }
     requires group { IsGroupSlots arena.old group.old }
     requires live { is_live_list group.old.lists list ≡ true }
     requires open { list ≢ group.old.lists.settled }
-    ensures { IsTimedFrom (slots_on arena.old 0 list) arena.old group.old due.now result arena.new group.new }
+    requires rising { rising ≡ true → IsRising arena.old.payloads (slots_on arena.old 0 list) }
+    ensures timed { IsTimedFrom (slots_on arena.old 0 list) arena.old group.old due.now result arena.new group.new }
+    ensures since { IsSinceFrom (slots_on arena.old 0 list) arena.old group.old due.now since.old since.new }
 {
     arena.partition(0);
     let mut number = 0;
@@ -83,9 +110,14 @@ fn time_out_on(
         let Some(slot) = place else {
             return number;
         };
+        let ticket = arena.get(slot);
+        if rising && ticket.command == due.command && is_young(ticket, due) {
+            *since = (*since).min(ticket.submitted);
+            return number;
+        }
         // Before the slot moves.
         place = arena.next(0, slot);
-        number += time_out_at(arena, group, slot, due);
+        number += time_out_at(arena, group, slot, due, since);
     }
     number
 }

@@ -12,7 +12,7 @@ ghost use Rattle.bh_tickets.specs.TicketsView.{CanPush, ChangesOnly, HasPlace, I
 ghost use Rattle.bh_tickets.specs.Whole.{CanChange, IsChanged};
 
 use crate::changes::TicketChange;
-use crate::group_slots::{self, GroupSlots, add, drop_cached};
+use crate::group_slots::{self, GroupSlots, add, drop_cached, may_be_due};
 use crate::growth::new_arena;
 use crate::spare::{give_slots, ready_spare, take_place, take_slots, vacant};
 use crate::states::{DueRule, is_due, is_held, is_in_fallback};
@@ -244,14 +244,17 @@ impl Tickets {
         is_due(self.arena.get(slot), due)
     }
 
-    /// Whether a ticket has timed out.
+    /// Whether a ticket has timed out. It takes no walk where what is counted of the command shows that none has.
     pub fn any_due(&self, group: usize, due: &DueRule) -> bool
         requires { group < length self.now.groups }
         ensures { result ≡ list_any (is_due_by due.now) (group_at self.now group).items }
     {
         let entry = &self.groups[group];
-        any_due_on(&self.arena, entry.lists.queued, due)
-            || any_due_on(&self.arena, entry.lists.running, due)
+        if !may_be_due(entry, due) {
+            return false;
+        }
+        any_due_on(&self.arena, entry.lists.queued, entry.in_time, due)
+            || any_due_on(&self.arena, entry.lists.running, entry.running_rises(), due)
     }
 
     /// Whether a run of a ticket has not ended, or someone has still to collect an answer.
