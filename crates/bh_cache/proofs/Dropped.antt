@@ -31,18 +31,21 @@ uncached_not context t = by (is_cached_in context t) refl
 pub uncached_same : (context : ℕ) (t : Ticket) → is_cached_in context t ≡ false → uncached_in context t ≡ t
 uncached_same context t e = ap (λ b. if b then record t { cached = false } else t) e
 
-uncached_serial : (context : ℕ) (t : Ticket) → (uncached_in context t).serial ≡ t.serial
+-- its serial stays
+pub uncached_serial : (context : ℕ) (t : Ticket) → (uncached_in context t).serial ≡ t.serial
 uncached_serial context t = by (is_cached_in context t)
   where
     by : (b : Bool) → (if b then record t { cached = false } else t).serial ≡ t.serial
     by true = refl
     by false = refl
 
-twice : (context : ℕ) (o : Option Ticket) → option_map (uncached_in context) (option_map (uncached_in context) o) ≡ option_map (uncached_in context) o
+-- made uncached twice it is as made so once
+pub twice : (context : ℕ) (o : Option Ticket) → option_map (uncached_in context) (option_map (uncached_in context) o) ≡ option_map (uncached_in context) o
 twice context None = refl
 twice context (Some t) = ap Some (uncached_same context (uncached_in context t) (uncached_not context t))
 
-none_cached : (context : ℕ) (o : Option Ticket) → has_one (is_cached_in context) (option_map (uncached_in context) o) ≡ false
+-- no ticket made uncached in the context is cached in it
+pub none_cached : (context : ℕ) (o : Option Ticket) → has_one (is_cached_in context) (option_map (uncached_in context) o) ≡ false
 none_cached context None = refl
 none_cached context (Some t) = uncached_not context t
 

@@ -1,5 +1,6 @@
 -- What is found along a chain is what is found among all of the group's tickets.
 use Rattle.std.proofs.Common.{◌≡◌, ℕ, ◌≤◌, inl, inr, Bool, true, false, List, [], ◌∷◌, Option, Some, None, refl, ◌∙◌, sym, ap, ap₂, subst, arith}
+use Rattle.std.specs.List.{Contains}
 use Rattle.std.specs.Prelude.{◌||◌, ◌&&◌, ◌==◌, nat_eq, reverse, slice_get, IfSome, if◌then◌else◌}
 use Rattle.std.specs.Cmp.Lexicographic.{pointwise}
 use Rattle.std.proofs.lemmas.Bool.{cases_eq, eq-eqb, ne_eqb}
@@ -12,12 +13,12 @@ use Rattle.bh_cache.specs.Chains.{AreOn, IsChained, list_by_name, list_by_serial
 use Rattle.bh_cache.specs.Slots.{Slots, IsArena, has_one, has_serial_in, is_on, is_live, serial_on, ticket_at}
 use Rattle.bh_cache.proofs.Earliest.{IsBest, best_among, earliest_best}
 use Rattle.bh_cache.proofs.Placed.{name_chain_not_uncached, serial_chain_not_free}
-use Rattle.bh_cache.proofs.Places.{has_reverse}
+use Rattle.bh_cache.proofs.Places.{has_contained, has_reverse}
 use Rattle.bh_cache.proofs.Walks.{find_off, find_on}
 
 module _ (a : Slots) (g : GroupLists) (f first last : ℕ) (to : Option Ticket → ℕ) (are : AreOn f first last to a g) where
   -- a slot of the group that lies on another list than those without a ticket has one
-  live_on : IsArena a f → (l x : ℕ) → first ≤ l → l ≤ last → (l ≡ to None → ⊥) → is_on a f l x ≡ true → is_live a g x ≡ true
+  pub live_on : IsArena a f → (l x : ℕ) → first ≤ l → l ≤ last → (l ≡ to None → ⊥) → is_on a f l x ≡ true → is_live a g x ≡ true
   live_on arena l x from til ne on = by (is_live a g x) refl
     where
       by : (b : Bool) → is_live a g x ≡ b → b ≡ true
@@ -27,7 +28,7 @@ module _ (a : Slots) (g : GroupLists) (f first last : ℕ) (to : Option Ticket �
           absurd (ne (arena.apart l (to None) x on (sym (ap (λ o. is_on a f (to o) x) none) ∙ are.placed x (are.owned l x from til on))))
 
   -- a slot with a ticket lies on the list for it
-  on_live : (x : ℕ) (t : Ticket) → is_live a g x ≡ true → slice_get a.payloads x ≡ Some t → is_on a f (to (Some t)) x ≡ true
+  pub on_live : (x : ℕ) (t : Ticket) → is_live a g x ≡ true → slice_get a.payloads x ≡ Some t → is_on a f (to (Some t)) x ≡ true
   on_live x t live is =
       let here : ticket_at a g x ≡ Some t = ap (λ d. if d then slice_get a.payloads x else None) live ∙ is in
       sym (ap (λ o. is_on a f (to o) x) here) ∙ are.placed x (ap (λ b. is_on a 0 g.free x || b) live ∙ or_true (is_on a 0 g.free x))
@@ -58,6 +59,13 @@ module _ (a : Slots) (g : GroupLists) (serial : ℕ) (chained : IsChained a g) (
       let live = live_on a g 1 g.serials g.free1 (list_by_serial g) chained.serials arena (serial_chain g serial) x (omega arith) (omega (arith, k)) (λ q. absurd (omega (arith, k, q))) (sym (has_reverse x (slots_on a 1 (serial_chain g serial))) ∙ r.0) in
       ap (λ d. has_serial_in serial (if d then slice_get a.payloads x else None)) live ∙ r.1
 
+  -- a slot on the chain of a serial that has a ticket of that serial has it of the group
+  pub serial_at : (x : ℕ) (t : Ticket) → Contains (slots_on a 1 (serial_chain g serial)) x → slice_get a.payloads x ≡ Some t → t.serial ≡ serial → has_serial_in serial (ticket_at a g x) ≡ true
+  serial_at x t on is e =
+      let k = serial_chain_not_free a g chained.lists serial in
+      let live = live_on a g 1 g.serials g.free1 (list_by_serial g) chained.serials arena (serial_chain g serial) x (omega arith) (omega (arith, k)) (λ q. absurd (omega (arith, k, q))) (has_contained (slots_on a 1 (serial_chain g serial)) x on) in
+      ap (λ d. has_serial_in serial (if d then slice_get a.payloads x else None)) live ∙ ap (has_serial_in serial) is ∙ eq-eqb t.serial serial e
+
   -- where it has none, no ticket of the group has the serial
   pub serial_none_on : None ≡ serial_on a 1 (serial_chain g serial) serial → (x : ℕ) → has_serial_in serial (ticket_at a g x) ≡ false
   serial_none_on e x = by (is_live a g x) refl
@@ -81,15 +89,16 @@ same_text (x ∷ xs) (y ∷ ys) e = elim (cases_eq x y) [
   | inr ne ↦ let k : false ≡ true = ap (λ b. b && pointwise nat_eq xs ys) (sym (ne_eqb x y ne)) ∙ e in absurd cc
 ]
 
-module _ (g : GroupLists) (name : ℕ × List ℕ) where
-  same_name : (given : ℕ × List ℕ) → ((given.0 == name.0) && pointwise nat_eq given.1 name.1) ≡ true → given ≡ name
-  same_name given e = elim (cases_eq given.0 name.0) [
-    | inl q ↦
-        let k : given.1 ≡ name.1 = same_text given.1 name.1 (ap (λ b. b && pointwise nat_eq given.1 name.1) (sym (eq-eqb given.0 name.0 q)) ∙ e) in
-        λ i. (q i, k i)
-    | inr ne ↦ let k : false ≡ true = ap (λ b. b && pointwise nat_eq given.1 name.1) (sym (ne_eqb given.0 name.0 ne)) ∙ e in absurd cc
-  ]
+-- two names are the same whose parts are
+pub same_name : (name given : ℕ × List ℕ) → ((given.0 == name.0) && pointwise nat_eq given.1 name.1) ≡ true → given ≡ name
+same_name name given e = elim (cases_eq given.0 name.0) [
+  | inl q ↦
+      let k : given.1 ≡ name.1 = same_text given.1 name.1 (ap (λ b. b && pointwise nat_eq given.1 name.1) (sym (eq-eqb given.0 name.0 q)) ∙ e) in
+      λ i. (q i, k i)
+  | inr ne ↦ let k : false ≡ true = ap (λ b. b && pointwise nat_eq given.1 name.1) (sym (ne_eqb given.0 name.0 ne)) ∙ e in absurd cc
+]
 
+module _ (g : GroupLists) (name : ℕ × List ℕ) where
   -- a ticket that is cached under a name, of whichever command, belongs on the chain of the name
   on_name : (command : ℕ) (t : Ticket) → is_cached_as command name t ≡ true → list_by_name g (Some t) ≡ name_chain g name
   on_name command t e = of (t.command == command) e
@@ -97,7 +106,7 @@ module _ (g : GroupLists) (name : ℕ × List ℕ) where
       by : (b : Bool) (o : Option (ℕ × List ℕ)) → (b && elim o [ None ↦ false | Some given ↦ (given.0 == name.0) && pointwise nat_eq given.1 name.1 ]) ≡ true → (if b then list_of_name g o else g.uncached) ≡ name_chain g name
       by false o e = absurd cc
       by true None e = absurd cc
-      by true (Some given) e = ap (name_chain g) (same_name given e)
+      by true (Some given) e = ap (name_chain g) (same_name name given e)
 
       of : (b : Bool) → (b && t.cached && elim t.cache [ None ↦ false | Some given ↦ (given.0 == name.0) && pointwise nat_eq given.1 name.1 ]) ≡ true → list_by_name g (Some t) ≡ name_chain g name
       of false e = absurd cc

@@ -1,9 +1,11 @@
 -- Members and places of a list of slots, and payloads by their slots.
 use Rattle.std.proofs.Common.{◌≡◌, ℕ, zero, suc, ◌+◌, ◌<◌, ◌≤◌, inl, inr, Bool, true, false, List, [], ◌∷◌, ◌++◌, length, drop, set, take, Some, None, refl, ◌∙◌, sym, ap, arith, add-one}
 use Rattle.std.specs.Prelude.{◌||◌, eqb, reverse, slice_get, if◌then◌else◌}
+use Rattle.std.specs.List.{Contains}
 use mathlib.Core.List.{reverse_aux}
 use Rattle.std.proofs.lemmas.Bool.{cases_eq, eq-eqb, ne_eqb}
 use Rattle.bh_base.specs.declared.ticket.Ticket.{Ticket}
+use Rattle.bh_index_lists.proofs.Members.{IsIn, IsIn-from_Contains}
 use Rattle.bh_cache.specs.Slots.{has}
 
 -- ---- members and places
@@ -51,6 +53,19 @@ has_at (y ∷ ys) (suc k) x e = ap (λ b. eqb y x || b) (has_at ys k x e) ∙ or
     or_true : (b : Bool) → (b || true) ≡ true
     or_true true = refl
     or_true false = refl
+
+-- what a list contains is a member of it
+pub has_contained : (xs : List ℕ) (x : ℕ) → Contains xs x → has x xs ≡ true
+has_contained xs x h = by xs (IsIn-from_Contains x xs h)
+  where
+    or_true : (b : Bool) → (b || true) ≡ true
+    or_true true = refl
+    or_true false = refl
+
+    by : (ys : List ℕ) → IsIn x ys → has x ys ≡ true
+    by [] i = absurd i
+    by (y ∷ ys) (inl e) = ap (λ b. b || has x ys) (eq-eqb y x e)
+    by (y ∷ ys) (inr i) = ap (λ b. eqb y x || b) (by ys i) ∙ or_true (eqb y x)
 
 -- ---- what is ahead of a place, and what is behind it
 

@@ -1,3 +1,4 @@
+pub mod Beside
 pub mod Moved
 pub mod Added
 pub mod Grown

@@ -63,6 +63,14 @@ impl<T: Copy, const K: usize> Arena<T, K> {
         }
     }
 
+    /// How many slots there are.
+    pub fn slot_count(&self) -> u32
+        ensures { result ≡ length self.now.payloads }
+    {
+        let count = self.payloads.len();
+        count as u32
+    }
+
     /// Whether so many slots more are within what the arena may have.
     pub fn has_room_for(&self, count: u32) -> bool
         ensures { result ≡ nat_le (length self.now.payloads + count) self.now.limit }
@@ -168,6 +176,16 @@ impl<T: Copy, const K: usize> Arena<T, K> {
         ensures { (l k : ℕ) → slice_get (reverse (slots_on self.now family l)) k ≡ Some slot → result ≡ slice_get (reverse (slots_on self.now family l)) (k + 1) }
     {
         self.families[family].previous(slot)
+    }
+
+    /// The number of the list of a family that a slot is on.
+    pub fn list_holding(&self, family: usize, slot: u32) -> usize
+        requires family { family < K }
+        requires slot { slot < length self.now.payloads }
+        ensures there { result < length (lists_in self.now family) }
+        ensures on { Contains (slots_on self.now family result) slot }
+    {
+        self.families[family].list_holding(slot)
     }
 
     /// How many slots a list has.

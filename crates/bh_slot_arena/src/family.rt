@@ -1,24 +1,23 @@
 //! One family of lists over the slots.
 
-ghost use Rattle.std.specs.Prelude.{◌≡◌, ◌≢◌, ℕ, ◌+◌, ◌<◌, ◌≤◌, ◌^◌, List, [], ◌∷◌, ◌++◌, length, map, replicate, reverse, slice_get, IfOk, OnOk, OnErr, Some, vec_len, vec_capacity};
+ghost use Rattle.std.specs.Prelude.{◌≡◌, ◌≢◌, ℕ, ◌+◌, ◌<◌, ◌≤◌, ◌^◌, List, [], ◌∷◌, ◌++◌, Contains, length, map, replicate, reverse, slice_get, IfOk, OnOk, OnErr, Some, vec_len, vec_capacity};
 ghost use Rattle.std.specs.List.{range_with_len};
 ghost use Rattle.bh_index_lists.specs.Lists.{list_of, no_list, without};
 ghost use Rattle.bh_slot_arena.specs.Lists.{IsPartition, appended, list_at, moved, put_last};
 ghost use Rattle.bh_slot_arena.specs.Family.{AddsSlots, CanAddSlots, but_room, no_lists};
-ghost use Rattle.bh_slot_arena.specs.Linked.{IsLinked};
+ghost use Rattle.bh_slot_arena.specs.Nodes.{AreLinked, links_of};
 
-use bh_index_lists::{Link, ListHead, push_back, unlink};
+use crate::nodes::{Node, push_back, set_number, unlink};
+use bh_index_lists::{Link, ListHead};
 use std::alloc::{AllocError, Global};
 use std::marker::Model;
 
 /// The lists of a family, by number: each slot is on exactly one of them.
 #[derive(Drop)]
 pub struct Family {
-    /// The neighbours of each slot.
-    links: Vec<Link>,
+    /// The neighbours of each slot, and the number of its list.
+    nodes: Vec<Node>,
     heads: Vec<ListHead>,
-    /// The number of each slot's list.
-    on_list: Vec<usize>,
 }
 
 impl Model for Family {
@@ -39,9 +38,8 @@ impl Family {
         ensures { but_room result ≡ no_lists }
     {
         Family {
-            links: Vec::new(alloc),
+            nodes: Vec::new(alloc),
             heads: Vec::new(alloc),
-            on_list: Vec::new(alloc),
         }
     }
 
@@ -63,8 +61,7 @@ impl Family {
         ensures same { but_room self.new ≡ but_room self.old }
         ensures ok { OnOk result (count ≤ self.new.room) }
     {
-        self.links.reserve(count)?;
-        self.on_list.reserve(count)
+        self.nodes.reserve(count)
     }
 
     /// Puts so many new slots, from the number `first` on, at the end of a list.
@@ -73,14 +70,7 @@ impl Family {
         requires few { first + count < 2 ^ 32 }
         ensures { AddsSlots first count list self.old self.new }
     {
-        put_slots(
-            &mut self.links,
-            &mut self.heads,
-            &mut self.on_list,
-            first,
-            count,
-            list,
-        );
+        put_slots(&mut self.nodes, &mut self.heads, first, count, list);
     }
 
     /// Takes a slot off its list, and puts it last on the list `to`.
@@ -90,13 +80,7 @@ impl Family {
         ensures slots { self.new.slots ≡ self.old.slots }
         ensures lists { self.new.lists ≡ moved slot to self.old.lists }
     {
-        move_slot(
-            &mut self.links,
-            &mut self.heads,
-            &mut self.on_list,
-            slot,
-            to,
-        );
+        move_slot(&mut self.nodes, &mut self.heads, slot, to);
     }
 
     /// Puts the slots of the list `from` at the end of another, in their order.
@@ -140,7 +124,7 @@ impl Family {
         requires { slot < self.now.slots }
         ensures { (l k : ℕ) → slice_get (list_at self.now.lists l) k ≡ Some slot → result ≡ slice_get (list_at self.now.lists l) (k + 1) }
     {
-        self.links[slot as usize].next
+        self.nodes[slot as usize].link.next
     }
 
     /// The last slot of a list.
@@ -156,7 +140,16 @@ impl Family {
         requires { slot < self.now.slots }
         ensures { (l k : ℕ) → slice_get (reverse (list_at self.now.lists l)) k ≡ Some slot → result ≡ slice_get (reverse (list_at self.now.lists l)) (k + 1) }
     {
-        self.links[slot as usize].prev
+        self.nodes[slot as usize].link.prev
+    }
+
+    /// The number of the list that a slot is on.
+    pub fn list_holding(&self, slot: u32) -> usize
+        requires { slot < self.now.slots }
+        ensures there { result < length self.now.lists }
+        ensures on { Contains (list_at self.now.lists result) slot }
+    {
+        self.nodes[slot as usize].list
     }
 
     /// How many slots a list has.
@@ -171,7 +164,7 @@ impl Family {
     pub fn partition(&self)
         ensures { IsPartition self.now.slots self.now.lists }
     {
-        let _ = &self.links;
+        let _ = &self.nodes;
     }
 }
 
@@ -188,70 +181,50 @@ fn add_heads(heads: &mut Vec<ListHead>, count: usize) -> Result<(), AllocError>
 }
 
 /// Puts so many new slots, from the number `first` on, at the end of a list.
-fn put_slots(
-    links: &mut Vec<Link>,
-    heads: &mut [ListHead],
-    on_list: &mut Vec<usize>,
-    first: u32,
-    count: u32,
-    list: usize,
-)
-    requires sound { IsLinked links.old.items heads.old on_list.old.items }
-    requires first { length links.old.items ≡ first }
+fn put_slots(nodes: &mut Vec<Node>, heads: &mut [ListHead], first: u32, count: u32, list: usize)
+    requires sound { AreLinked nodes.old.items heads.old }
+    requires first { length nodes.old.items ≡ first }
     requires few { first + count < 2 ^ 32 }
     requires list { list < length heads.old }
-    requires room { vec_len links.old + count ≤ vec_capacity links.old }
-    requires list_room { vec_len on_list.old + count ≤ vec_capacity on_list.old }
-    ensures sound { IsLinked links.new.items heads.new on_list.new.items }
-    ensures slots { length links.new.items ≡ first + count }
-    ensures lists { map (list_of links.new.items) heads.new ≡ put_last (range_with_len first count) list (map (list_of links.old.items) heads.old) }
+    requires room { vec_len nodes.old + count ≤ vec_capacity nodes.old }
+    ensures sound { AreLinked nodes.new.items heads.new }
+    ensures slots { length nodes.new.items ≡ first + count }
+    ensures lists { map (list_of (links_of nodes.new.items)) heads.new ≡ put_last (range_with_len first count) list (map (list_of (links_of nodes.old.items)) heads.old) }
 {
     for slot in first..first + count {
-        put_slot(links, heads, on_list, slot, list);
+        put_slot(nodes, heads, slot, list);
     }
 }
 
 /// Puts a new slot at the end of a list.
-fn put_slot(
-    links: &mut Vec<Link>,
-    heads: &mut [ListHead],
-    on_list: &mut Vec<usize>,
-    slot: u32,
-    list: usize,
-)
-    requires sound { IsLinked links.old.items heads.old on_list.old.items }
-    requires slot { length links.old.items ≡ slot }
+fn put_slot(nodes: &mut Vec<Node>, heads: &mut [ListHead], slot: u32, list: usize)
+    requires sound { AreLinked nodes.old.items heads.old }
+    requires slot { length nodes.old.items ≡ slot }
     requires few { slot + 1 < 2 ^ 32 }
     requires list { list < length heads.old }
-    requires room { vec_len links.old < vec_capacity links.old }
-    requires list_room { vec_len on_list.old < vec_capacity on_list.old }
-    ensures sound { IsLinked links.new.items heads.new on_list.new.items }
-    ensures slots { length links.new.items ≡ slot + 1 }
-    ensures room { vec_capacity links.new ≡ vec_capacity links.old }
-    ensures list_room { vec_capacity on_list.new ≡ vec_capacity on_list.old }
-    ensures lists { map (list_of links.new.items) heads.new ≡ put_last (slot ∷ []) list (map (list_of links.old.items) heads.old) }
+    requires room { vec_len nodes.old < vec_capacity nodes.old }
+    ensures sound { AreLinked nodes.new.items heads.new }
+    ensures slots { length nodes.new.items ≡ slot + 1 }
+    ensures room { vec_capacity nodes.new ≡ vec_capacity nodes.old }
+    ensures lists { map (list_of (links_of nodes.new.items)) heads.new ≡ put_last (slot ∷ []) list (map (list_of (links_of nodes.old.items)) heads.old) }
 {
-    links.push_reserved(Link::default());
-    on_list.push_reserved(list);
-    push_back(links, &mut heads[list], slot);
+    nodes.push_reserved(Node {
+        link: Link::default(),
+        list,
+    });
+    push_back(nodes, &mut heads[list], slot);
 }
 
 /// Takes a slot off its list, and puts it last on the list `to`.
-fn move_slot(
-    links: &mut [Link],
-    heads: &mut [ListHead],
-    on_list: &mut [usize],
-    slot: u32,
-    to: usize,
-)
-    requires sound { IsLinked links.old heads.old on_list.old }
-    requires slot { slot < length links.old }
+fn move_slot(nodes: &mut [Node], heads: &mut [ListHead], slot: u32, to: usize)
+    requires sound { AreLinked nodes.old heads.old }
+    requires slot { slot < length nodes.old }
     requires list { to < length heads.old }
-    ensures sound { IsLinked links.new heads.new on_list.new }
-    ensures lists { map (list_of links.new) heads.new ≡ moved slot to (map (list_of links.old) heads.old) }
+    ensures sound { AreLinked nodes.new heads.new }
+    ensures lists { map (list_of (links_of nodes.new)) heads.new ≡ moved slot to (map (list_of (links_of nodes.old)) heads.old) }
 {
-    let from = on_list[slot as usize];
-    unlink(links, &mut heads[from], slot);
-    push_back(links, &mut heads[to], slot);
-    on_list[slot as usize] = to;
+    let from = nodes[slot as usize].list;
+    unlink(nodes, &mut heads[from], slot);
+    push_back(nodes, &mut heads[to], slot);
+    set_number(nodes, slot, to);
 }

@@ -4,5 +4,6 @@
 
 pub mod arena;
 mod family;
+mod nodes;
 
 pub use arena::{Arena, SlotsError};

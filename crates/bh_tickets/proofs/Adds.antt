@@ -11,14 +11,14 @@ use Rattle.bh_cache.specs.declared.lists.GroupLists.{GroupLists}
 use Rattle.bh_tickets.specs.declared.group_slots.GroupSlots.{GroupSlots}
 use Rattle.bh_slot_arena.specs.Slots.{lists_in, slots_on, with_payload, with_moved}
 use Rattle.bh_cache.specs.Slots.{Slots, has, is_on, is_live_list, is_live, is_owned, ticket_at, list_for, serial_in, InOrder, count_below, has_one, one, IsArena}
-use Rattle.bh_tickets.specs.GroupSlots.{AreInTurn, IsNumbered, IsGroupSlots, CanAdd, IsAdded, count_at, counted_in, is_any, may_go, with_submit}
+use Rattle.bh_tickets.specs.GroupSlots.{AreInTurn, IsNumbered, IsGroupSlots, CanAdd, IsAdded, count_at, counted_in, is_any, with_submit}
 use Rattle.bh_tickets.specs.declared.counts.CommandCounts.{CommandCounts}
 use Rattle.bh_tickets.specs.Counts.{HasRoomFor, all_more, counts_of, is_open, open_since}
 use Rattle.bh_tickets.proofs.InTime.{times_more}
 use Rattle.bh_tickets.proofs.InTurn.{IsTurned, turns_less, turns_more}
 use Rattle.bh_tickets.proofs.Since.{since_more, since_own}
 use Rattle.bh_tickets.proofs.ByCommand.{counts_more, has_room}
-use Rattle.bh_tickets.specs.declared.group_slots.Needless.TheVariants as needless
+use Rattle.bh_chains.specs.Notes.{is_noted}
 use Rattle.bh_cache.proofs.Order.{order_same, order_without, order_append, front_on, front_none, count_le, count_same}
 use Rattle.bh_cache.proofs.Counts.{count_point}
 use Rattle.bh_cache.proofs.Places.{get_set, has_reverse}
@@ -27,7 +27,9 @@ use Rattle.bh_cache.proofs.Moves.{has_without, list_to}
 use Rattle.bh_tickets.proofs.Own.{come_arranged, come_tickets, live_for}
 use Rattle.bh_tickets.proofs.Others.{each_list, own_for}
 use Rattle.bh_tickets.proofs.Chained.{chains_placed, moved_keeps, placed_on, touched_placed}
-use Rattle.bh_cache.specs.Chains.{IsChained, IsChainFrame, with_placed}
+use Rattle.bh_cache.specs.Chains.{IsChainFrame}
+use Rattle.bh_chains.specs.Chains.{IsChained, is_named, list_by_name, with_placed_where}
+use Rattle.bh_chains.proofs.Placed.{unnamed_list}
 
 -- ---- tickets lie in live slots
 
@@ -110,7 +112,7 @@ pub not_free : (g : GroupLists) (r : TicketState) → IsNumbered g → g.free �
 not_free g r n = each_list (λ l. g.free ≢ l) g (λ e. absurd (omega (arith, e, n.queued))) (λ e. absurd (omega (arith, e, n.running))) (λ e. absurd (omega (arith, e, n.settled))) r
 
 module _ (a b : Slots) (s : GroupSlots) (x : ℕ) (v : Ticket) (arena : IsArena a 0) (group : IsGroupSlots a s) (back : slice_get (reverse (slots_on a 0 s.lists.free)) 0 ≡ Some x) (can : CanAdd s v)
-    (serials : IsArena a 1) (names : IsArena a 2) (is : b ≡ with_placed s.lists x (Some v) (with_moved 0 x (list_for s.lists v.state) (with_payload x v a))) where
+    (serials : IsArena a 1) (names : IsArena a 2) (is : b ≡ with_placed_where (is_named (Some v)) s.lists x (Some v) (with_moved 0 x (list_for s.lists v.state) (with_payload x v a))) where
   on : is_on a 0 s.lists.free x ≡ true
   on = back_on x (slots_on a 0 s.lists.free) back
 
@@ -127,7 +129,7 @@ module _ (a b : Slots) (s : GroupSlots) (x : ℕ) (v : Ticket) (arena : IsArena 
   before = touched_both a x (list_for s.lists v.state) v arena within there
 
   touched : IsTouched a b x (list_for s.lists v.state) v
-  touched = subst (λ (z : Slots). IsTouched a z x (list_for s.lists v.state) v) (sym is) (touched_placed a (with_moved 0 x (list_for s.lists v.state) (with_payload x v a)) x (list_for s.lists v.state) v s.lists (Some v) before)
+  touched = subst (λ (z : Slots). IsTouched a z x (list_for s.lists v.state) v) (sym is) (touched_placed (is_named (Some v)) a (with_moved 0 x (list_for s.lists v.state) (with_payload x v a)) x (list_for s.lists v.state) v s.lists (Some v) before)
 
   away : (y : ℕ) → has y (without x (slots_on a 0 s.lists.queued)) ≡ true → (y ≡ x → ⊥) × (has y (slots_on a 0 s.lists.queued) ≡ true)
   away y i = elim (cases_eq y x) [
@@ -156,7 +158,7 @@ module _ (a b : Slots) (s : GroupSlots) (x : ℕ) (v : Ticket) (arena : IsArena 
   order = elim (cases_eq s.lists.queued (list_for s.lists v.state)) [
     | inl e ↦
         let at_end : slots_on b 0 s.lists.queued ≡ without x (slots_on a 0 s.lists.queued) ++ x ∷ [] =
-        ap (λ (z : Slots). slots_on z 0 s.lists.queued) is ∙ placed_on s.lists x (Some v) (with_moved 0 x (list_for s.lists v.state) (with_payload x v a)) s.lists.queued ∙ ap (λ l. slots_on (with_moved 0 x l (with_payload x v a)) 0 s.lists.queued) (sym e) ∙ list_to (with_payload x v a) 0 x s.lists.queued arena.wide (subst (λ l. l < length (lists_in a 0)) (sym e) there) in
+        ap (λ (z : Slots). slots_on z 0 s.lists.queued) is ∙ placed_on (is_named (Some v)) s.lists x (Some v) (with_moved 0 x (list_for s.lists v.state) (with_payload x v a)) s.lists.queued ∙ ap (λ l. slots_on (with_moved 0 x l (with_payload x v a)) 0 s.lists.queued) (sym e) ∙ list_to (with_payload x v a) 0 x s.lists.queued arena.wide (subst (λ l. l < length (lists_in a 0)) (sym e) there) in
         subst (InOrder b.payloads) (sym at_end) (order_append b.payloads x (without x (slots_on a 0 s.lists.queued)) rest less)
     | inr ne ↦ subst (InOrder b.payloads) (sym (touched.left s.lists.queued ne)) rest
   ]
@@ -174,8 +176,9 @@ module _ (a b : Slots) (s : GroupSlots) (x : ℕ) (v : Ticket) (arena : IsArena 
   owned_list = or_second (eqb s.lists.free (list_for s.lists v.state)) (is_live_list s.lists (list_for s.lists v.state)) (live_for s.lists v.state)
 
   chains : IsChained b s.lists × IsChainFrame s.lists a b
-  chains = chains_placed a (with_moved 0 x (list_for s.lists v.state) (with_payload x v a)) b s.lists x (list_for s.lists v.state) v (Some v) before (moved_keeps a x (list_for s.lists v.state) v) serials names group.chained owned_slot owned_list
-      (sym (ap (λ c. if c then Some v else None) (live_for s.lists v.state))) is
+  chains = chains_placed (is_named (Some v)) a (with_moved 0 x (list_for s.lists v.state) (with_payload x v a)) b s.lists x (list_for s.lists v.state) v (Some v) before (moved_keeps a x (list_for s.lists v.state) v) serials names group.chained owned_slot owned_list
+      (sym (ap (λ c. if c then Some v else None) (live_for s.lists v.state)))
+      (λ off. unnamed_list a s.lists group.chained.lists (Some v) off ∙ ap (list_by_name s.lists) (sym was)) is
 
   recount : (q : Ticket → Bool) → count_at b s.lists q ≡ count_at a s.lists q + one (q v)
   recount q =
@@ -189,7 +192,7 @@ module _ (a b : Slots) (s : GroupSlots) (x : ℕ) (v : Ticket) (arena : IsArena 
   turns_now last in_turn turned = elim (cases_eq (list_for s.lists v.state) s.lists.running) [
     | inl k ↦
         let at_end : slots_on b 0 s.lists.running ≡ without x (slots_on a 0 s.lists.running) ++ x ∷ [] =
-        ap (λ (z : Slots). slots_on z 0 s.lists.running) is ∙ placed_on s.lists x (Some v) (with_moved 0 x (list_for s.lists v.state) (with_payload x v a)) s.lists.running ∙ ap (λ l. slots_on (with_moved 0 x l (with_payload x v a)) 0 s.lists.running) k ∙ list_to (with_payload x v a) 0 x s.lists.running arena.wide (omega (arith, group.there, group.numbered.running, group.numbered.settled)) in
+        ap (λ (z : Slots). slots_on z 0 s.lists.running) is ∙ placed_on (is_named (Some v)) s.lists x (Some v) (with_moved 0 x (list_for s.lists v.state) (with_payload x v a)) s.lists.running ∙ ap (λ l. slots_on (with_moved 0 x l (with_payload x v a)) 0 s.lists.running) k ∙ list_to (with_payload x v a) 0 x s.lists.running arena.wide (omega (arith, group.there, group.numbered.running, group.numbered.settled)) in
         let now = turned.starts (λ e. not_free s.lists v.state group.numbered e) k in
         subst (λ n. AreInTurn b s.lists n in_turn) (sym now.0) (subst (AreInTurn b s.lists (if turned.alone then v.serial else max s.last_started v.serial)) (sym now.1)
         (turns_more a b s.lists x v.serial s.last_started s.in_turn turned.alone at_end (λ y nq. payload_other a b x (list_for s.lists v.state) v touched y nq) (ap serial_in (payload_slot a b x (list_for s.lists v.state) v touched)) turned.none group.turns))
@@ -200,7 +203,7 @@ module _ (a b : Slots) (s : GroupSlots) (x : ℕ) (v : Ticket) (arena : IsArena 
   ]
 
   module _ (r : GroupSlots) (last : ℕ) (in_turn : Bool) (turns : AreInTurn b s.lists last in_turn) (made : r ≡ record (with_submit v (counted_in v s)) { slots = record s.slots { taken = s.slots.taken + 1 }; next = s.next + 1; last_started = last; in_turn = in_turn }) where
-    needed : (y : ℕ) (u : Ticket) → ticket_at b s.lists y ≡ Some u → is_kept u ≡ false → may_go s.needless y ≡ true
+    needed : (y : ℕ) (u : Ticket) → ticket_at b s.lists y ≡ Some u → is_kept u ≡ false → is_noted s.needless y ≡ true
     needed y u e k = elim (cases_eq y x) [
       | inl q ↦
           let f : Some u ≡ Some v = sym e ∙ ap (ticket_at b s.lists) q ∙ now_here in
@@ -227,12 +230,6 @@ module _ (a b : Slots) (s : GroupSlots) (x : ℕ) (v : Ticket) (arena : IsArena 
       | inr ne ↦ omega (arith, since_more s.commands v (omega (arith, group.commands, can.command)) u.command, group.since y u (sym (else_same y ne) ∙ e) opens)
     ]
 
-    noted_at : (y : ℕ) → s.needless ≡ needless.One y → is_some (ticket_at b s.lists y) ≡ true
-    noted_at y e = elim (cases_eq y x) [
-      | inl q ↦ ap (λ z. is_some (ticket_at b s.lists z)) q ∙ ap is_some now_here
-      | inr ne ↦ ap is_some (else_same y ne) ∙ group.noted y e
-    ]
-
     whole : IsGroupSlots b (record (with_submit v (counted_in v s)) { slots = record s.slots { taken = s.slots.taken + 1 }; next = s.next + 1; last_started = last; in_turn = in_turn })
     whole = record {
       numbered = group.numbered;
@@ -252,7 +249,6 @@ module _ (a b : Slots) (s : GroupSlots) (x : ℕ) (v : Ticket) (arena : IsArena 
       turns = turns;
       times = times_more a b s.lists x v s.latest s.in_time else_same now_here (λ y u e. subst (λ n. u.serial < n) (sym can.serial) (group.arranged.below y u e)) group.times;
       needed = needed;
-      noted = noted_at;
     }
 
     -- a ticket that is put in the first free slot is added to the group
@@ -281,15 +277,16 @@ to_list a s to r group is = subst (λ l. l < length (lists_in a 0)) (sym is) (ea
 
 -- as the code reads it
 pub add_from : (a b : Slots) (s : GroupSlots) (x to : ℕ) (v : Ticket) → IsArena a 0 → IsGroupSlots a s → slice_get (reverse (slots_on a 0 s.lists.free)) 0 ≡ Some x → CanAdd s v → IsArena a 1 → IsArena a 2 → to ≡ list_for s.lists v.state
-    → b ≡ with_placed s.lists x (Some v) (with_moved 0 x to (with_payload x v a)) → (r : GroupSlots) (last : ℕ) (in_turn : Bool) → r ≡ record (with_submit v (counted_in v s)) { slots = record s.slots { taken = s.slots.taken + 1 }; next = s.next + 1; last_started = last; in_turn = in_turn }
+    → b ≡ with_placed_where (is_named (Some v)) s.lists x (Some v) (with_moved 0 x to (with_payload x v a)) → (r : GroupSlots) (last : ℕ) (in_turn : Bool) → r ≡ record (with_submit v (counted_in v s)) { slots = record s.slots { taken = s.slots.taken + 1 }; next = s.next + 1; last_started = last; in_turn = in_turn }
     → IsTurned a s v.serial s.lists.free to last in_turn → IsAdded a s v b r
 add_from a b s x to v arena group back can serials names is moved r last in_turn made turned =
-    let placed = moved ∙ ap (λ l. with_placed s.lists x (Some v) (with_moved 0 x l (with_payload x v a))) is in
+    let placed = moved ∙ ap (λ l. with_placed_where (is_named (Some v)) s.lists x (Some v) (with_moved 0 x l (with_payload x v a))) is in
     let turns = turns_now a b s x v arena group back can serials names placed last in_turn (subst (λ l. IsTurned a s v.serial s.lists.free l last in_turn) is turned) in
     add_is a b s x v arena group back can serials names placed r last in_turn turns made
 
 -- a slot that was written, moved and placed, as the code reads it
-pub placed_from : (a z m b : Slots) (g : GroupLists) (x to : ℕ) (v : Ticket) → x < length a.payloads → z ≡ with_payload x v a → m ≡ with_moved 0 x to z → b ≡ with_placed g x (slice_get m.payloads x) m → b ≡ with_placed g x (Some v) (with_moved 0 x to (with_payload x v a))
+pub placed_from : (a z m b : Slots) (g : GroupLists) (x to : ℕ) (v : Ticket) → x < length a.payloads → z ≡ with_payload x v a → m ≡ with_moved 0 x to z → b ≡ with_placed_where (is_named (slice_get m.payloads x)) g x (slice_get m.payloads x) m
+    → b ≡ with_placed_where (is_named (Some v)) g x (Some v) (with_moved 0 x to (with_payload x v a))
 placed_from a z m b g x to v lt written moved placed =
-    placed ∙ ap (λ (y : Slots). with_placed g x (slice_get y.payloads x) y) (moved ∙ ap (λ (y : Slots). with_moved 0 x to y) written)
-    ∙ ap (λ o. with_placed g x o (with_moved 0 x to (with_payload x v a))) (get_set a.payloads x x v lt ∙ ap (λ c. if c then Some v else slice_get a.payloads x) (eq-eqb x x refl))
+    placed ∙ ap (λ (y : Slots). with_placed_where (is_named (slice_get y.payloads x)) g x (slice_get y.payloads x) y) (moved ∙ ap (λ (y : Slots). with_moved 0 x to y) written)
+    ∙ ap (λ (o : Option Ticket). with_placed_where (is_named o) g x o (with_moved 0 x to (with_payload x v a))) (get_set a.payloads x x v lt ∙ ap (λ c. if c then Some v else slice_get a.payloads x) (eq-eqb x x refl))

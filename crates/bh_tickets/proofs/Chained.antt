@@ -1,34 +1,45 @@
 -- The chains of a group as one of its slots changes, and as other groups do.
-use Rattle.std.proofs.Common.{◌≡◌, ℕ, ◌≤◌, inl, inr, true, List, [], length, get_or, Option, Some, None, ◌∙◌, sym, ap, subst, arith}
-use Rattle.std.specs.Prelude.{◌||◌, eqb, if◌then◌else◌}
+use Rattle.std.proofs.Common.{◌≡◌, ℕ, ◌≤◌, inl, inr, Bool, true, false, refl, List, [], length, get_or, Option, Some, None, ◌∙◌, sym, ap, subst, arith}
+use Rattle.std.specs.Prelude.{◌||◌, eqb, slice_get, if◌then◌else◌}
 use Rattle.std.proofs.lemmas.Bool.{cases_eq}
 use Rattle.bh_base.specs.declared.ticket.Ticket.{Ticket}
 use Rattle.bh_slot_arena.specs.Slots.{lists_in, slots_on, with_payload, with_moved}
 use Rattle.bh_cache.specs.declared.lists.GroupLists.{GroupLists}
-use Rattle.bh_cache.specs.Chains.{HasChains, IsChained, IsChainFrame, AreOn, list_by_name, list_by_serial, list_of_name, serial_chain, with_placed}
+use Rattle.bh_cache.specs.Chains.{IsChainFrame, AreOn, list_by_serial, serial_chain}
+use Rattle.bh_chains.specs.Chains.{HasChains, IsChained, list_by_name, list_of_name, with_placed_where}
 use Rattle.bh_cache.specs.Slots.{Slots, has, is_live_list, is_on, is_owned, ticket_at, Once, IsApart, IsArena}
 use Rattle.bh_cache.proofs.Moves.{families_count, family_stays}
-use Rattle.bh_cache.proofs.Placed.{IsUnplaced, chained_placed, chained_same, families_placed, first_placed, frame_placed, name_list_within, serial_list_within}
+use Rattle.bh_cache.proofs.Placed.{IsUnplaced}
+use Rattle.bh_chains.proofs.Placed.{chained_same, chained_where, families_where, first_where, frame_where, name_list_within, serial_list_within}
 use Rattle.bh_tickets.specs.Same.{KeepsOwn}
 use Rattle.bh_tickets.proofs.Touched.{IsTouched, at_other, at_slot, owned_same}
 
 -- ---- what a change of one family leaves of the others
 
 -- a slot that is placed stays where it is on the lists of the first family
-pub placed_on : (g : GroupLists) (x : ℕ) (o : Option Ticket) (z : Slots) (l : ℕ) → slots_on (with_placed g x o z) 0 l ≡ slots_on z 0 l
-placed_on g x o z l = ap (λ (ls : List (List ℕ)). get_or ls l []) (first_placed z g x o)
+pub placed_on : (named : Bool) (g : GroupLists) (x : ℕ) (o : Option Ticket) (z : Slots) (l : ℕ) → slots_on (with_placed_where named g x o z) 0 l ≡ slots_on z 0 l
+placed_on named g x o z l = ap (λ (ls : List (List ℕ)). get_or ls l []) (first_where named z g x o)
+
+-- and so do the payloads
+pub payloads_placed : (named : Bool) (g : GroupLists) (x : ℕ) (o : Option Ticket) (z : Slots) → (with_placed_where named g x o z).payloads ≡ z.payloads
+payloads_placed true g x o z = refl
+payloads_placed false g x o z = refl
+
+limit_placed : (named : Bool) (g : GroupLists) (x : ℕ) (o : Option Ticket) (z : Slots) → (with_placed_where named g x o z).limit ≡ z.limit
+limit_placed true g x o z = refl
+limit_placed false g x o z = refl
 
 -- what was touched is so once it is placed
-pub touched_placed : (a b : Slots) (x to : ℕ) (v : Ticket) (g : GroupLists) (o : Option Ticket) → IsTouched a b x to v → IsTouched a (with_placed g x o b) x to v
-touched_placed a b x to v g o touched = record {
-  slots = touched.slots;
-  wide = omega (arith, touched.wide, families_placed b g x o);
-  limit = touched.limit;
-  count = ap (λ (ls : List (List ℕ)). length ls) (first_placed b g x o) ∙ touched.count;
-  payload = touched.payload;
-  on = λ l y. ap (has y) (placed_on g x o b l) ∙ touched.on l y;
-  left = λ l ne. placed_on g x o b l ∙ touched.left l ne;
-  once = λ once l. subst Once (sym (placed_on g x o b l)) (touched.once once l);
+pub touched_placed : (named : Bool) (a b : Slots) (x to : ℕ) (v : Ticket) (g : GroupLists) (o : Option Ticket) → IsTouched a b x to v → IsTouched a (with_placed_where named g x o b) x to v
+touched_placed named a b x to v g o touched = record {
+  slots = ap (λ (ps : List Ticket). length ps) (payloads_placed named g x o b) ∙ touched.slots;
+  wide = omega (arith, touched.wide, families_where named b g x o);
+  limit = limit_placed named g x o b ∙ touched.limit;
+  count = ap (λ (ls : List (List ℕ)). length ls) (first_where named b g x o) ∙ touched.count;
+  payload = λ y. ap (λ (ps : List Ticket). slice_get ps y) (payloads_placed named g x o b) ∙ touched.payload y;
+  on = λ l y. ap (has y) (placed_on named g x o b l) ∙ touched.on l y;
+  left = λ l ne. placed_on named g x o b l ∙ touched.left l ne;
+  once = λ once l. subst Once (sym (placed_on named g x o b l)) (touched.once once l);
 }
 
 -- the chains are as before
@@ -64,12 +75,13 @@ chains_there a b g keeps has' = record {
 
 -- ---- one slot of the group changes
 
--- a slot that was touched and then placed lies on its chains again
-pub chains_placed : (a c b : Slots) (g : GroupLists) (x to : ℕ) (v : Ticket) (o : Option Ticket) → IsTouched a c x to v → KeepsChains a c → IsArena a 1 → IsArena a 2 → IsChained a g
-    → is_owned a g x ≡ true → (eqb g.free to || is_live_list g to) ≡ true → o ≡ (if is_live_list g to then Some v else None) → b ≡ with_placed g x o c → IsChained b g × IsChainFrame g a b
-chains_placed a c b g x to v o touched keeps serials names chained own own_to is made =
+-- a slot that was touched and then placed lies on its chains again, where it stays in the third family only on the list of what it had
+pub chains_placed : (named : Bool) (a c b : Slots) (g : GroupLists) (x to : ℕ) (v : Ticket) (o : Option Ticket) → IsTouched a c x to v → KeepsChains a c → IsArena a 1 → IsArena a 2 → IsChained a g
+    → is_owned a g x ≡ true → (eqb g.free to || is_live_list g to) ≡ true → o ≡ (if is_live_list g to then Some v else None) → (named ≡ false → list_by_name g o ≡ list_by_name g (ticket_at a g x))
+    → b ≡ with_placed_where named g x o c → IsChained b g × IsChainFrame g a b
+chains_placed named a c b g x to v o touched keeps serials names chained own own_to is lies made =
     subst (λ (z : Slots). IsChained z g × IsChainFrame g a z) (sym made)
-    (chained_placed a c g x o chained serials names unplaced (is ∙ sym (at_slot a c x to v touched g)), frame_placed a c g x o chained serials names unplaced)
+    (chained_where a c g x o chained serials names unplaced named lies (is ∙ sym (at_slot a c x to v touched g)), frame_where a c g x o chained serials names unplaced named)
   where
     unplaced : IsUnplaced g x a c
     unplaced = record {

@@ -1,14 +1,15 @@
 -- All slots of a group go to one without tickets.
-use Rattle.std.proofs.Common.{◌≡◌, ℕ, zero, suc, ◌+◌, ◌<◌, ◌≤◌, inl, inr, Bool, true, false, List, length, refl, ◌∙◌, sym, ap, subst, arith}
+use Rattle.std.proofs.Common.{◌≡◌, ℕ, zero, suc, ◌+◌, ◌-◌, ◌<◌, ◌≤◌, inl, inr, Bool, true, false, List, length, refl, ◌∙◌, sym, ap, subst, arith}
 use Rattle.std.specs.Prelude.{◌||◌, slice_get}
 use Rattle.std.proofs.lemmas.Bool.{cases_eq}
 use Rattle.bh_base.specs.declared.ticket.Ticket.{Ticket}
 use Rattle.bh_slot_arena.specs.Slots.{slots_on}
 use Rattle.bh_cache.specs.declared.lists.GroupLists.{GroupLists}
-use Rattle.bh_cache.specs.Chains.{list_by_name, list_by_serial}
+use Rattle.bh_cache.specs.Chains.{list_by_serial}
+use Rattle.bh_chains.specs.Chains.{list_by_name}
 use Rattle.bh_cache.specs.Slots.{Slots, has, is_on, is_owned, ticket_at, count_below, one, IsApart, IsArena, IsOwn}
 use Rattle.bh_cache.proofs.Order.{count_same}
-use Rattle.bh_cache.proofs.Placed.{name_list_within, serial_list_within}
+use Rattle.bh_chains.proofs.Placed.{name_list_within, serial_list_within}
 use Rattle.bh_tickets.specs.declared.group_slots.GroupSlots.{GroupSlots}
 use Rattle.bh_tickets.specs.GroupSlots.{IsGroupSlots}
 use Rattle.bh_tickets.specs.Same.{IsSame}
@@ -78,22 +79,29 @@ module _ (a : Slots) (s : GroupSlots) (group : IsGroupSlots a s) where
       (λ e. let k = serial_list_within a s.lists group.chained.lists (ticket_at a s.lists x) in
       on_run_in a 1 s.lists.serials 17 (list_by_serial s.lists (ticket_at a s.lists x)) x k.0 (omega (arith, k.1, group.chained.lists.free1)) (group.chained.serials.placed x e))
 
-  run_third : (x : ℕ) → on_run a 2 s.lists.names 18 x ≡ is_owned a s.lists x
-  run_third x = both_ways (on_run a 2 s.lists.names 18 x) (is_owned a s.lists x)
-      (λ e. let r = on_run_out a 2 s.lists.names 18 x e in group.chained.names.owned r.list x r.from (omega (arith, r.to, group.chained.lists.free2)) r.on)
+  -- so many lists of the third family
+  abbrev named : ℕ
+  named = s.lists.free2 - s.lists.names + 1
+
+  named_to : s.lists.names + named ≡ s.lists.free2 + 1
+  named_to = omega (arith, group.chained.lists.uncached, group.chained.lists.free2)
+
+  run_third : (x : ℕ) → on_run a 2 s.lists.names named x ≡ is_owned a s.lists x
+  run_third x = both_ways (on_run a 2 s.lists.names named x) (is_owned a s.lists x)
+      (λ e. let r = on_run_out a 2 s.lists.names named x e in group.chained.names.owned r.list x r.from (omega (arith, r.to, named_to)) r.on)
       (λ e. let k = name_list_within a s.lists group.chained.lists (ticket_at a s.lists x) in
-      on_run_in a 2 s.lists.names 18 (list_by_name s.lists (ticket_at a s.lists x)) x k.0 (omega (arith, k.1, group.chained.lists.free2)) (group.chained.names.placed x e))
+      on_run_in a 2 s.lists.names named (list_by_name s.lists (ticket_at a s.lists x)) x k.0 (omega (arith, k.1, named_to)) (group.chained.names.placed x e))
 
 module _ (a c d b : Slots) (s : GroupSlots) (to : GroupLists) (group : IsGroupSlots a s) (vacant : IsVacant a to) (apart : IsApart s.lists to) (arena : IsArena a 0) (after : IsArena b 0)
-    (one_ : IsGathered 0 s.lists.free 4 to.free a c) (two : IsGathered 1 s.lists.serials 17 to.free1 c d) (three : IsGathered 2 s.lists.names 18 to.free2 d b) where
+    (one_ : IsGathered 0 s.lists.free 4 to.free a c) (two : IsGathered 1 s.lists.serials 17 to.free1 c d) (three : IsGathered 2 s.lists.names (named a s group) to.free2 d b) where
   first : IsEmptied 0 s.lists.free 4 to.free a b
   first = emptied 0 s.lists.free 4 to.free a a c b refl one_ (three.others 0 (λ e. absurd (omega (arith, e))) ∙ two.others 0 (λ e. absurd (omega (arith, e))))
 
   second : IsEmptied 1 s.lists.serials 17 to.free1 a b
   second = emptied 1 s.lists.serials 17 to.free1 a c d b (one_.others 1 (λ e. absurd (omega (arith, e)))) two (three.others 1 (λ e. absurd (omega (arith, e))))
 
-  third : IsEmptied 2 s.lists.names 18 to.free2 a b
-  third = emptied 2 s.lists.names 18 to.free2 a d b b (two.others 2 (λ e. absurd (omega (arith, e))) ∙ one_.others 2 (λ e. absurd (omega (arith, e)))) three refl
+  third : IsEmptied 2 s.lists.names (named a s group) to.free2 a b
+  third = emptied 2 s.lists.names (named a s group) to.free2 a d b b (two.others 2 (λ e. absurd (omega (arith, e))) ∙ one_.others 2 (λ e. absurd (omega (arith, e)))) three refl
 
   payloads : b.payloads ≡ a.payloads
   payloads = three.payloads ∙ two.payloads ∙ one_.payloads
@@ -121,7 +129,7 @@ module _ (a c d b : Slots) (s : GroupSlots) (to : GroupLists) (group : IsGroupSl
       })
       (record {
         on = λ x. third.on x ∙ ap (λ z. is_on a 2 to.free2 x || z) (run_third a s group x);
-        kept = λ l x low high ne e. sym (ap (has x) (third.kept l (λ from til. apart.names l (from, omega (arith, til, group.chained.lists.free2)) (low, high)) ne)) ∙ e;
+        kept = λ l x low high ne e. sym (ap (has x) (third.kept l (λ from til. apart.names l (from, omega (arith, til, named_to a s group)) (low, high)) ne)) ∙ e;
       })
 
   -- ---- the group that gives
@@ -150,7 +158,7 @@ module _ (a c d b : Slots) (s : GroupSlots) (to : GroupLists) (group : IsGroupSl
     };
     names = record {
       placed = λ x on. absurd (not_true (empty_first s.lists.free x (own_free s.lists group.numbered)) on);
-      owned = λ l x low high on. absurd (not_true (ap (has x) (third.gone l low (omega (arith, high, group.chained.lists.free2)))) on);
+      owned = λ l x low high on. absurd (not_true (ap (has x) (third.gone l low (omega (arith, high, named_to a s group)))) on);
     };
   }
 
@@ -186,7 +194,7 @@ module _ (a c d b : Slots) (s : GroupSlots) (to : GroupLists) (group : IsGroupSl
     };
     names = record {
       count = omega (arith, third.lists);
-      lists = λ l low high. third.kept l (λ from til. p.names l (from, omega (arith, til, group.chained.lists.free2)) (low, high)) (λ e. q.names l (omega (arith, e, vacant.chains.free2), omega (arith, e)) (low, high));
+      lists = λ l low high. third.kept l (λ from til. p.names l (from, omega (arith, til, named_to a s group)) (low, high)) (λ e. q.names l (omega (arith, e, vacant.chains.free2), omega (arith, e)) (low, high));
     };
   }
 

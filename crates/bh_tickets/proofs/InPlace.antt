@@ -9,9 +9,10 @@ use Rattle.bh_slot_arena.specs.Slots.{with_payload, with_moved}
 use Rattle.bh_cache.specs.Slots.{Slots, ticket_at, list_for, IsArena}
 use Rattle.bh_tickets.specs.declared.changes.TicketChange.{TicketChange}
 use Rattle.bh_tickets.specs.declared.group_slots.GroupSlots.{GroupSlots}
-use Rattle.bh_tickets.specs.declared.group_slots.Needless.{Needless}
+use Rattle.bh_chains.specs.declared.notes.Noted.{Noted}
+use Rattle.bh_chains.specs.Notes.{IsNoted}
 use Rattle.bh_tickets.specs.Changes.{IsAllowed, changed_by}
-use Rattle.bh_tickets.specs.GroupSlots.{CanBe, IsGroupSlots, IsPut, counted_in, counted_out, noted}
+use Rattle.bh_tickets.specs.GroupSlots.{CanBe, IsGroupSlots, IsPut, counted_in, counted_out}
 use Rattle.bh_tickets.proofs.Changed.{cache_kept, cached_kept, command_kept, serial_kept, submitted_kept, waits_kept}
 use Rattle.bh_tickets.proofs.InTurn.{IsTurned}
 use Rattle.bh_tickets.proofs.Puts.{put_from, was_is, within_slots}
@@ -42,9 +43,9 @@ module _ (a : Slots) (s : GroupSlots) (x : ℕ) (change : TicketChange) (can : C
     -- a slot whose payload is changed, and that is on the list for the new state, has the changed ticket
     pub change_from : (b : Slots) → IsArena a 0 → IsGroupSlots a s → (from to : ℕ) → from ≡ list_for s.lists was.state → to ≡ list_for s.lists read_now.state
         → (from ≡ to → b ≡ with_payload x now a) → (from ≢ to → b ≡ with_moved 0 x to (with_payload x now a))
-        → (r : GroupSlots) (needless : Needless) (last : ℕ) (in_turn : Bool) → r ≡ record (counted_in read_now (counted_out was s)) { needless = needless; last_started = last; in_turn = in_turn }
+        → (r : GroupSlots) (needless : Noted) (last : ℕ) (in_turn : Bool) → r ≡ record (counted_in read_now (counted_out was s)) { needless = needless; last_started = last; in_turn = in_turn }
         → IsTurned a s read_now.serial from to last in_turn
-        → ((is_kept read_now ≡ false) × (needless ≡ noted x s.needless)) ⊎ ((is_kept read_now ≡ true) × (needless ≡ s.needless))
+        → ((is_kept read_now ≡ false) × IsNoted x s.needless needless) ⊎ ((is_kept read_now ≡ true) × (needless ≡ s.needless))
         → (t : Ticket) → ticket_at a s.lists x ≡ Some t → IsPut a s x (changed_by change t) b r
     change_from b arena group from to f g same moved r needless last in_turn made turned noting t e =
         let v : Ticket = changed_by change was in
@@ -57,4 +58,4 @@ module _ (a : Slots) (s : GroupSlots) (x : ℕ) (change : TicketChange) (can : C
         (λ q. moved q ∙ ap (λ (u : Ticket). with_moved 0 x to (with_payload x u a)) now_is)
         r needless last in_turn (made ∙ ap (λ (u : Ticket). record (counted_in u (counted_out was s)) { needless = needless; last_started = last; in_turn = in_turn }) read_is)
         (subst (λ (u : Ticket). IsTurned a s u.serial from to last in_turn) read_is turned)
-        (subst (λ (u : Ticket). ((is_kept u ≡ false) × (needless ≡ noted x s.needless)) ⊎ ((is_kept u ≡ true) × (needless ≡ s.needless))) read_is noting))
+        (subst (λ (u : Ticket). ((is_kept u ≡ false) × IsNoted x s.needless needless) ⊎ ((is_kept u ≡ true) × (needless ≡ s.needless))) read_is noting))

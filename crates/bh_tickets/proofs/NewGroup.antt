@@ -18,7 +18,7 @@ use Rattle.bh_tickets.proofs.Vacant.{not_true}
 
 -- ---- lists
 
-module _ (a b : Slots) (g : GroupLists) (more : HasNewLists 4 17 18 a b) (from : g ≡ lists_from (length (lists_in a 0)) (length (lists_in a 1)) (length (lists_in a 2))) where
+module _ (c : ℕ) (some : 0 < c) (a b : Slots) (g : GroupLists) (more : HasNewLists 4 17 (c + 1) a b) (from : g ≡ lists_from c (length (lists_in a 0)) (length (lists_in a 1)) (length (lists_in a 2))) where
   is_free : g.free ≡ length (lists_in a 0)
   is_free = ap (λ (z : GroupLists). z.free) from
 
@@ -40,10 +40,10 @@ module _ (a b : Slots) (g : GroupLists) (more : HasNewLists 4 17 18 a b) (from :
   is_names : g.names ≡ length (lists_in a 2)
   is_names = ap (λ (z : GroupLists). z.names) from
 
-  is_uncached : g.uncached ≡ length (lists_in a 2) + 16
+  is_uncached : g.uncached ≡ length (lists_in a 2) + c
   is_uncached = ap (λ (z : GroupLists). z.uncached) from
 
-  is_free2 : g.free2 ≡ length (lists_in a 2) + 17
+  is_free2 : g.free2 ≡ length (lists_in a 2) + c
   is_free2 = ap (λ (z : GroupLists). z.free2) from
 
   empty_first : (l : ℕ) → length (lists_in a 0) ≤ l → slots_on b 0 l ≡ []
@@ -53,7 +53,7 @@ module _ (a b : Slots) (g : GroupLists) (more : HasNewLists 4 17 18 a b) (from :
   empty_second l le = ap (λ (ls : List (List ℕ)). get_or ls l []) more.second ∙ append_empty (lists_in a 1) 17 l ∙ get_or_past (lists_in a 1) l [] le
 
   empty_third : (l : ℕ) → length (lists_in a 2) ≤ l → slots_on b 2 l ≡ []
-  empty_third l le = ap (λ (ls : List (List ℕ)). get_or ls l []) more.third ∙ append_empty (lists_in a 2) 18 l ∙ get_or_past (lists_in a 2) l [] le
+  empty_third l le = ap (λ (ls : List (List ℕ)). get_or ls l []) more.third ∙ append_empty (lists_in a 2) (c + 1) l ∙ get_or_past (lists_in a 2) l [] le
 
   count_first : length (lists_in b 0) ≡ length (lists_in a 0) + 4
   count_first = ap (λ (ls : List (List ℕ)). length ls) more.first ∙ length-append (lists_in a 0) (replicate 4 [])
@@ -61,8 +61,8 @@ module _ (a b : Slots) (g : GroupLists) (more : HasNewLists 4 17 18 a b) (from :
   count_second : length (lists_in b 1) ≡ length (lists_in a 1) + 17
   count_second = ap (λ (ls : List (List ℕ)). length ls) more.second ∙ length-append (lists_in a 1) (replicate 17 [])
 
-  count_third : length (lists_in b 2) ≡ length (lists_in a 2) + 18
-  count_third = ap (λ (ls : List (List ℕ)). length ls) more.third ∙ length-append (lists_in a 2) (replicate 18 [])
+  count_third : length (lists_in b 2) ≡ length (lists_in a 2) + (c + 1)
+  count_third = ap (λ (ls : List (List ℕ)). length ls) more.third ∙ length-append (lists_in a 2) (replicate (c + 1) []) ∙ ap (λ n. length (lists_in a 2) + n) (length-replicate (c + 1) [])
 
   free_empty : slots_on b 0 g.free ≡ []
   free_empty = empty_first g.free (omega (arith, is_free))
@@ -78,8 +78,8 @@ module _ (a b : Slots) (g : GroupLists) (more : HasNewLists 4 17 18 a b) (from :
     there = omega (arith, is_settled_list, count_first);
     chains = record {
       free1 = omega (arith, is_free1, is_serials);
-      uncached = omega (arith, is_uncached, is_names);
-      free2 = omega (arith, is_free2, is_names);
+      uncached = omega (arith, is_uncached, is_names, some);
+      free2 = omega (arith, is_free2, is_uncached);
       serials_there = omega (arith, is_free1, count_second);
       names_there = omega (arith, is_free2, count_third);
     };

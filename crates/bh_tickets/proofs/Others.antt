@@ -1,6 +1,6 @@
 -- The other groups stay as they were.
 use Rattle.std.proofs.Common.{◌≡◌, ℕ, zero, suc, ◌≤◌, inl, inr, Bool, true, false, length, Option, None, refl, ◌∙◌, sym, ap, subst, arith}
-use Rattle.std.specs.Prelude.{◌||◌, slice_get, is_some, if◌then◌else◌}
+use Rattle.std.specs.Prelude.{◌||◌, slice_get, if◌then◌else◌}
 use Rattle.bh_base.specs.declared.ticket.Ticket.{Ticket}
 use Rattle.bh_base.specs.declared.ticket.TicketState.{TicketState}
 use Rattle.bh_base.specs.declared.ticket.TicketState.TheVariants as ticket
@@ -174,7 +174,6 @@ module _ (a b : Slots) (h : GroupSlots) (same : IsSame h.lists a b) (arena : IsA
         (was, ap serial_in (same.payloads h.lists.running y own_running was)))
         (λ order. subst (InOrder a.payloads) (sym (same.lists h.lists.running own_running)) order) group.turns;
     needed = λ x t p. group.needed x t (sym (at_same x) ∙ p);
-    noted = λ x e. ap is_some (at_same x) ∙ group.noted x e;
   }
 
   -- contracts see the group as it was

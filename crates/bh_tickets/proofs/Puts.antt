@@ -1,6 +1,6 @@
 -- One ticket of a group changes.
 use Rattle.std.proofs.Common.{◌≡◌, ℕ, zero, suc, ◌+◌, ◌-◌, ◌<◌, ◌≤◌, ◌⊎◌, inl, inr, Bool, true, false, [], ◌∷◌, ◌++◌, length, Some, None, refl, ◌∙◌, sym, ap, subst, arith}
-use Rattle.std.specs.Prelude.{◌||◌, ◌≢◌, max, eqb, slice_get, is_some, if◌then◌else◌}
+use Rattle.std.specs.Prelude.{◌||◌, ◌≢◌, max, eqb, slice_get, if◌then◌else◌}
 use Rattle.std.proofs.lemmas.Bool.{cases_eq, eq-eqb}
 use Rattle.std.proofs.lemmas.List.{length-set}
 use Rattle.bh_base.specs.declared.ticket.Ticket.{Ticket}
@@ -12,9 +12,9 @@ use Rattle.bh_tickets.specs.declared.counts.CommandCounts.{CommandCounts}
 use Rattle.bh_tickets.specs.declared.group_slots.GroupSlots.{GroupSlots}
 use Rattle.bh_slot_arena.specs.Slots.{lists_in, slots_on, with_payload, with_moved}
 use Rattle.bh_cache.specs.Slots.{Slots, has, is_on, is_live_list, is_live, is_owned, ticket_at, list_for, serial_in, InOrder, count_below, has_one, one, IsArena}
-use Rattle.bh_tickets.specs.declared.group_slots.Needless.{Needless}
-use Rattle.bh_tickets.specs.declared.group_slots.Needless.TheVariants as needless
-use Rattle.bh_tickets.specs.GroupSlots.{AreInTurn, IsNumbered, IsGroupSlots, CanPut, IsPut, count_at, counted_in, counted_out, is_any, may_go, noted}
+use Rattle.bh_chains.specs.declared.notes.Noted.{Noted}
+use Rattle.bh_chains.specs.Notes.{IsNoted, is_noted}
+use Rattle.bh_tickets.specs.GroupSlots.{AreInTurn, IsNumbered, IsGroupSlots, CanPut, IsPut, count_at, counted_in, counted_out, is_any}
 use Rattle.bh_tickets.specs.Counts.{AreCounts, HasRoomFor, IsCounted, all_less, all_more, counts_of, is_open, one_less, open_since}
 use Rattle.bh_tickets.proofs.ByCommand.{counts_less, counts_more, has_room, is_counted}
 use Rattle.bh_tickets.proofs.InTime.{Had, had, times_kept}
@@ -31,7 +31,7 @@ use Rattle.bh_tickets.proofs.Own.{changed_arranged, changed_tickets, live_for}
 use Rattle.bh_tickets.proofs.Others.{own_for}
 use Rattle.bh_tickets.proofs.Chained.{KeepsChains, chains_touched, moved_keeps}
 use Rattle.bh_cache.proofs.Placed.{frame_same}
-use Rattle.bh_cache.specs.Chains.{IsChained}
+use Rattle.bh_chains.specs.Chains.{IsChained}
 
 -- a ticket of the group lies in a slot of the group
 pub held_at : (a : Slots) (g : GroupLists) (x : ℕ) (t : Ticket) → ticket_at a g x ≡ Some t → (is_live a g x ≡ true) × (slice_get a.payloads x ≡ Some t)
@@ -136,36 +136,6 @@ still_waits g t v n waits ne e =
     let k : v.state ≡ ticket.Queued = queued_list g v.state n e in
     let q : is_queued t ≡ true = waits (ap queued_in k) in
     ne (ap (list_for g) (queued_state t.state q) ∙ e)
-
--- ---- what may be needed no more
-
-may_go-noted : (x : ℕ) (n : Needless) → may_go (noted x n) x ≡ true
-may_go-noted x needless.Nothing = eq-eqb x x refl
-may_go-noted x (needless.One y) = by (eqb y x) refl
-  where
-    by : (b : Bool) → eqb y x ≡ b → may_go (if b then needless.One y else needless.Many) x ≡ true
-    by true e = e
-    by false e = refl
-may_go-noted x needless.Many = refl
-
-may_go-more : (x y : ℕ) (n : Needless) → may_go n y ≡ true → may_go (noted x n) y ≡ true
-may_go-more x y needless.Nothing e = absurd cc
-may_go-more x y (needless.One z) e = by (eqb z x)
-  where
-    by : (b : Bool) → may_go (if b then needless.One z else needless.Many) y ≡ true
-    by true = e
-    by false = refl
-may_go-more x y needless.Many e = refl
-
--- another slot that is noted alone was noted before
-one_noted : (x y : ℕ) (n : Needless) → (y ≡ x → ⊥) → noted x n ≡ needless.One y → n ≡ needless.One y
-one_noted x y needless.Nothing ne e = let k : x ≡ y = cc in absurd (ne (sym k))
-one_noted x y (needless.One z) ne e = by (eqb z x) refl e
-  where
-    by : (b : Bool) → eqb z x ≡ b → (if b then needless.One z else needless.Many) ≡ needless.One y → needless.One z ≡ needless.One y
-    by true i f = f
-    by false i f = cc
-one_noted x y needless.Many ne e = cc
 
 module _ (a b : Slots) (s : GroupSlots) (x : ℕ) (t v : Ticket) (arena : IsArena a 0) (group : IsGroupSlots a s) (can : CanPut a s x v) (was : can.was ≡ t)
     (same : list_for s.lists t.state ≡ list_for s.lists v.state → b ≡ with_payload x v a)
@@ -306,29 +276,20 @@ module _ (a b : Slots) (s : GroupSlots) (x : ℕ) (t v : Ticket) (arena : IsAren
       ∙ count_same (is_owned b s.lists) (is_owned a s.lists) (length a.payloads) (owned_same a b x (list_for s.lists v.state) v touched s.lists owned_slot owned_list)
       ∙ group.slots
 
-  module _ (r : GroupSlots) (now : Needless) (last : ℕ) (in_turn : Bool) (turns : AreInTurn b s.lists last in_turn) (is : r ≡ record (counted_in v (counted_out t s)) { needless = now; last_started = last; in_turn = in_turn })
-      (noting : ((is_kept v ≡ false) × (now ≡ noted x s.needless)) ⊎ ((is_kept v ≡ true) × (now ≡ s.needless))) where
-    needed : (y : ℕ) (u : Ticket) → ticket_at b s.lists y ≡ Some u → is_kept u ≡ false → may_go now y ≡ true
+  module _ (r : GroupSlots) (now : Noted) (last : ℕ) (in_turn : Bool) (turns : AreInTurn b s.lists last in_turn) (is : r ≡ record (counted_in v (counted_out t s)) { needless = now; last_started = last; in_turn = in_turn })
+      (noting : ((is_kept v ≡ false) × IsNoted x s.needless now) ⊎ ((is_kept v ≡ true) × (now ≡ s.needless))) where
+    needed : (y : ℕ) (u : Ticket) → ticket_at b s.lists y ≡ Some u → is_kept u ≡ false → is_noted now y ≡ true
     needed y u e k = elim (cases_eq y x) [
       | inl q ↦ elim noting [
-        | inl n ↦ ap (λ m. may_go m y) n.1 ∙ ap (may_go (noted x s.needless)) q ∙ may_go-noted x s.needless
+        | inl n ↦ ap (is_noted now) q ∙ n.1.it
         | inr n ↦ let f : true ≡ false = sym n.0 ∙ ap is_kept (sym (is_v u (ap (ticket_at b s.lists) (sym q) ∙ e))) ∙ k in cc
       ]
       | inr ne ↦
-          let had : may_go s.needless y ≡ true = group.needed y u (sym (else_same y ne) ∙ e) k in
+          let had : is_noted s.needless y ≡ true = group.needed y u (sym (else_same y ne) ∙ e) k in
           elim noting [
-            | inl n ↦ ap (λ m. may_go m y) n.1 ∙ may_go-more x y s.needless had
-            | inr n ↦ ap (λ m. may_go m y) n.1 ∙ had
+            | inl n ↦ n.1.more y had
+            | inr n ↦ ap (λ m. is_noted m y) n.1 ∙ had
           ]
-    ]
-
-    noted_at : (y : ℕ) → now ≡ needless.One y → is_some (ticket_at b s.lists y) ≡ true
-    noted_at y e = elim (cases_eq y x) [
-      | inl q ↦ ap (λ z. is_some (ticket_at b s.lists z)) q ∙ ap is_some now_here
-      | inr ne ↦ ap is_some (else_same y ne) ∙ group.noted y (elim noting [
-        | inl n ↦ one_noted x y s.needless ne (sym n.1 ∙ e)
-        | inr n ↦ sym n.1 ∙ e
-      ])
     ]
 
     made : IsGroupSlots b (record (counted_in v (counted_out t s)) { needless = now; last_started = last; in_turn = in_turn })
@@ -348,7 +309,6 @@ module _ (a b : Slots) (s : GroupSlots) (x : ℕ) (t v : Ticket) (arena : IsAren
       turns = turns;
       times = times_kept a b s.lists s.latest s.in_time was_there group.times;
       needed = needed;
-      noted = noted_at;
     }
 
     -- where the group has counted the ticket and noted what nobody needs, the slot has the ticket now
@@ -378,8 +338,8 @@ was_is a g x t u e is = let k = held_at a g x t e in ap (λ b. if b then slice_g
 -- as the code reads it
 pub put_from : (a b : Slots) (s : GroupSlots) (x : ℕ) (t v : Ticket) → IsArena a 0 → IsGroupSlots a s → CanPut a s x v → Some t ≡ slice_get a.payloads x
     → (from to : ℕ) → from ≡ list_for s.lists t.state → to ≡ list_for s.lists v.state → (from ≡ to → b ≡ with_payload x v a) → (from ≢ to → b ≡ with_moved 0 x to (with_payload x v a))
-    → (r : GroupSlots) (now : Needless) (last : ℕ) (in_turn : Bool) → r ≡ record (counted_in v (counted_out t s)) { needless = now; last_started = last; in_turn = in_turn }
-    → IsTurned a s v.serial from to last in_turn → ((is_kept v ≡ false) × (now ≡ noted x s.needless)) ⊎ ((is_kept v ≡ true) × (now ≡ s.needless)) → IsPut a s x v b r
+    → (r : GroupSlots) (now : Noted) (last : ℕ) (in_turn : Bool) → r ≡ record (counted_in v (counted_out t s)) { needless = now; last_started = last; in_turn = in_turn }
+    → IsTurned a s v.serial from to last in_turn → ((is_kept v ≡ false) × IsNoted x s.needless now) ⊎ ((is_kept v ≡ true) × (now ≡ s.needless)) → IsPut a s x v b r
 put_from a b s x t v arena group can is from to f g same moved r now last in_turn made turned noting =
     let k : Some can.was ≡ Some t = sym (can.here) ∙ was_is a s.lists x can.was t can.here (sym is) in
     let was : can.was ≡ t = cc in

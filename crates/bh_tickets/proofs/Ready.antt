@@ -64,21 +64,21 @@ more_stays a b ss more = record {
 
 -- ---- new lists
 
-module _ (a b : Slots) (g : GroupLists) (more : HasNewLists 4 17 18 a b) (from : g ≡ lists_from (length (lists_in a 0)) (length (lists_in a 1)) (length (lists_in a 2))) (qs : List GroupSlots) (whole : AreGroupSlots a qs) where
+module _ (c : ℕ) (some : 0 < c) (a b : Slots) (g : GroupLists) (more : HasNewLists 4 17 (c + 1) a b) (from : g ≡ lists_from c (length (lists_in a 0)) (length (lists_in a 1)) (length (lists_in a 2))) (qs : List GroupSlots) (whole : AreGroupSlots a qs) where
   new_group : IsGroupSlots b (no_slot_taken g 0)
-  new_group = subst (λ n. IsGroupSlots b (no_slot_taken g n)) (new_none a b g more from)
-      (vacant_group b g (new_vacant a b g more from) (arena_more 4 17 18 a b qs whole more) (omega (arith, new_none a b g more from)))
+  new_group = subst (λ n. IsGroupSlots b (no_slot_taken g n)) (new_none c some a b g more from)
+      (vacant_group b g (new_vacant c some a b g more from) (arena_more 4 17 (c + 1) a b qs whole more) (omega (arith, new_none c some a b g more from)))
 
   was_apart : (i : ℕ) (s : GroupSlots) → slice_get qs i ≡ Some s → IsApart s.lists g
-  was_apart i s e = let group = whole.each i s e in new_apart a b g more from s.lists group.there group.chained.lists.serials_there group.chained.lists.names_there
+  was_apart i s e = let group = whole.each i s e in new_apart c some a b g more from s.lists group.there group.chained.lists.serials_there group.chained.lists.names_there
 
   -- with a group more that has them, all groups are as they should be
   pub whole_added : AreGroupSlots b (qs ++ no_slot_taken g 0 ∷ [])
   whole_added = record {
-    arena = arena_more 4 17 18 a b qs whole more;
+    arena = arena_more 4 17 (c + 1) a b qs whole more;
     each = λ i s e. elim (get_append qs (no_slot_taken g 0) i s e) [
       | inl k ↦ subst (IsGroupSlots b) (sym k.1) new_group
-      | inr k ↦ slots_same a b s (same_more 4 17 18 a b qs whole more i s k.1) whole.arena (whole.each i s k.1)
+      | inr k ↦ slots_same a b s (same_more 4 17 (c + 1) a b qs whole more i s k.1) whole.arena (whole.each i s k.1)
     ];
     apart = λ i j s r e f ne. elim (get_append qs (no_slot_taken g 0) i s e) [
       | inl k ↦ elim (get_append qs (no_slot_taken g 0) j r f) [
@@ -93,15 +93,15 @@ module _ (a b : Slots) (g : GroupLists) (more : HasNewLists 4 17 18 a b) (from :
   }
 
 -- the spare slots get lists, while there is no group
-pub made_spare : (a b : Slots) (g : GroupLists) (p : Option GroupSlots) → p ≡ None → HasNewLists 4 17 18 a b → g ≡ lists_from (length (lists_in a 0)) (length (lists_in a 1)) (length (lists_in a 2)) → KeepsGroups a p b (Some (no_slot_taken g 0))
-made_spare a b g p none more from = record {
+pub made_spare : (c : ℕ) → 0 < c → (a b : Slots) (g : GroupLists) (p : Option GroupSlots) → p ≡ None → HasNewLists 4 17 (c + 1) a b → g ≡ lists_from c (length (lists_in a 0)) (length (lists_in a 1)) (length (lists_in a 2)) → KeepsGroups a p b (Some (no_slot_taken g 0))
+made_spare c some a b g p none more from = record {
   whole = λ ss w. made ss (w.first none) (subst (λ q. IsWhole a q ss) none w);
-  view = λ ss w. view_more a b ss (groups_in w) (record { first = 4; second = 17; third = 18; lists = more });
+  view = λ ss w. view_more a b ss (groups_in w) (record { first = 4; second = 17; third = c + 1; lists = more });
 }
   where
     alone : IsWhole a None [] → IsWhole b (Some (no_slot_taken g 0)) []
     alone w = record {
-      all = whole_added a b g more from [] w.all;
+      all = whole_added c some a b g more from [] w.all;
       slots = ap (λ (ps : List Ticket). length ps) more.payloads ∙ w.slots;
       free = λ q e. let k : no_slot_taken g 0 ≡ q = some_same (no_slot_taken g 0) q e in subst (λ (z : GroupSlots). z ≡ no_slot_taken z.lists z.slots.max) k refl;
       first = λ e. refl;
@@ -138,14 +138,14 @@ not_at_end (y ∷ ys) r zero ne = refl
 not_at_end (y ∷ ys) r (suc i) ne = not_at_end ys r i (λ e. ne (ap suc e))
 
 -- a new one behind the others
-pub new_gets : (a b : Slots) (g : GroupLists) (ss : List GroupSlots) → HasNewLists 4 17 18 a b → g ≡ lists_from (length (lists_in a 0)) (length (lists_in a 1)) (length (lists_in a 2)) → GetsPlace (length ss) a ss b (ss ++ no_slot_taken g 0 ∷ [])
-new_gets a b g ss more from = record {
+pub new_gets : (c : ℕ) → 0 < c → (a b : Slots) (g : GroupLists) (ss : List GroupSlots) → HasNewLists 4 17 (c + 1) a b → g ≡ lists_from c (length (lists_in a 0)) (length (lists_in a 1)) (length (lists_in a 2)) → GetsPlace (length ss) a ss b (ss ++ no_slot_taken g 0 ∷ [])
+new_gets c some a b g ss more from = record {
   gets = λ p w. record {
     entry = no_slot_taken g 0;
     here = at_end ss (no_slot_taken g 0);
     empty = refl;
     whole = record {
-      all = whole_added a b g more from (p ∷ ss) w.all;
+      all = whole_added c some a b g more from (p ∷ ss) w.all;
       slots = omega (arith, ap (λ (ps : List Ticket). length ps) more.payloads, w.slots, rooms_first p ss, rooms_first p (ss ++ no_slot_taken g 0 ∷ []), room_same);
       free = w.free;
       first = λ e. absurd (some_there p e);
@@ -164,7 +164,7 @@ new_gets a b g ss more from = record {
     shown w j None e = refl
     shown w j (Some s) e =
         let all = groups_in w in
-        ap Some (group_same a b s (same_more 4 17 18 a b ss all more j s e) all.arena (all.each j s e))
+        ap Some (group_same a b s (same_more 4 17 (c + 1) a b ss all more j s e) all.arena (all.each j s e))
 
 -- ---- spare slots
 

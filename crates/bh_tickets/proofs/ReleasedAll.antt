@@ -1,6 +1,6 @@
 -- All of a group's tickets go that nobody needs.
-use Rattle.std.proofs.Common.{◌≡◌, ℕ, ◌+◌, ◌⊎◌, inl, inr, Bool, true, false, List, [], ◌∷◌, length, take, Option, Some, None, refl, ◌∙◌, sym, ap, subst}
-use Rattle.std.specs.Prelude.{eqb, slice_get, if◌then◌else◌}
+use Rattle.std.proofs.Common.{◌≡◌, ℕ, zero, suc, ◌+◌, ◌<◌, ◌≤◌, ◌⊎◌, inl, inr, Bool, true, false, List, [], ◌∷◌, length, take, Option, Some, None, refl, ◌∙◌, sym, ap, subst, arith, add-one}
+use Rattle.std.specs.Prelude.{◌||◌, eqb, slice_get, if◌then◌else◌}
 use Rattle.std.proofs.lemmas.Bool.{cases_eq, eq-eqb, ne_eqb}
 use Rattle.bh_base.specs.declared.ticket.Ticket.{Ticket}
 use Rattle.bh_base.specs.declared.ticket.TicketState.{TicketState}
@@ -9,11 +9,13 @@ use Rattle.bh_base.specs.Tickets.{is_kept}
 use Rattle.bh_slot_arena.specs.Slots.{slots_on}
 use Rattle.bh_cache.specs.declared.lists.GroupLists.{GroupLists}
 use Rattle.bh_cache.specs.Listed.{listed}
-use Rattle.bh_cache.specs.Slots.{Slots, is_on, list_for, ticket_at, IsArena}
+use Rattle.bh_cache.specs.Slots.{Slots, has, is_live, is_live_list, is_on, list_for, ticket_at, IsArena}
 use Rattle.bh_cache.proofs.Listed.{listed_filter, option_filter}
 use Rattle.bh_tickets.specs.declared.group_slots.GroupSlots.{GroupSlots}
-use Rattle.bh_tickets.specs.declared.group_slots.Needless.TheVariants as needless
-use Rattle.bh_tickets.specs.GroupSlots.{IsGroupSlots, IsGroupChange, IsReleased, IsReleasedAt, if_kept, may_go}
+use Rattle.bh_chains.specs.declared.notes.FewSlots.{FewSlots}
+use Rattle.bh_chains.specs.declared.notes.Noted.TheVariants as noted
+use Rattle.bh_chains.specs.Notes.{is_noted, nothing}
+use Rattle.bh_tickets.specs.GroupSlots.{IsGroupSlots, IsGroupChange, IsReleased, IsReleasedAt, if_kept}
 use Rattle.bh_tickets.specs.Sweeps.{IsReleasedFrom, IsSwept}
 use Rattle.bh_tickets.proofs.Along.{change_trans, has_one_slot, swept_more}
 use Rattle.bh_tickets.proofs.Releases.{change_none}
@@ -106,7 +108,7 @@ module _ (a : Slots) (s : GroupSlots) (b : Slots) (r : GroupSlots) (group : IsGr
           at false g f = absurd cc
 
   -- where just the tickets that somebody needs are left, the group is released, with nothing noted
-  pub released_is : IsReleased a s b (record r { needless = needless.Nothing })
+  pub released_is : IsReleased a s b (record r { needless = nothing })
   released_is = record {
     change = record {
       arena = change.arena;
@@ -126,7 +128,6 @@ module _ (a : Slots) (s : GroupSlots) (b : Slots) (r : GroupSlots) (group : IsGr
         times = g.times;
         turns = g.turns;
         needed = λ x t e k. absurd (not_both x t (ap (λ (l : GroupLists). ticket_at b l x) (sym change.lists) ∙ e) k);
-        noted = λ x e. absurd (never x e);
       });
       frame = change.frame;
       chains = change.chains;
@@ -141,9 +142,6 @@ module _ (a : Slots) (s : GroupSlots) (b : Slots) (r : GroupSlots) (group : IsGr
       not_both : (x : ℕ) (t : Ticket) → ticket_at b s.lists x ≡ Some t → is_kept t ≡ false → ⊥
       not_both x t e k = let z : true ≡ false = sym (needed_all x t e) ∙ k in cc
 
-      never : (x : ℕ) → needless.Nothing ≡ needless.One x → ⊥
-      never x e = cc
-
 -- a ticket that is needed is the same where it is needed
 kept_same : (o : Option Ticket) → ((t : Ticket) → o ≡ Some t → is_kept t ≡ true) → o ≡ if_kept o
 kept_same None keeps = refl
@@ -153,38 +151,100 @@ keeps_unless : (p : Bool) → (p ≡ false → ⊥) → p ≡ true
 keeps_unless true no' = refl
 keeps_unless false no' = absurd (no' refl)
 
--- nothing was noted
-pub released_none : (a : Slots) (s : GroupSlots) → IsArena a 0 → IsGroupSlots a s → s.needless ≡ needless.Nothing → IsReleased a s a s
-released_none a s arena group nothing = record {
-  change = change_none a s arena group;
-  next = refl;
-  items = listed_filter is_kept (ticket_at a s.lists) (ticket_at a s.lists) (length a.payloads) group.arranged.distinct (λ x lt. kept_same (ticket_at a s.lists x) (keeps x) ∙ as_filter (ticket_at a s.lists x));
-}
-  where
-    keeps : (x : ℕ) (t : Ticket) → ticket_at a s.lists x ≡ Some t → is_kept t ≡ true
-    keeps x t e = keeps_unless (is_kept t) (λ k. let z : false ≡ true = sym (ap (λ n. may_go n x) nothing) ∙ group.needed x t e k in cc)
-
--- one was noted
-pub released_one : (a : Slots) (s : GroupSlots) (slot : ℕ) (b : Slots) (r : GroupSlots) → IsGroupSlots a s → s.needless ≡ needless.One slot → IsReleasedAt a (record s { needless = needless.Many }) slot b r → IsReleased a s b (record r { needless = needless.Nothing })
-released_one a s slot b r group one released = released_is a s b r group change released.next (λ y. released.tickets y ∙ at y (eqb y slot) refl)
+-- the tickets in the slots that were noted
+pub released_few : (a : Slots) (s : GroupSlots) (few : FewSlots) (b : Slots) (r : GroupSlots) → IsGroupSlots a s → s.needless ≡ noted.Few few → IsReleasedFrom (take few.count few.slots) a (record s { needless = noted.Many }) b r → IsReleased a s b (record r { needless = nothing })
+released_few a s few b r group is released = released_is a s b r group change released.swept.next (λ y. released.swept.tickets y ∙ at y (has y (take few.count few.slots)) refl)
   where
     change : IsGroupChange a s b r
-    change = record { arena = released.change.arena; group = released.change.group; frame = released.change.frame; chains = released.change.chains; limit = released.change.limit; lists = released.change.lists; room = released.change.room }
+    change = let k = released.swept.change in record { arena = k.arena; group = k.group; frame = k.frame; chains = k.chains; limit = k.limit; lists = k.lists; room = k.room }
 
-    other : (y : ℕ) (t : Ticket) → eqb y slot ≡ false → ticket_at a s.lists y ≡ Some t → is_kept t ≡ true
-    other y t ne e = keeps_unless (is_kept t) (λ k.
-        let z : eqb slot y ≡ true = sym (ap (λ n. may_go n y) one) ∙ group.needed y t e k in
-        differ z ne)
-      where
-        differ : eqb slot y ≡ true → eqb y slot ≡ false → ⊥
-        differ e f = elim (cases_eq y slot) [
-          | inl q ↦ let z : true ≡ false = sym (eq-eqb y slot q) ∙ f in cc
-          | inr ne ↦ let z : true ≡ false = sym e ∙ ne_eqb slot y (λ q. ne (sym q)) in cc
-        ]
+    other : (y : ℕ) (t : Ticket) → has y (take few.count few.slots) ≡ false → ticket_at a s.lists y ≡ Some t → is_kept t ≡ true
+    other y t out e = keeps_unless (is_kept t) (λ k.
+        let z : true ≡ false = sym (sym (ap (λ n. is_noted n y) is) ∙ group.needed y t e k) ∙ out in
+        cc)
 
-    at : (y : ℕ) (d : Bool) → eqb y slot ≡ d → (if d then if_kept (ticket_at a s.lists y) else ticket_at a s.lists y) ≡ if_kept (ticket_at a s.lists y)
+    at : (y : ℕ) (d : Bool) → has y (take few.count few.slots) ≡ d → (if d then if_kept (ticket_at a s.lists y) else ticket_at a s.lists y) ≡ if_kept (ticket_at a s.lists y)
     at y true e = refl
     at y false e = kept_same (ticket_at a s.lists y) (λ t f. other y t e f)
+
+-- no slot is released
+pub released_nothing : (a : Slots) (s : GroupSlots) → IsArena a 0 → IsGroupSlots a s → IsReleasedFrom [] a s a s
+released_nothing a s arena group = record {
+  swept = record { change = change_none a s arena group; next = refl; tickets = λ y. refl };
+  needless = refl;
+}
+
+-- where the first i slots are released, and then the next, one slot more is
+pub released_next : (xs : List ℕ) (i x : ℕ) (a : Slots) (s : GroupSlots) (b : Slots) (r : GroupSlots) (c : Slots) (u : GroupSlots) → slice_get xs i ≡ Some x → IsReleasedFrom (take i xs) a s b r → IsReleasedFrom (x ∷ []) b r c u → IsReleasedFrom (take (i + 1) xs) a s c u
+released_next xs i x a s b r c u at first second = record {
+  swept = swept_more if_kept kept_again xs i x a s b r c u at first.swept second.swept;
+  needless = second.needless ∙ first.needless;
+}
+
+-- from a place on that has no slot, there is none
+pub released_past : (xs : List ℕ) (i : ℕ) (a : Slots) (s : GroupSlots) (b : Slots) (r : GroupSlots) → slice_get xs i ≡ None → IsReleasedFrom (take i xs) a s b r → IsReleasedFrom (take (i + 1) xs) a s b r
+released_past xs i a s b r out released = subst (λ (ys : List ℕ). IsReleasedFrom ys a s b r) (sym (ap (λ k. take k xs) (add-one i) ∙ same xs i out)) released
+  where
+    same : (ys : List ℕ) (k : ℕ) → slice_get ys k ≡ None → take (suc k) ys ≡ take k ys
+    same [] zero e = refl
+    same [] (suc k) e = refl
+    same (y ∷ ys) zero e = absurd cc
+    same (y ∷ ys) (suc k) e = ap (λ zs. y ∷ zs) (same ys k e)
+
+-- a slot that is on no list with tickets of the group has none to release
+module _ (a : Slots) (s : GroupSlots) (x : ℕ) (arena : IsArena a 0) (group : IsGroupSlots a s) where
+  not_there : is_live a s.lists x ≡ false → IsReleasedFrom (x ∷ []) a s a s
+  not_there off = record {
+    swept = record {
+      change = change_none a s arena group;
+      next = refl;
+      tickets = λ y. at y (eqb y x) refl ∙ sym (ap (λ d. if d then if_kept (ticket_at a s.lists y) else ticket_at a s.lists y) (has_one_slot x y));
+    };
+    needless = refl;
+  }
+    where
+      none : ticket_at a s.lists x ≡ None
+      none = ap (λ d. if d then slice_get a.payloads x else None) off
+
+      at : (y : ℕ) (d : Bool) → eqb y x ≡ d → ticket_at a s.lists y ≡ (if d then if_kept (ticket_at a s.lists y) else ticket_at a s.lists y)
+      at y false e = refl
+      at y true e = elim (cases_eq y x) [
+        | inl q ↦ let here : ticket_at a s.lists y ≡ None = ap (ticket_at a s.lists) q ∙ none in here ∙ sym (ap if_kept here)
+        | inr ne ↦ let z : false ≡ true = sym (ne_eqb y x ne) ∙ e in absurd cc
+      ]
+
+  on_one : (list : ℕ) → is_on a 0 list x ≡ true → is_live_list s.lists list ≡ false → is_live a s.lists x ≡ false
+  on_one list on off = by (is_on a 0 s.lists.queued x) (is_on a 0 s.lists.running x) (is_on a 0 s.lists.settled x) refl refl refl
+    where
+      or_true : (b : Bool) → (b || true) ≡ true
+      or_true true = refl
+      or_true false = refl
+
+      no : is_live_list s.lists list ≡ true → ⊥
+      no e = let z : true ≡ false = sym e ∙ off in cc
+
+      by : (p q r : Bool) → is_on a 0 s.lists.queued x ≡ p → is_on a 0 s.lists.running x ≡ q → is_on a 0 s.lists.settled x ≡ r → (p || (q || r)) ≡ false
+      by true q r e f k = absurd (no (ap (λ b. b || (eqb s.lists.running list || eqb s.lists.settled list)) (eq-eqb s.lists.queued list (arena.apart s.lists.queued list x e on))))
+      by false true r e f k = absurd (no (ap (λ b. eqb s.lists.queued list || (b || eqb s.lists.settled list)) (eq-eqb s.lists.running list (arena.apart s.lists.running list x f on)) ∙ or_true (eqb s.lists.queued list)))
+      by false false true e f k =
+          absurd (no (ap (λ b. eqb s.lists.queued list || (eqb s.lists.running list || b)) (eq-eqb s.lists.settled list (arena.apart s.lists.settled list x k on)) ∙ ap (λ b. eqb s.lists.queued list || b) (or_true (eqb s.lists.running list)) ∙ or_true (eqb s.lists.queued list)))
+      by false false false e f k = refl
+
+  pub released_off : (list : ℕ) → is_on a 0 list x ≡ true → is_live_list s.lists list ≡ false → IsReleasedFrom (x ∷ []) a s a s
+  released_off list on off = not_there (on_one list on off)
+
+  -- nor has a slot that is not there
+  pub released_out : length a.payloads ≤ x → IsReleasedFrom (x ∷ []) a s a s
+  released_out out = not_there (by (is_on a 0 s.lists.queued x) (is_on a 0 s.lists.running x) (is_on a 0 s.lists.settled x) refl refl refl)
+    where
+      never : (l : ℕ) → is_on a 0 l x ≡ true → ⊥
+      never l on = let lt : x < length a.payloads = arena.within l x on in absurd (omega (arith, lt, out))
+
+      by : (p q r : Bool) → is_on a 0 s.lists.queued x ≡ p → is_on a 0 s.lists.running x ≡ q → is_on a 0 s.lists.settled x ≡ r → (p || (q || r)) ≡ false
+      by true q r e f k = absurd (never s.lists.queued e)
+      by false true r e f k = absurd (never s.lists.running f)
+      by false false true e f k = absurd (never s.lists.settled k)
+      by false false false e f k = refl
 
 -- all three lists on which the group has tickets
 module _ (a : Slots) (s : GroupSlots) (b : Slots) (r : GroupSlots) (c : Slots) (u : GroupSlots) (d : Slots) (w : GroupSlots) (group : IsGroupSlots a s)
@@ -235,5 +295,5 @@ module _ (a : Slots) (s : GroupSlots) (b : Slots) (r : GroupSlots) (c : Slots) (
   change_all = change_trans a s b r d w first.swept.change (change_trans b r c u d w second.swept.change third.swept.change)
 
   -- after the walks over all three lists, no ticket is left that nobody needs, and nothing is noted
-  pub released_all : IsReleased a s d (record w { needless = needless.Nothing })
+  pub released_all : IsReleased a s d (record w { needless = nothing })
   released_all = released_is a s d w group change_all (third.swept.next ∙ second.swept.next ∙ first.swept.next) kept_all

@@ -7,10 +7,11 @@ use Rattle.bh_base.specs.declared.ticket.Ticket.{Ticket}
 use Rattle.bh_base.specs.Tickets.{is_queued, is_kept}
 use Rattle.bh_index_lists.specs.Lists.{without}
 use Rattle.bh_tickets.specs.declared.group_slots.GroupSlots.{GroupSlots}
-use Rattle.bh_tickets.specs.declared.group_slots.Needless.TheVariants as needless
+use Rattle.bh_chains.specs.declared.notes.Noted.TheVariants as noted
+use Rattle.bh_chains.specs.Notes.{is_noted}
 use Rattle.bh_slot_arena.specs.Slots.{slots_on, with_moved}
 use Rattle.bh_cache.specs.Slots.{Slots, is_on, is_live, is_live_list, is_owned, ticket_at, list_for, InOrder, count_below, has_one, one, IsArena}
-use Rattle.bh_tickets.specs.GroupSlots.{IsGroupSlots, IsGroupChange, IsReleasedAt, if_kept, may_go, count_at, counted_out, is_any}
+use Rattle.bh_tickets.specs.GroupSlots.{IsGroupSlots, IsGroupChange, IsReleasedAt, if_kept, count_at, counted_out, is_any}
 use Rattle.bh_tickets.specs.declared.counts.CommandCounts.{CommandCounts}
 use Rattle.bh_tickets.specs.Counts.{all_less, is_open, open_since}
 use Rattle.bh_tickets.proofs.ByCommand.{counts_less}
@@ -23,9 +24,11 @@ use Rattle.bh_tickets.proofs.Touched.{IsTouched, touched_moved, at_other, at_slo
 use Rattle.bh_tickets.proofs.Own.{gone_arranged, not_live_free}
 use Rattle.bh_tickets.proofs.Others.{own_for, frame_refl}
 use Rattle.bh_tickets.proofs.Puts.{held_at, within_slots}
-use Rattle.bh_tickets.proofs.Chained.{chains_placed, freed_keeps, touched_placed}
+use Rattle.bh_tickets.proofs.Chained.{chains_placed, freed_keeps, payloads_placed, touched_placed}
 use Rattle.bh_cache.proofs.Placed.{frame_refl as chain_frame_refl}
-use Rattle.bh_cache.specs.Chains.{IsChained, IsChainFrame, with_placed}
+use Rattle.bh_cache.specs.Chains.{IsChainFrame}
+use Rattle.bh_chains.specs.Chains.{IsChained, is_named, list_by_name, with_placed_where}
+use Rattle.bh_chains.proofs.Placed.{unnamed_list}
 
 -- what is there is read
 pub there_at : (a : Slots) (s : GroupSlots) (x : ℕ) (t : Ticket) → is_some (ticket_at a s.lists x) ≡ true → Some t ≡ slice_get a.payloads x → ticket_at a s.lists x ≡ Some t
@@ -67,8 +70,8 @@ or_second false c e = e
 or_first : (b c : Bool) → b ≡ true → (b || c) ≡ true
 or_first b c e = ap (λ d. d || c) e
 
-module _ (a b : Slots) (s : GroupSlots) (x : ℕ) (t : Ticket) (arena : IsArena a 0) (group : IsGroupSlots a s) (many : s.needless ≡ needless.Many) (here : ticket_at a s.lists x ≡ Some t) (drops : is_kept t ≡ false)
-    (serials : IsArena a 1) (names : IsArena a 2) (is : b ≡ with_placed s.lists x None (with_moved 0 x s.lists.free a)) where
+module _ (a b : Slots) (s : GroupSlots) (x : ℕ) (t : Ticket) (arena : IsArena a 0) (group : IsGroupSlots a s) (many : s.needless ≡ noted.Many) (here : ticket_at a s.lists x ≡ Some t) (drops : is_kept t ≡ false)
+    (serials : IsArena a 1) (names : IsArena a 2) (is : b ≡ with_placed_where (is_named (Some t)) s.lists x None (with_moved 0 x s.lists.free a)) where
   payload : slice_get a.payloads x ≡ Some t
   payload = (held_at a s.lists x t here).1
 
@@ -79,7 +82,7 @@ module _ (a b : Slots) (s : GroupSlots) (x : ℕ) (t : Ticket) (arena : IsArena 
   before = touched_moved a x s.lists.free t arena payload (omega (arith, group.there, group.numbered.settled))
 
   touched : IsTouched a b x s.lists.free t
-  touched = subst (λ (z : Slots). IsTouched a z x s.lists.free t) (sym is) (touched_placed a (with_moved 0 x s.lists.free a) x s.lists.free t s.lists None before)
+  touched = subst (λ (z : Slots). IsTouched a z x s.lists.free t) (sym is) (touched_placed (is_named (Some t)) a (with_moved 0 x s.lists.free a) x s.lists.free t s.lists None before)
 
   owned_slot : is_owned a s.lists x ≡ true
   owned_slot = or_second (is_on a 0 s.lists.free x) (is_live a s.lists x) (held_at a s.lists x t here).0
@@ -88,8 +91,9 @@ module _ (a b : Slots) (s : GroupSlots) (x : ℕ) (t : Ticket) (arena : IsArena 
   owned_list = or_first (eqb s.lists.free s.lists.free) (is_live_list s.lists s.lists.free) (eq-eqb s.lists.free s.lists.free refl)
 
   chains : IsChained b s.lists × IsChainFrame s.lists a b
-  chains = chains_placed a (with_moved 0 x s.lists.free a) b s.lists x s.lists.free t None before (freed_keeps a x s.lists.free) serials names group.chained owned_slot owned_list
-      (sym (ap (λ c. if c then Some t else None) (not_live_free s.lists group.numbered))) is
+  chains = chains_placed (is_named (Some t)) a (with_moved 0 x s.lists.free a) b s.lists x s.lists.free t None before (freed_keeps a x s.lists.free) serials names group.chained owned_slot owned_list
+      (sym (ap (λ c. if c then Some t else None) (not_live_free s.lists group.numbered)))
+      (λ off. sym (ap (list_by_name s.lists) here ∙ unnamed_list a s.lists group.chained.lists (Some t) off)) is
 
   gone : ticket_at b s.lists x ≡ None
   gone = at_slot a b x s.lists.free t touched s.lists ∙ ap (λ c. if c then Some t else None) (not_live_free s.lists group.numbered)
@@ -104,7 +108,7 @@ module _ (a b : Slots) (s : GroupSlots) (x : ℕ) (t : Ticket) (arena : IsArena 
   ]
 
   same_payload : b.payloads ≡ a.payloads
-  same_payload = ap (λ (z : Slots). z.payloads) is
+  same_payload = ap (λ (z : Slots). z.payloads) is ∙ payloads_placed (is_named (Some t)) s.lists x None (with_moved 0 x s.lists.free a)
 
   order : InOrder b.payloads (slots_on b 0 s.lists.queued)
   order = subst (InOrder b.payloads) (sym (touched.left s.lists.queued (λ e. absurd (omega (arith, e, group.numbered.queued)))))
@@ -140,9 +144,6 @@ module _ (a b : Slots) (s : GroupSlots) (x : ℕ) (t : Ticket) (arena : IsArena 
   lies : is_on a 0 (list_for s.lists t.state) x ≡ true
   lies = group.arranged.placed x t here
 
-  never_one : (y : ℕ) → s.needless ≡ needless.One y → ⊥
-  never_one y e = let f : needless.Many ≡ needless.One y = sym many ∙ e in cc
-
   module _ (r : GroupSlots) (made : r ≡ record (counted_out t s) { slots = record s.slots { taken = s.slots.taken - 1 } }) where
     whole : IsGroupSlots b (record (counted_out t s) { slots = record s.slots { taken = s.slots.taken - 1 } })
     whole = record {
@@ -162,8 +163,7 @@ module _ (a b : Slots) (s : GroupSlots) (x : ℕ) (t : Ticket) (arena : IsArena 
       since = since;
       turns = turns_less a b s.lists x s.last_started s.in_turn (touched.left s.lists.running (λ e. absurd (omega (arith, e, group.numbered.running)))) (λ y ne. ap (λ ps. slice_get ps y) same_payload) group.turns;
       times = times_kept a b s.lists s.latest s.in_time was_there group.times;
-      needed = λ y u e k. ap (λ n. may_go n y) many;
-      noted = λ y e. absurd (never_one y e);
+      needed = λ y u e k. ap (λ n. is_noted n y) many;
     }
 
     -- a ticket that nobody needs is gone once its slot is put on the list of free slots

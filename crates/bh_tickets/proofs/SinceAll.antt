@@ -160,7 +160,6 @@ since_set a s command since group known own = record {
   times = group.times;
   turns = group.turns;
   needed = group.needed;
-  noted = group.noted;
 }
   where
     here : counts_of (with_since command since s).commands command ≡ record (counts_of s.commands command) { open_since = since }

@@ -6,11 +6,11 @@ use Rattle.bh_base.specs.declared.ticket.Ticket.{Ticket}
 use Rattle.bh_index_lists.specs.Lists.{without}
 use Rattle.bh_slot_arena.specs.Slots.{lists_in, slots_on, with_moved, with_payload}
 use Rattle.bh_cache.specs.declared.lists.GroupLists.{GroupLists}
-use Rattle.bh_cache.specs.Chains.{HasChains, with_placed}
+use Rattle.bh_chains.specs.Chains.{HasChains, with_placed}
 use Rattle.bh_cache.specs.Slots.{Slots, has, is_on, IsApart, IsArena, IsOwn, Once}
 use Rattle.bh_cache.proofs.Moves.{families_count, family_stays, list_not_to, list_to, lists_count, without_absent}
 use Rattle.bh_cache.proofs.Order.{front_is, front_on}
-use Rattle.bh_cache.proofs.Placed.{on_names, on_serials}
+use Rattle.bh_chains.proofs.Placed.{on_names, on_serials}
 use Rattle.bh_tickets.specs.Same.{IsSame, KeepsOwn}
 use Rattle.bh_tickets.specs.Spare.{IsTaken, IsVacant, free_slots}
 use Rattle.bh_tickets.proofs.Chained.{KeepsChains, chains_there, moved_keeps, placed_on, touched_placed}
@@ -93,7 +93,7 @@ module _ (a : Slots) (g h : GroupLists) (x : ℕ) (v : Ticket) (giver : IsVacant
   to_there = omega (arith, taker.there, taker.numbered.settled)
 
   touched : IsTouched a now x h.free v
-  touched = touched_placed a moved x h.free v h None (touched_both a x h.free v first within to_there)
+  touched = touched_placed true a moved x h.free v h None (touched_both a x h.free v first within to_there)
 
   keeps : KeepsChains a moved
   keeps = moved_keeps a x h.free v
@@ -193,7 +193,7 @@ module _ (a : Slots) (g h : GroupLists) (x : ℕ) (v : Ticket) (giver : IsVacant
 
   got_now : free_slots now h ≡ free_slots a h + 1
   got_now =
-      let put : slots_on now 0 h.free ≡ without x (slots_on a 0 h.free) ++ x ∷ [] = placed_on h x None moved h.free ∙ list_to written 0 x h.free first.wide to_there in
+      let put : slots_on now 0 h.free ≡ without x (slots_on a 0 h.free) ++ x ∷ [] = placed_on true h x None moved h.free ∙ list_to written 0 x h.free first.wide to_there in
       let same : without x (slots_on a 0 h.free) ≡ slots_on a 0 h.free = without_absent x (slots_on a 0 h.free) (not_on a g.free h.free x first on (λ e. not_free (sym e))) in
       omega (arith, ap (λ (xs : List ℕ). length xs) put, ap (λ (xs : List ℕ). length xs) same, length-append (without x (slots_on a 0 h.free)) (x ∷ []))
 

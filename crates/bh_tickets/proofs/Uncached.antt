@@ -1,22 +1,22 @@
 -- The end of a request context.
-use Rattle.std.proofs.Common.{◌≡◌, ℕ, ◌+◌, ◌<◌, ◌⊎◌, inl, inr, Bool, true, false, List, [], ◌∷◌, length, get_or, Option, Some, None, refl, ◌∙◌, sym, ap, subst, arith}
-use Rattle.std.specs.Prelude.{◌||◌, count_by, slice_get, is_some, if◌then◌else◌}
+use Rattle.std.proofs.Common.{◌≡◌, ℕ, ◌<◌, Bool, true, false, List, [], length, get_or, Option, Some, None, refl, ◌∙◌, sym, ap, subst, arith}
+use Rattle.std.specs.Prelude.{◌||◌, slice_get, if◌then◌else◌}
 use Rattle.std.specs.Option.{option_map}
 use Rattle.bh_base.specs.declared.ticket.Ticket.{Ticket}
 use Rattle.bh_base.specs.Tickets.{is_cached_in, is_queued, is_kept}
 use Rattle.bh_slot_arena.specs.Slots.{lists_in, slots_on}
-use Rattle.bh_cache.specs.Cache.{IsDropped, uncached_in}
-use Rattle.bh_cache.specs.Slots.{Slots, has, is_on, is_live, is_owned, ticket_at, tickets_of, list_for, serial_in, InOrder, Once, count_below, has_one, IsArena, IsOwn, IsFrame}
-use Rattle.bh_cache.proofs.Listed.{IsIn, in_listed, count_cons}
+use Rattle.bh_cache.specs.Cache.{uncached_in}
+use Rattle.bh_chains.specs.Cache.{IsDropped}
+use Rattle.bh_cache.specs.Slots.{Slots, has, is_on, is_live, is_owned, ticket_at, list_for, serial_in, InOrder, Once, count_below, has_one, IsArena, IsOwn, IsFrame}
 use Rattle.bh_cache.proofs.Order.{order_same, count_same}
 use Rattle.bh_tickets.specs.declared.group_slots.GroupSlots.{GroupSlots}
-use Rattle.bh_tickets.specs.declared.group_slots.Needless.{Needless}
-use Rattle.bh_tickets.specs.declared.group_slots.Needless.TheVariants as needless
-use Rattle.bh_tickets.specs.GroupSlots.{IsArranged, IsGroupSlots, IsUncached, count_at, is_any, may_go}
+use Rattle.bh_chains.specs.declared.notes.Noted.{Noted}
+use Rattle.bh_chains.specs.Notes.{AreNoted, is_noted}
+use Rattle.bh_tickets.specs.GroupSlots.{IsArranged, IsGroupSlots, IsUncached, count_at, is_any}
 use Rattle.bh_tickets.specs.Counts.{busy_of, in_fallback_of, is_open, open_since, queued_of}
 use Rattle.bh_tickets.proofs.InTime.{times_kept}
 use Rattle.bh_tickets.proofs.InTurn.{turns_kept}
-use Rattle.bh_tickets.proofs.Puts.{within_slots}
+use Rattle.bh_tickets.proofs.Puts.{held_at, within_slots}
 use Rattle.bh_tickets.proofs.Others.{own_for}
 use Rattle.bh_cache.proofs.Walks.{on_queued, on_running}
 use Rattle.bh_base.specs.declared.ticket.TicketState.TheVariants as ticket
@@ -29,15 +29,6 @@ module _ (context : ℕ) (t : Ticket) where
       by : (b : Bool) → f (if b then record t { cached = false } else t) ≡ f t
       by true = e
       by false = refl
-
-counted_if : (b : Bool) (n : ℕ) → (if b then 1 else 0) + n ≡ 0 → (b ≡ false) × (n ≡ 0)
-counted_if true n e = absurd (omega (arith, e))
-counted_if false n e = (refl, omega (arith, e))
-
-none_counted : (q : Ticket → Bool) (ts : List Ticket) (t : Ticket) → count_by q ts ≡ 0 → IsIn t ts → q t ≡ false
-none_counted q [] t e i = absurd i
-none_counted q (u ∷ us) t e (inl h) = ap q (sym h) ∙ (counted_if (q u) (count_by q us) (sym (count_cons q u us) ∙ e)).0
-none_counted q (u ∷ us) t e (inr h) = none_counted q us t (counted_if (q u) (count_by q us) (sym (count_cons q u us) ∙ e)).1 h
 
 module _ (a b : Slots) (s : GroupSlots) (context n : ℕ) (arena : IsArena a 0) (group : IsGroupSlots a s) (dropped : IsDropped context s.lists a b n) where
   lists_same : lists_in b 0 ≡ lists_in a 0
@@ -130,31 +121,16 @@ module _ (a b : Slots) (s : GroupSlots) (context n : ℕ) (arena : IsArena a 0) 
   recount q same = ap (λ m. count_below m (λ x. has_one q (ticket_at b s.lists x))) dropped.slots
       ∙ count_same (λ x. has_one q (ticket_at b s.lists x)) (λ x. has_one q (ticket_at a s.lists x)) (length a.payloads) (λ x. ap (has_one q) (dropped.here x) ∙ has_same q same (ticket_at a s.lists x))
 
-  -- where none was cached in the context, all are as they were
-  untouched : n ≡ 0 → (w t : Ticket) (x : ℕ) → ticket_at a s.lists x ≡ Some w → uncached_in context w ≡ t → w ≡ t
-  untouched none w t x here e =
-      let off : is_cached_in context w ≡ false = none_counted (is_cached_in context) (tickets_of a s.lists) w (sym dropped.count ∙ none) (in_listed (ticket_at a s.lists) (length a.payloads) x w (within_slots a s.lists x w here) here) in
-      sym (ap (λ c. if c then record w { cached = false } else w) off) ∙ e
-
-  module _ (r : GroupSlots) (now : Needless) (made : r ≡ record s { needless = now }) (noting : (now ≡ needless.Many) ⊎ ((now ≡ s.needless) × (n ≡ 0))) where
-    needed : (x : ℕ) (t : Ticket) → ticket_at b s.lists x ≡ Some t → is_kept t ≡ false → may_go now x ≡ true
-    needed x t e k = elim noting [
-      | inl m ↦ ap (λ z. may_go z x) m
-      | inr m ↦ let h = before x t e in ap (λ z. may_go z x) m.0 ∙ group.needed x h.0 h.1 (ap is_kept (untouched m.1 h.0 t x h.1 h.2) ∙ k)
-    ]
-
-    some_same : (o : Option Ticket) → is_some (option_map (uncached_in context) o) ≡ is_some o
-    some_same None = refl
-    some_same (Some t) = refl
-
-    noted_at : (x : ℕ) → now ≡ needless.One x → is_some (ticket_at b s.lists x) ≡ true
-    noted_at x e = elim noting [
-      | inl m ↦ absurd (many (sym m ∙ e))
-      | inr m ↦ ap is_some (dropped.here x) ∙ some_same (ticket_at a s.lists x) ∙ group.noted x (sym m.0 ∙ e)
-    ]
+  module _ (r : GroupSlots) (now : Noted) (made : r ≡ record s { needless = now }) (noting : AreNoted context (is_live a s.lists) a s.needless now) where
+    -- a ticket that nobody needs was cached in the context, and is noted now, or was needless before
+    needed : (x : ℕ) (t : Ticket) → ticket_at b s.lists x ≡ Some t → is_kept t ≡ false → is_noted now x ≡ true
+    needed x t e k = let h = before x t e in by h.0 h.1 h.2 (is_cached_in context h.0) refl
       where
-        many : needless.Many ≡ needless.One x → ⊥
-        many f = cc
+        by : (w : Ticket) → ticket_at a s.lists x ≡ Some w → uncached_in context w ≡ t → (c : Bool) → is_cached_in context w ≡ c → is_noted now x ≡ true
+        by w here is true cached = let h = held_at a s.lists x w here in noting.cached x h.0 (ap (has_one (is_cached_in context)) h.1 ∙ cached)
+        by w here is false off =
+            let same : w ≡ t = sym (ap (λ c. if c then record w { cached = false } else w) off) ∙ is in
+            noting.more x (group.needed x w here (ap is_kept same ∙ k))
 
     whole : IsGroupSlots b (record s { needless = now })
     whole = record {
@@ -188,10 +164,9 @@ module _ (a b : Slots) (s : GroupSlots) (context n : ℕ) (arena : IsArena a 0) 
           (was, ap serial_in (payload_at y (on_running a s.lists y was)) ∙ serial_of (slice_get a.payloads y)))
           (λ order. subst (InOrder a.payloads) (sym (slots_same_on s.lists.running)) order) group.turns;
       needed = needed;
-      noted = noted_at;
     }
 
-    -- the group's tickets are uncached, where Many is noted, or none was cached and what was noted stays
+    -- the group's tickets are uncached, where those are noted that were cached
     pub uncached_is : IsUncached a s context n b r
     uncached_is = record {
       change = record {

@@ -7,13 +7,13 @@ use Rattle.bh_base.specs.declared.ticket.Ticket.{Ticket}
 use Rattle.bh_base.specs.Tickets.{is_queued}
 use Rattle.bh_slot_arena.specs.Slots.{slots_on}
 use Rattle.bh_cache.specs.declared.lists.GroupLists.{GroupLists}
-use Rattle.bh_cache.specs.Chains.{AreOn, list_by_name, list_by_serial}
+use Rattle.bh_cache.specs.Chains.{AreOn, list_by_serial}
+use Rattle.bh_chains.specs.Chains.{list_by_name}
 use Rattle.bh_cache.specs.Listed.{listed, put_in}
 use Rattle.bh_cache.specs.Slots.{Slots, has, is_live, is_on, is_owned, ticket_at, has_one, one, count_below, IsArena, InOrder, Once}
 use Rattle.bh_cache.proofs.Counts.{count_none, count_point}
 use Rattle.bh_cache.proofs.Order.{count_le, count_same}
 use Rattle.bh_tickets.specs.declared.group_slots.GroupSlots.{GroupSlots}
-use Rattle.bh_tickets.specs.declared.group_slots.Needless.TheVariants as needless
 use Rattle.bh_tickets.specs.Counts.{AreCounts, busy_of, in_fallback_of, no_counts, queued_of, zero_counts}
 use Rattle.bh_tickets.specs.GroupSlots.{IsGroupSlots, count_at, no_slot_taken, is_any}
 use Rattle.bh_tickets.specs.Spare.{AreFreeOn, IsVacant, free_slots}
@@ -191,15 +191,11 @@ module _ (a : Slots) (g : GroupLists) (vacant : IsVacant a g) where
     times = record { before = λ x t e. absurd (no_ticket x t e); rising = λ on x y t u e f le. absurd (no_ticket x t e) };
     turns = record { below = λ x on. absurd (none_running x on); order = λ on. subst (InOrder a.payloads) (sym no_runs) tt };
     needed = λ x t e k. absurd (no_ticket x t e);
-    noted = λ x e. absurd (nothing x e);
   }
     where
       slots_are : IsArena a 0 → count_below (length a.payloads) (is_owned a g) ≡ free_slots a g
       slots_are arena = count_same (is_owned a g) (λ x. has x (slots_on a 0 g.free)) (length a.payloads) owned_is
           ∙ count_list (length a.payloads) (slots_on a 0 g.free) (arena.once g.free) (λ x on. arena.within g.free x on)
-
-      nothing : (x : ℕ) → needless.Nothing ≡ needless.One x → ⊥
-      nothing x e = cc
 
   -- contracts see a group with so many slots and no ticket
   pub vacant_shown : (count : ℕ) → group_of a (no_slot_taken g count) ≡ no_tickets_in count

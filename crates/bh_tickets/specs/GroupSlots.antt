@@ -1,12 +1,10 @@
 -- What a group keeps of its tickets beside their slots, and what its calls do.
-use Rattle.std.specs.Prelude.{eqb, if◌then◌else◌, ◌≡◌, ℕ, ◌+◌, ◌-◌, ◌<◌, ◌≤◌, ◌^◌, ◌&&◌, ◌||◌, [], ◌∷◌, ◌++◌, filter, map, Bool, nat_le, nat_lt, true, false, length, replicate, is_some, slice_get, Option, Some, None, List, count_by, drop, max}
+use Rattle.std.specs.Prelude.{eqb, if◌then◌else◌, ◌≡◌, ℕ, ◌+◌, ◌-◌, ◌<◌, ◌≤◌, ◌^◌, ◌&&◌, ◌||◌, [], ◌∷◌, ◌++◌, filter, map, Bool, nat_le, nat_lt, true, false, length, replicate, slice_get, Option, Some, None, List, count_by, drop, max}
 use Rattle.std.specs.List.{list_any}
 use Rattle.bh_base.specs.declared.ticket.Ticket.{Ticket}
 use Rattle.bh_base.specs.Tickets.{is_queued, is_kept}
 use Rattle.bh_index_lists.specs.Lists.{without}
 use Rattle.bh_tickets.specs.declared.states.DueRule.{DueRule}
-use Rattle.bh_tickets.specs.declared.group_slots.Needless.{Needless}
-use Rattle.bh_tickets.specs.declared.group_slots.Needless.TheVariants as needless
 use Rattle.bh_tickets.specs.declared.changes.TicketChange.{TicketChange}
 use Rattle.bh_tickets.specs.Changes.{IsAllowed, is_due_by, timed_out_by}
 use Rattle.bh_tickets.specs.Counts.{AreCounts, all_less, all_more, all_since, counts_of, is_open, no_counts, open_since}
@@ -15,7 +13,9 @@ use Rattle.bh_cache.specs.declared.lists.GroupLists.{GroupLists}
 use Rattle.bh_tickets.specs.declared.group_slots.GroupSlots.{GroupSlots}
 use Rattle.bh_base.specs.Tickets.{is_cached_in}
 use Rattle.bh_cache.specs.Cache.{uncached_in}
-use Rattle.bh_cache.specs.Chains.{IsChained, IsChainFrame}
+use Rattle.bh_cache.specs.Chains.{IsChainFrame}
+use Rattle.bh_chains.specs.Chains.{IsChained}
+use Rattle.bh_chains.specs.Notes.{is_noted, nothing}
 use Rattle.bh_cache.specs.Listed.{now_is}
 use Rattle.bh_slot_arena.specs.Slots.{lists_in, slots_on}
 use Rattle.bh_cache.specs.Slots.{Slots, has, is_on, is_owned, ticket_at, tickets_of, list_for, count_below, has_one, one, serial_in, InOrder, IsArena, IsFrame}
@@ -44,25 +44,13 @@ is_any t = true
 abbrev pub any_at : (Ticket → Bool) → List Ticket → List ℕ → Bool
 any_at q payloads slots = list_any (λ x. has_one q (slice_get payloads x)) slots
 
--- the ticket in the slot may be needed no more
-abbrev pub may_go : Needless → ℕ → Bool
-may_go needless.Nothing x = false
-may_go (needless.One y) x = eqb y x
-may_go needless.Many x = true
-
--- and with one slot more
-abbrev pub noted : ℕ → Needless → Needless
-noted x needless.Nothing = needless.One x
-noted x (needless.One y) = if eqb y x then needless.One y else needless.Many
-noted x needless.Many = needless.Many
-
 -- a ticket of the rule's command may be due: so long may one be queued or running
 abbrev pub may_be_due : DueRule → GroupSlots → Bool
 may_be_due due s = nat_lt due.command 16 && due.timeout_on && nat_le due.timeout_ms (due.moment - open_since s.commands due.command)
 
 -- so many slots, none of which has a ticket
 abbrev pub no_slot_taken : GroupLists → ℕ → GroupSlots
-no_slot_taken lists slots = record { lists = lists; slots = record { max = slots; taken = 0 }; next = 1; queued = 0; commands = replicate 16 no_counts; needless = needless.Nothing; latest = 0; in_time = true; last_started = 0; in_turn = true }
+no_slot_taken lists slots = record { lists = lists; slots = record { max = slots; taken = 0 }; next = 1; queued = 0; commands = replicate 16 no_counts; needless = nothing; latest = 0; in_time = true; last_started = 0; in_turn = true }
 
 -- no ticket of the group was submitted after the latest moment, and where they are in time, none before one of an earlier serial
 pub record AreInTime (a : Slots) (g : GroupLists) (latest : ℕ) (in_time : Bool) : Type 0 where
@@ -100,9 +88,8 @@ pub record IsGroupSlots (a : Slots) (s : GroupSlots) : Type 0 where
   pub since : (x : ℕ) (t : Ticket) → ticket_at a s.lists x ≡ Some t → is_open t ≡ true → open_since s.commands t.command ≤ t.submitted
   pub times : AreInTime a s.lists s.latest s.in_time
   pub turns : AreInTurn a s.lists s.last_started s.in_turn
-  -- a ticket that nobody needs was noted, and a slot that was noted alone has a ticket
-  pub needed : (x : ℕ) (t : Ticket) → ticket_at a s.lists x ≡ Some t → is_kept t ≡ false → may_go s.needless x ≡ true
-  pub noted : (x : ℕ) → s.needless ≡ needless.One x → is_some (ticket_at a s.lists x) ≡ true
+  -- the slot of a ticket that nobody needs was noted
+  pub needed : (x : ℕ) (t : Ticket) → ticket_at a s.lists x ≡ Some t → is_kept t ≡ false → is_noted s.needless x ≡ true
 
 -- one group has changed: what it keeps fits its tickets again, and other groups are as they were
 pub record IsGroupChange (a : Slots) (s : GroupSlots) (b : Slots) (r : GroupSlots) : Type 0 where

@@ -5,9 +5,9 @@ use Rattle.bh_slot_arena.specs.Slots.{lists_in, with_new_slots}
 use Rattle.bh_cache.specs.declared.lists.GroupLists.{GroupLists}
 use Rattle.bh_cache.specs.Slots.{Slots, IsArena}
 
--- a group's lists, in each family from a number on
-abbrev pub lists_from : ℕ → ℕ → ℕ → GroupLists
-lists_from n m k = record {
+-- a group's lists, in each family from a number on, with so many chains by cache name
+abbrev pub lists_from : ℕ → ℕ → ℕ → ℕ → GroupLists
+lists_from chains n m k = record {
   free = n;
   queued = n + 1;
   running = n + 2;
@@ -15,8 +15,8 @@ lists_from n m k = record {
   serials = m;
   free1 = m + 16;
   names = k;
-  uncached = k + 16;
-  free2 = k + 17;
+  uncached = k + chains;
+  free2 = k + chains;
 }
 
 -- so many empty lists more in each family, and all else is as before

@@ -5,7 +5,7 @@ ghost use Rattle.bh_base.specs.declared.ticket.Ticket.{Ticket};
 ghost use Rattle.bh_base.specs.Tickets.{is_queued, is_kept};
 ghost use Rattle.bh_slot_arena.specs.Slots.{lists_in, with_moved};
 ghost use Rattle.bh_cache.specs.Slots.{IsArena, list_for, ticket_at, one};
-ghost use Rattle.bh_tickets.specs.GroupSlots.{IsGroupSlots, CanBe, IsPut, CanAdd, IsAdded, IsReleasedAt, IsSinceAt, IsTimed, IsUncached, counted_in, counted_out, may_be_due, no_slot_taken, noted, with_since, with_start, with_submit};
+ghost use Rattle.bh_tickets.specs.GroupSlots.{IsGroupSlots, CanBe, IsPut, CanAdd, IsAdded, IsReleasedAt, IsSinceAt, IsTimed, IsUncached, counted_in, counted_out, may_be_due, no_slot_taken, with_since, with_start, with_submit};
 ghost use Rattle.bh_tickets.specs.Changes.{changed_by};
 ghost use Rattle.bh_tickets.specs.Counts.{HasRoomFor, IsCounted, counts_of};
 
@@ -14,17 +14,9 @@ use crate::counts::{CommandCounts, one};
 use crate::states::{DueRule, is_due, is_kept, is_queued};
 use bh_admit::Permits;
 use bh_base::{Moment, Serial, Ticket, TicketState};
-use bh_cache::{GroupLists, drop_context, place, place_free};
+use bh_cache::GroupLists;
+use bh_chains::{Noted, drop_context, nothing, place_gone, place_new, with_slot};
 use bh_slot_arena::Arena;
-
-/// Which of a group's tickets may be needed no more.
-#[derive(Clone, Copy, Debug)]
-pub enum Needless {
-    Nothing,
-    /// The one in the slot.
-    One(u32),
-    Many,
-}
 
 /// What a group keeps of its tickets beside their slots.
 #[derive(Clone, Copy, Debug)]
@@ -38,7 +30,8 @@ pub struct GroupSlots {
     pub queued: u64,
     /// What is counted of the tickets of each command, by its number.
     pub commands: [CommandCounts; 16],
-    pub needless: Needless,
+    /// The slots of the tickets that may be needed no more; others may be among them.
+    pub needless: Noted,
     /// No ticket was submitted later.
     pub latest: Moment,
     /// Surely no ticket was submitted before one of an earlier serial.
@@ -60,7 +53,7 @@ impl GroupSlots {
             next: 1,
             queued: 0,
             commands: [CommandCounts::new(); 16],
-            needless: Needless::Nothing,
+            needless: nothing(),
             latest: 0,
             in_time: true,
             last_started: 0,
@@ -73,23 +66,6 @@ impl GroupSlots {
         ensures { result ≡ (self.now.in_time && self.now.in_turn) }
     {
         self.in_time && self.in_turn
-    }
-}
-
-/// What may be needed no more, with one slot more.
-fn noted(needless: Needless, slot: u32) -> Needless
-    ensures { result ≡ noted slot needless }
-{
-    match needless {
-        Needless::Nothing => Needless::One(slot),
-        Needless::One(other) => {
-            if other == slot {
-                Needless::One(other)
-            } else {
-                Needless::Many
-            }
-        }
-        Needless::Many => Needless::Many,
     }
 }
 
@@ -191,7 +167,37 @@ pub fn change(
     note_move(group, ticket.serial, alone, from, to);
     move_on(arena, slot, from, to);
     if !needed {
-        group.needless = noted(group.needless, slot);
+        group.needless = with_slot(group.needless, slot);
+    }
+}
+
+/// The ticket is written where it is kept, field by field: of what lies there, the room for an answer is left alone where
+/// the ticket has none.
+fn write(ticket: &Ticket, kept: &mut Ticket)
+    ensures { kept.new ≡ ticket.now }
+{
+    kept.serial = ticket.serial;
+    kept.command = ticket.command;
+    kept.arg = ticket.arg;
+    kept.cache = ticket.cache;
+    kept.submitted = ticket.submitted;
+    write_state(&ticket.state, &mut kept.state);
+    kept.busy = ticket.busy;
+    kept.holders = ticket.holders;
+    kept.cached = ticket.cached;
+    kept.test = ticket.test;
+}
+
+/// The state is written where it is kept.
+fn write_state(state: &TicketState, kept: &mut TicketState)
+    ensures { kept.new ≡ state.now }
+{
+    match state {
+        TicketState::Queued => *kept = TicketState::Queued,
+        TicketState::Running => *kept = TicketState::Running,
+        TicketState::NeedsFallback(cause) => *kept = TicketState::NeedsFallback(*cause),
+        TicketState::InFallback(cause) => *kept = TicketState::InFallback(*cause),
+        TicketState::Answered(answer) => *kept = TicketState::Answered(*answer),
     }
 }
 
@@ -213,9 +219,9 @@ pub fn add(arena: &mut Arena<Ticket, 3>, group: &mut GroupSlots, ticket: &Ticket
     let alone = arena.len_of(0, group.lists.running) == 0;
     arena.partition(1);
     arena.partition(2);
-    arena.set(slot, *ticket);
+    write(ticket, arena.get_mut(slot));
     arena.move_to_back(0, slot, to);
-    place(arena, &group.lists, slot);
+    place_new(arena, &group.lists, slot);
     count_in(group, ticket);
     note_submit(group, ticket);
     note_move(group, ticket.serial, alone, from, to);
@@ -226,7 +232,7 @@ pub fn add(arena: &mut Arena<Ticket, 3>, group: &mut GroupSlots, ticket: &Ticket
 pub fn release_at(arena: &mut Arena<Ticket, 3>, group: &mut GroupSlots, slot: u32)
     requires arena { IsArena arena.old 0 }
     requires group { IsGroupSlots arena.old group.old }
-    requires many { group.old.needless ≡ Needless.Many }
+    requires many { group.old.needless ≡ Noted.Many }
     requires there { is_some (ticket_at arena.old group.old.lists slot) ≡ true }
     ensures { IsReleasedAt arena.old group.old slot arena.new group.new }
 {
@@ -239,7 +245,7 @@ pub fn release_at(arena: &mut Arena<Ticket, 3>, group: &mut GroupSlots, slot: u3
     arena.partition(1);
     arena.partition(2);
     arena.move_to_back(0, slot, group.lists.free);
-    place_free(arena, &group.lists, slot);
+    place_gone(arena, &group.lists, slot);
 }
 
 /// No ticket of the group is cached in the context any more; answers how many were.
@@ -248,11 +254,7 @@ pub fn drop_cached(arena: &mut Arena<Ticket, 3>, group: &mut GroupSlots, context
     requires group { IsGroupSlots arena.old group.old }
     ensures { IsUncached arena.old group.old context result arena.new group.new }
 {
-    let count = drop_context(arena, &group.lists, context);
-    if 0 < count {
-        group.needless = Needless::Many;
-    }
-    count
+    drop_context(arena, &group.lists, context, &mut group.needless)
 }
 
 /// Whether a ticket of the rule's command may be due, by what is counted of the command alone. Where it is false, surely

@@ -1,6 +1,6 @@
 //! How the arena grows by a group.
 
-ghost use Rattle.std.specs.Prelude.{◌≡◌, ◌+◌, [], ◌∷◌, length, IfOk, OnErr, OnOk};
+ghost use Rattle.std.specs.Prelude.{◌≡◌, ◌+◌, ◌<◌, ◌^◌, [], ◌∷◌, length, IfOk, OnErr, OnOk};
 ghost use Rattle.bh_base.specs.declared.ticket.Ticket.{Ticket};
 ghost use Rattle.bh_slot_arena.specs.Slots.{lists_in};
 ghost use Rattle.bh_tickets.specs.Growth.{HasMoreLists, HasNewLists, IsGrown, IsReadyFor, lists_from};
@@ -17,16 +17,27 @@ pub fn new_arena(alloc: Global, limit: u32) -> Arena<Ticket, 3>
     Arena::new(alloc, limit)
 }
 
-/// The lists of a new group, which are empty. Refused, the arena may have some empty lists more.
-pub fn add_lists(arena: &mut Arena<Ticket, 3>) -> Result<GroupLists, AllocError>
-    ensures lists { IfOk result (λ lists. lists ≡ lists_from (length (lists_in arena.old 0)) (length (lists_in arena.old 1)) (length (lists_in arena.old 2))) }
-    ensures ok { OnOk result (HasNewLists 4 17 18 arena.old arena.new) }
+/// How many chains by cache name a group with so many slots has: one for every four slots, sixteen at least.
+pub fn chains_for(slots: u64) -> usize
+    ensures some { 0 < result }
+    ensures few { result < 2 ^ 63 }
+{
+    16 + (slots / 64 * 16) as usize
+}
+
+/// The lists of a new group, which are empty, with so many chains by cache name. In the third family slots without a
+/// ticket and those whose ticket is not cached have one list, so that most tickets come and go without a move there.
+/// Refused, the arena may have some empty lists more.
+pub fn add_lists(arena: &mut Arena<Ticket, 3>, chains: usize) -> Result<GroupLists, AllocError>
+    requires { chains < 2 ^ 63 }
+    ensures lists { IfOk result (λ lists. lists ≡ lists_from chains (length (lists_in arena.old 0)) (length (lists_in arena.old 1)) (length (lists_in arena.old 2))) }
+    ensures ok { OnOk result (HasNewLists 4 17 (chains + 1) arena.old arena.new) }
     ensures more { HasMoreLists arena.old arena.new }
 {
     arena.partition(0);
     let free = arena.add_lists(0, 4)?;
     let serials = arena.add_lists(1, 17)?;
-    let names = arena.add_lists(2, 18)?;
+    let names = arena.add_lists(2, chains + 1)?;
     Ok(GroupLists {
         free,
         queued: free + 1,
@@ -35,8 +46,8 @@ pub fn add_lists(arena: &mut Arena<Ticket, 3>) -> Result<GroupLists, AllocError>
         serials,
         free1: serials + 16,
         names,
-        uncached: names + 16,
-        free2: names + 17,
+        uncached: names + chains,
+        free2: names + chains,
     })
 }
 

@@ -6,6 +6,7 @@ mod changes;
 mod counts;
 mod group_slots;
 mod growth;
+mod hints;
 mod spare;
 mod states;
 mod sweeps;

@@ -8,11 +8,15 @@ ghost use Rattle.bh_tickets.specs.GroupSlots.{IsGroupSlots, no_slot_taken};
 ghost use Rattle.bh_tickets.specs.Spare.{AreSpare, GetsPlace, HasRoomBeside, IsGathered, IsGiven, IsLeft, IsTaken, IsVacant, KeepsGroups, StaysWhole, free_slots};
 
 use crate::group_slots::GroupSlots;
-use crate::growth::{add_lists, add_slots, blank_ticket};
+use crate::growth::{add_lists, add_slots, blank_ticket, chains_for};
 use bh_base::Ticket;
-use bh_cache::{GroupLists, place_free};
+use bh_cache::GroupLists;
+use bh_chains::place_free;
 use bh_slot_arena::Arena;
 use std::alloc::AllocError;
+
+/// The chains by cache name among the lists of spare slots, on which no ticket ever lies.
+const SPARE_CHAINS: usize = 16;
 
 /// What a group keeps that has no ticket.
 pub fn vacant(arena: &Arena<Ticket, 3>, lists: &GroupLists) -> GroupSlots
@@ -54,16 +58,17 @@ fn spare_lists(
     if let Some(part) = *spare {
         return Ok(part.lists);
     }
-    let lists = add_lists(arena)?;
+    let lists = add_lists(arena, SPARE_CHAINS)?;
     *spare = Some(GroupSlots::new(lists, 0));
     Ok(lists)
 }
 
-/// A place for a group, with lists and no slot: one that a retired group left, else a new one behind the others. Refused,
-/// the arena may have some empty lists more.
+/// A place for a group, with lists and no slot: one that a retired group left, with the lists that it has, else a new one
+/// behind the others, with lists for so many slots. Refused, the arena may have some empty lists more.
 pub fn take_place(
     arena: &mut Arena<Ticket, 3>,
     groups: &mut Vec<GroupSlots>,
+    slots: u64,
 ) -> Result<usize, AllocError>
     ensures ok { IfOk result (λ place. GetsPlace place arena.old groups.old.items arena.new groups.new.items) }
     ensures err { OnErr result (StaysWhole arena.old groups.old.items arena.new groups.new.items) }
@@ -72,7 +77,7 @@ pub fn take_place(
         return Ok(place);
     }
     groups.reserve(1)?;
-    let lists = add_lists(arena)?;
+    let lists = add_lists(arena, chains_for(slots))?;
     let place = groups.len();
     groups.push_reserved(GroupSlots::new(lists, 0));
     Ok(place)
@@ -144,7 +149,7 @@ pub fn give_slots(arena: &mut Arena<Ticket, 3>, group: &GroupSlots, to: &GroupLi
     arena.partition(0);
     gather(arena, 0, from.free, 4, to.free);
     gather(arena, 1, from.serials, 17, to.free1);
-    gather(arena, 2, from.names, 18, to.free2);
+    gather(arena, 2, from.names, from.free2 - from.names + 1, to.free2);
     arena.partition(0);
 }
 

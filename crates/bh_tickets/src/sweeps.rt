@@ -1,16 +1,16 @@
 //! Walks along all of a group's tickets, which may move the ticket at hand to another list.
 
-ghost use Rattle.std.specs.Prelude.{◌≡◌, ◌≢◌, ◌<◌, true};
+ghost use Rattle.std.specs.Prelude.{◌≡◌, ◌≢◌, ◌<◌, [], ◌∷◌, true};
 ghost use Rattle.bh_slot_arena.specs.Slots.{slots_on};
 ghost use Rattle.bh_cache.specs.Slots.{IsArena, is_live_list};
 ghost use Rattle.bh_tickets.specs.GroupSlots.{IsGroupSlots, IsReleased, IsRising};
 ghost use Rattle.bh_tickets.specs.Sweeps.{IsReleasedFrom, IsSinceFrom, IsTimedFrom, IsTimedOut};
 
-use crate::group_slots::{
-    GroupSlots, Needless, may_be_due, release_at, set_open_since, time_out_at,
-};
+use crate::group_slots::{GroupSlots, may_be_due, release_at, set_open_since, time_out_at};
 use crate::states::{DueRule, is_young};
 use bh_base::Ticket;
+use bh_cache::GroupLists;
+use bh_chains::{FewSlots, Noted, nothing};
 use bh_slot_arena::Arena;
 
 /// Each of the group's tickets that is due has timed out. How many did. It takes no walk where what is counted of the
@@ -45,43 +45,69 @@ fn time_out_open(arena: &mut Arena<Ticket, 3>, group: &mut GroupSlots, due: &Due
     queued + running
 }
 
-/// Each of the group's tickets that nobody needs goes. It takes no walk where at most one was noted.
+/// Each of the group's tickets that nobody needs goes. It takes no walk where few were noted.
 pub fn release(arena: &mut Arena<Ticket, 3>, group: &mut GroupSlots)
     requires arena { IsArena arena.old 0 }
     requires group { IsGroupSlots arena.old group.old }
     ensures { IsReleased arena.old group.old arena.new group.new }
 {
     match group.needless {
-        Needless::Nothing => {}
-        Needless::One(slot) => release_one(arena, group, slot),
-        Needless::Many => release_all(arena, group),
+        Noted::Few(few) => release_few(arena, group, &few),
+        Noted::Many => release_all(arena, group),
     }
 }
 
-/// The ticket that was noted goes, where nobody needs it.
-fn release_one(arena: &mut Arena<Ticket, 3>, group: &mut GroupSlots, slot: u32)
+/// The tickets go that were noted, where nobody needs them.
+fn release_few(arena: &mut Arena<Ticket, 3>, group: &mut GroupSlots, few: &FewSlots)
     requires arena { IsArena arena.old 0 }
     requires group { IsGroupSlots arena.old group.old }
-    requires noted { group.old.needless ≡ Needless.One slot }
+    requires noted { group.old.needless ≡ Noted.Few few.now }
     ensures { IsReleased arena.old group.old arena.new group.new }
 {
-    group.needless = Needless::Many;
-    release_at(arena, group, slot);
-    group.needless = Needless::Nothing;
+    group.needless = Noted::Many;
+    for place in 0..few.count {
+        if let Some(slot) = few.slots.get(place) {
+            release_noted(arena, group, *slot);
+        }
+    }
+    group.needless = nothing();
+}
+
+/// The ticket in the slot goes, where there is one of the group and nobody needs it. The slot may be any number.
+fn release_noted(arena: &mut Arena<Ticket, 3>, group: &mut GroupSlots, slot: u32)
+    requires arena { IsArena arena.old 0 }
+    requires group { IsGroupSlots arena.old group.old }
+    requires many { group.old.needless ≡ Noted.Many }
+    ensures { IsReleasedFrom (slot ∷ []) arena.old group.old arena.new group.new }
+{
+    if slot >= arena.slot_count() {
+        return;
+    }
+    let list = arena.list_holding(0, slot);
+    if is_live_list(&group.lists, list) {
+        release_at(arena, group, slot);
+    }
+}
+
+/// Whether the list has tickets of the group.
+fn is_live_list(lists: &GroupLists, list: usize) -> bool
+    ensures { result ≡ is_live_list lists.now list }
+{
+    lists.queued == list || lists.running == list || lists.settled == list
 }
 
 /// Each of the group's tickets that nobody needs goes, by a walk along all its lists.
 fn release_all(arena: &mut Arena<Ticket, 3>, group: &mut GroupSlots)
     requires arena { IsArena arena.old 0 }
     requires group { IsGroupSlots arena.old group.old }
-    requires many { group.old.needless ≡ Needless.Many }
+    requires many { group.old.needless ≡ Noted.Many }
     ensures { IsReleased arena.old group.old arena.new group.new }
 {
     let lists = group.lists;
     release_on(arena, group, lists.queued);
     release_on(arena, group, lists.running);
     release_on(arena, group, lists.settled);
-    group.needless = Needless::Nothing;
+    group.needless = nothing();
 }
 
 /// The tickets of a list have timed out, where they are due. How many did. Those of the rule's command that are not due
@@ -126,7 +152,7 @@ fn time_out_on(
 fn release_on(arena: &mut Arena<Ticket, 3>, group: &mut GroupSlots, list: usize)
     requires arena { IsArena arena.old 0 }
     requires group { IsGroupSlots arena.old group.old }
-    requires many { group.old.needless ≡ Needless.Many }
+    requires many { group.old.needless ≡ Noted.Many }
     requires live { is_live_list group.old.lists list ≡ true }
     ensures { IsReleasedFrom (slots_on arena.old 0 list) arena.old group.old arena.new group.new }
 {

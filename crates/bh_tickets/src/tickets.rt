@@ -14,12 +14,13 @@ ghost use Rattle.bh_tickets.specs.Whole.{CanChange, IsChanged};
 use crate::changes::TicketChange;
 use crate::group_slots::{self, GroupSlots, add, drop_cached, may_be_due};
 use crate::growth::new_arena;
+use crate::hints::SerialHints;
 use crate::spare::{give_slots, ready_spare, take_place, take_slots, vacant};
 use crate::states::{DueRule, is_due, is_held, is_in_fallback};
 use crate::sweeps::{release, time_out};
 use crate::walks::{any_due_on, any_used_on};
 use bh_base::{Answer, Cause, Serial, Text, Ticket, TicketState};
-use bh_cache::find_serial;
+use bh_chains::find_serial_from;
 use bh_slot_arena::Arena;
 use std::alloc::{AllocError, Global};
 use std::marker::Model;
@@ -31,6 +32,8 @@ pub struct Tickets {
     /// The slots of retired groups, as those of a group without tickets.
     spare: Option<GroupSlots>,
     groups: Vec<GroupSlots>,
+    /// Where a ticket is looked for first. What they tell changes no answer.
+    hints: SerialHints,
 }
 
 impl Model for Tickets {
@@ -53,6 +56,7 @@ impl Tickets {
             arena: new_arena(alloc, limit),
             spare: None,
             groups: Vec::new(alloc),
+            hints: SerialHints::new(alloc),
         }
     }
 
@@ -79,7 +83,8 @@ impl Tickets {
         ensures err { OnErr result (self.new ≡ self.old) }
     {
         let from = ready_spare(&mut self.arena, &mut self.spare, slots)?;
-        let place = take_place(&mut self.arena, &mut self.groups)?;
+        self.hints.grow(self.arena.slot_count())?;
+        let place = take_place(&mut self.arena, &mut self.groups, slots)?;
         let to = self.groups[place].lists;
         take_slots(&mut self.arena, &from, &to, slots);
         self.arena.partition(0);
@@ -172,7 +177,8 @@ impl Tickets {
         ensures none { result ≡ None → find (is_busy_at serial) (group_at self.now group).items ≡ None }
     {
         let entry = &self.groups[group];
-        let slot = find_serial(&self.arena, &entry.lists, serial)?;
+        let hint = self.hints.slot_of(group, serial);
+        let slot = find_serial_from(&self.arena, &entry.lists, serial, hint)?;
         if !self.arena.get(slot).busy {
             return None;
         }
@@ -186,7 +192,8 @@ impl Tickets {
         ensures none { result ≡ None → find (is_held_at serial) (group_at self.now group).items ≡ None }
     {
         let entry = &self.groups[group];
-        let slot = find_serial(&self.arena, &entry.lists, serial)?;
+        let hint = self.hints.slot_of(group, serial);
+        let slot = find_serial_from(&self.arena, &entry.lists, serial, hint)?;
         if !is_held(self.arena.get(slot)) {
             return None;
         }
@@ -200,7 +207,8 @@ impl Tickets {
         ensures none { result ≡ None → find (is_in_fallback_at serial) (group_at self.now group).items ≡ None }
     {
         let entry = &self.groups[group];
-        let slot = find_serial(&self.arena, &entry.lists, serial)?;
+        let hint = self.hints.slot_of(group, serial);
+        let slot = find_serial_from(&self.arena, &entry.lists, serial, hint)?;
         if !is_in_fallback(self.arena.get(slot)) {
             return None;
         }
@@ -220,7 +228,7 @@ impl Tickets {
         ensures none { result ≡ None → find (is_cached_as command (context, key.now)) (group_at self.now group).items ≡ None }
     {
         let entry = &self.groups[group];
-        bh_cache::find(&self.arena, &entry.lists, command, context, key)
+        bh_chains::find(&self.arena, &entry.lists, command, context, key)
     }
 
     /// Whether a ticket waits for a worker.
@@ -238,7 +246,8 @@ impl Tickets {
         ensures { result ≡ list_any (λ t. t.serial == serial) (filter (is_due_by due.now) (group_at self.now group).items) }
     {
         let entry = &self.groups[group];
-        let Some(slot) = find_serial(&self.arena, &entry.lists, serial) else {
+        let hint = self.hints.slot_of(group, serial);
+        let Some(slot) = find_serial_from(&self.arena, &entry.lists, serial, hint) else {
             return false;
         };
         is_due(self.arena.get(slot), due)
@@ -383,6 +392,8 @@ impl Tickets {
         ensures limit { self.new.limit ≡ self.old.limit }
     {
         let entry = &mut self.groups[group];
+        let slot = self.arena.back(0, entry.lists.free);
+        self.hints.note(group, ticket.serial, slot);
         add(&mut self.arena, entry, ticket);
     }
 
@@ -408,7 +419,7 @@ impl Tickets {
         time_out(&mut self.arena, entry, due)
     }
 
-    /// Leaves the tickets out that nobody needs. It takes no walk where one call at most made a ticket needless.
+    /// Leaves the tickets out that nobody needs. It takes no walk where few tickets became needless.
     pub fn release(&mut self, group: usize)
         requires group { group < length self.old.groups }
         ensures items { (group_at self.new group).items ≡ filter is_kept (group_at self.old group).items }

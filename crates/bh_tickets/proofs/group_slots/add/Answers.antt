@@ -3,7 +3,8 @@ use Rattle.bh_base.specs.Tickets.{is_queued}
 use Rattle.std.specs.Prelude.{if◌then◌else◌}
 use Rattle.bh_admit.specs.Permits.{PermitCount}
 use Rattle.bh_tickets.specs.declared.group_slots.GroupSlots.{GroupSlots}
-use Rattle.bh_slot_arena.specs.Slots.{slots_on}
+use Rattle.bh_base.specs.declared.ticket.Ticket.{Ticket}
+use Rattle.bh_slot_arena.specs.Slots.{slots_on, with_payload}
 use Rattle.bh_cache.proofs.Walks.{arena_is}
 use Rattle.bh_tickets.specs.GroupSlots.{counted_in, with_submit}
 use Rattle.bh_tickets.proofs.ByCommand.{one_few}
@@ -22,27 +23,27 @@ count_in-requires-clause-room c = room_for c.args.arena.now c.args.group.now c.a
 pub returns-in_default : goal.returns-in_default
 returns-in_default c = absurd (not_full c.args.arena.now c.args.group.now c.args.ticket.now c.requires.arena c.requires.group c.requires.ticket (sym c.back.ensures ∙ c.in_default.is))
 
-pub set-requires : goal.set-requires
-set-requires c = (omega arith, c.requires.arena.within c.args.group.now.lists.free c.in-Some.slot (back_on c.in-Some.slot (slots_on c.args.arena.now 0 c.args.group.now.lists.free) (sym c.back.ensures ∙ c.in-Some.is)))
+pub get_mut-requires : goal.get_mut-requires
+get_mut-requires c = (omega arith, c.requires.arena.within c.args.group.now.lists.free c.in-Some.slot (back_on c.in-Some.slot (slots_on c.args.arena.now 0 c.args.group.now.lists.free) (sym c.back.ensures ∙ c.in-Some.is)))
 
 pub move_to_back-requires : goal.move_to_back-requires
 move_to_back-requires c =
     let lt = c.requires.arena.within c.args.group.now.lists.free c.in-Some.slot (back_on c.in-Some.slot (slots_on c.args.arena.now 0 c.args.group.now.lists.free) (sym c.back.ensures ∙ c.in-Some.is)) in
-    (omega arith, (omega arith, rw c.set.ensures (omega (arith, lt, length-set c.args.arena.now.payloads c.in-Some.slot c.args.ticket.now), to_list c.args.arena.now c.args.group.now c.list_for-to.result c.args.ticket.now.state c.requires.group c.list_for-to.ensures)))
+    (omega arith, (omega arith, rw c.write.ensures (omega (arith, lt, length-set c.args.arena.now.payloads c.in-Some.slot c.args.ticket.now), to_list c.args.arena.now c.args.group.now c.list_for-to.result c.args.ticket.now.state c.requires.group c.list_for-to.ensures)))
 
-pub place-requires-clause-slot : goal.place-requires-clause-slot
-place-requires-clause-slot c =
+pub place_new-requires-clause-slot : goal.place_new-requires-clause-slot
+place_new-requires-clause-slot c =
     let lt = c.requires.arena.within c.args.group.now.lists.free c.in-Some.slot (back_on c.in-Some.slot (slots_on c.args.arena.now 0 c.args.group.now.lists.free) (sym c.back.ensures ∙ c.in-Some.is)) in
-    rw (c.move_to_back.ensures.moved, c.set.ensures) (omega (arith, lt, length-set c.args.arena.now.payloads c.in-Some.slot c.args.ticket.now))
+    rw (c.move_to_back.ensures.moved, c.write.ensures) (omega (arith, lt, length-set c.args.arena.now.payloads c.in-Some.slot c.args.ticket.now))
 
 pub returns : goal.returns
 returns c =
     let slots = c.try_take.ensures.taken ∙ ap (λ b. if b then record c.args.group.now.slots { taken = c.args.group.now.slots.taken + 1 } else c.args.group.now.slots) c.if-not-try_take.false in
     let counted = c.note_submit.ensures ∙ ap (with_submit c.args.ticket.now) c.count_in.ensures ∙ ap (λ (p : PermitCount). with_submit c.args.ticket.now (counted_in c.args.ticket.now (record c.args.group.now { slots = p }))) slots in
-    add_from c.args.arena.now c.place.new.arena c.args.group.now c.in-Some.slot c.list_for-to.result c.args.ticket.now c.requires.arena c.requires.group (sym c.back.ensures ∙ c.in-Some.is) c.requires.ticket
+    add_from c.args.arena.now c.place_new.new.arena c.args.group.now c.in-Some.slot c.list_for-to.result c.args.ticket.now c.requires.arena c.requires.group (sym c.back.ensures ∙ c.in-Some.is) c.requires.ticket
     (arena_is c.args.arena.now 1 (omega (arith, c.partition.ensures.families)) c.partition.ensures.lists) (arena_is c.args.arena.now 2 (omega (arith, c.partition-2.ensures.families)) c.partition-2.ensures.lists)
     c.list_for-to.ensures
-    (placed_from c.args.arena.now c.set.new.self c.move_to_back.new.self c.place.new.arena c.args.group.now.lists c.in-Some.slot c.list_for-to.result c.args.ticket.now (c.requires.arena.within c.args.group.now.lists.free c.in-Some.slot (back_on c.in-Some.slot (slots_on c.args.arena.now 0 c.args.group.now.lists.free) (sym c.back.ensures ∙ c.in-Some.is))) c.set.ensures c.move_to_back.ensures.moved c.place.ensures) _ c.note_move.new.group.last_started c.note_move.new.group.in_turn
+    (placed_from c.args.arena.now (with_payload c.in-Some.slot c.write.new.kept c.args.arena.now) c.move_to_back.new.self c.place_new.new.arena c.args.group.now.lists c.in-Some.slot c.list_for-to.result c.args.ticket.now (c.requires.arena.within c.args.group.now.lists.free c.in-Some.slot (back_on c.in-Some.slot (slots_on c.args.arena.now 0 c.args.group.now.lists.free) (sym c.back.ensures ∙ c.in-Some.is))) (ap (λ (t : Ticket). with_payload c.in-Some.slot t c.args.arena.now) c.write.ensures) c.move_to_back.ensures.moved c.place_new.ensures) _ c.note_move.new.group.last_started c.note_move.new.group.in_turn
     (ap (λ (s : GroupSlots). record s { next = s.next + 1 }) c.note_move.ensures.rest ∙ ap (λ (s : GroupSlots). record s { next = s.next + 1; last_started = c.note_move.new.group.last_started; in_turn = c.note_move.new.group.in_turn }) counted)
     (turned c.args.arena.now c.args.group.now c.note_submit.new.group c.note_move.new.group c.args.ticket.now.serial c.args.group.now.lists.free c.list_for-to.result c.len_of-alone.result
     (ap (λ (s : GroupSlots). s.lists) counted) (ap (λ (s : GroupSlots). s.last_started) counted) (ap (λ (s : GroupSlots). s.in_turn) counted)

@@ -1,9 +1,10 @@
-use Rattle.std.proofs.Common.{inl, inr, sym, ap, ◌∙◌, refl, arith, length-set}
+use Rattle.std.proofs.Common.{inl, inr, sym, ap, subst, ◌∙◌, refl, arith, length-set}
 use Rattle.bh_base.specs.Tickets.{is_queued}
 use Rattle.bh_cache.specs.Slots.{list_for}
 use Rattle.bh_tickets.specs.declared.counts.CommandCounts.{CommandCounts}
 use Rattle.bh_tickets.specs.declared.group_slots.GroupSlots.{GroupSlots}
-use Rattle.bh_tickets.specs.GroupSlots.{counted_in, noted}
+use Rattle.bh_chains.specs.Notes.{IsNoted}
+use Rattle.bh_tickets.specs.GroupSlots.{counted_in}
 use Rattle.bh_tickets.proofs.InPlace.{change_from, here_is, read_known}
 use Rattle.bh_tickets.proofs.InTurn.{turned}
 use Rattle.bh_tickets.proofs.Puts.{counted_at, counted_there, room_at, room_without}
@@ -47,8 +48,8 @@ returns-then-not-needed c =
     c.move_on.new.arena c.requires.arena c.requires.group c.list_for-from.result c.list_for-to.result
     (c.list_for-from.ensures ∙ ap (λ (s : GroupSlots). list_for s.lists c.get-was.result.now.state) c.count_out.ensures) (c.list_for-to.ensures ∙ ap (λ (s : GroupSlots). list_for s.lists c.get-ticket.result.now.state) counted)
     c.move_on.ensures.same c.move_on.ensures.moved
-    _ c.noted-group.result c.note_move.new.group.last_started c.note_move.new.group.in_turn (ap (λ (s : GroupSlots). record s { needless = c.noted-group.result }) (c.note_move.ensures.rest ∙ noted_move)) turns
-    (inl (sym c.is_kept-needed.ensures ∙ c.if-not-needed.true, c.noted-group.ensures ∙ ap (λ (s : GroupSlots). noted c.args.slot s.needless) (c.note_move.ensures.rest ∙ noted_move)))
+    _ c.with_slot-group.result c.note_move.new.group.last_started c.note_move.new.group.in_turn (ap (λ (s : GroupSlots). record s { needless = c.with_slot-group.result }) (c.note_move.ensures.rest ∙ noted_move)) turns
+    (inl (sym c.is_kept-needed.ensures ∙ c.if-not-needed.true, subst (λ (s : GroupSlots). IsNoted c.args.slot s.needless c.with_slot-group.result) (c.note_move.ensures.rest ∙ noted_move) c.with_slot-group.ensures))
 
 pub returns-else-not-needed : goal.returns-else-not-needed
 returns-else-not-needed c =

@@ -1,9 +1,11 @@
-use Rattle.std.proofs.Common.{None, sym, ap, ◌∙◌, arith, ◌-◌}
+use Rattle.std.proofs.Common.{Option, Some, None, sym, ap, ◌∙◌, arith, ◌-◌}
 use Rattle.bh_base.specs.Tickets.{is_queued}
 use Rattle.bh_admit.specs.Permits.{PermitCount}
+use Rattle.std.specs.Prelude.{slice_get}
+use Rattle.bh_base.specs.declared.ticket.Ticket.{Ticket}
 use Rattle.bh_tickets.specs.declared.group_slots.GroupSlots.{GroupSlots}
 use Rattle.bh_slot_arena.specs.Slots.{with_moved}
-use Rattle.bh_cache.specs.Chains.{with_placed}
+use Rattle.bh_chains.specs.Chains.{is_named, with_placed_where}
 use Rattle.bh_cache.specs.Slots.{Slots}
 use Rattle.bh_tickets.specs.GroupSlots.{is_any}
 use Rattle.bh_tickets.proofs.Puts.{counted_at, counted_there}
@@ -38,8 +40,9 @@ give-requires c =
 pub returns : goal.returns
 returns c =
     let here = there_at c.args.arena.now c.args.group.now c.args.slot c.get-was.result.now c.requires.there c.get-was.ensures in
-    gone_from c.args.arena.now c.place_free.new.arena c.args.group.now c.args.slot c.get-was.result.now c.requires.arena c.requires.group c.requires.many here (sym c.is_kept.ensures ∙ c.if-is_kept.false)
+    gone_from c.args.arena.now c.place_gone.new.arena c.args.group.now c.args.slot c.get-was.result.now c.requires.arena c.requires.group c.requires.many here (sym c.is_kept.ensures ∙ c.if-is_kept.false)
     (arena_is c.args.arena.now 1 (omega (arith, c.partition.ensures.families)) c.partition.ensures.lists) (arena_is c.args.arena.now 2 (omega (arith, c.partition-2.ensures.families)) c.partition-2.ensures.lists)
-    (c.place_free.ensures ∙ ap (λ (z : Slots). with_placed c.count_out.new.group.lists c.args.slot None z) c.move_to_back.ensures.moved
-    ∙ ap (λ (s : GroupSlots). with_placed s.lists c.args.slot None (with_moved 0 c.args.slot s.lists.free c.args.arena.now)) c.count_out.ensures) _
+    (c.place_gone.ensures ∙ ap (λ (z : Slots). with_placed_where (is_named (slice_get z.payloads c.args.slot)) c.count_out.new.group.lists c.args.slot None z) c.move_to_back.ensures.moved
+    ∙ ap (λ (o : Option Ticket). with_placed_where (is_named o) c.count_out.new.group.lists c.args.slot None (with_moved 0 c.args.slot c.count_out.new.group.lists.free c.args.arena.now)) (sym c.get-was.ensures)
+    ∙ ap (λ (s : GroupSlots). with_placed_where (is_named (Some c.get-was.result.now)) s.lists c.args.slot None (with_moved 0 c.args.slot s.lists.free c.args.arena.now)) c.count_out.ensures) _
     (ap (λ (p : PermitCount). record c.count_out.new.group { slots = p }) c.give.ensures ∙ ap (λ (s : GroupSlots). record s { slots = record s.slots { taken = s.slots.taken - 1 } }) c.count_out.ensures)

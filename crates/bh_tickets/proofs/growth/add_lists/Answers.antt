@@ -1,4 +1,4 @@
-use Rattle.std.proofs.Common.{◌∙◌, arith}
+use Rattle.std.proofs.Common.{◌∙◌, ◌+◌, arith}
 use Rattle.bh_tickets.proofs.AddedLists.{more_first, more_second, more_third}
 use Rattle.bh_tickets.proofs.growth.add_lists.Goals as goal
 
@@ -22,9 +22,9 @@ pub returns-clause-more : goal.returns-clause-more
 returns-clause-more c = record {
   first = 4;
   second = 17;
-  third = 18;
-  lists = more_third 4 17 18 _ _ _ (omega (arith, c.partition.ensures.families)) (more_second 4 17 _ _ _ (omega (arith, c.partition.ensures.families)) (more_first 4 _ _ (omega (arith, c.partition.ensures.families)) c.in_ok-free.ensures.ok) c.in_ok-serials.ensures.ok) c.in_ok-names.ensures.ok;
+  third = c.args.chains + 1;
+  lists = more_third 4 17 (c.args.chains + 1) _ _ _ (omega (arith, c.partition.ensures.families)) (more_second 4 17 _ _ _ (omega (arith, c.partition.ensures.families)) (more_first 4 _ _ (omega (arith, c.partition.ensures.families)) c.in_ok-free.ensures.ok) c.in_ok-serials.ensures.ok) c.in_ok-names.ensures.ok;
 }
 
 pub returns-clause-ok : goal.returns-clause-ok
-returns-clause-ok c = more_third 4 17 18 _ _ _ (omega (arith, c.partition.ensures.families)) (more_second 4 17 _ _ _ (omega (arith, c.partition.ensures.families)) (more_first 4 _ _ (omega (arith, c.partition.ensures.families)) c.in_ok-free.ensures.ok) c.in_ok-serials.ensures.ok) c.in_ok-names.ensures.ok
+returns-clause-ok c = more_third 4 17 (c.args.chains + 1) _ _ _ (omega (arith, c.partition.ensures.families)) (more_second 4 17 _ _ _ (omega (arith, c.partition.ensures.families)) (more_first 4 _ _ (omega (arith, c.partition.ensures.families)) c.in_ok-free.ensures.ok) c.in_ok-serials.ensures.ok) c.in_ok-names.ensures.ok

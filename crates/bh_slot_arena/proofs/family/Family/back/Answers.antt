@@ -6,6 +6,7 @@ use Rattle.bh_index_lists.specs.declared.lists.ListHead.{ListHead}
 use Rattle.bh_index_lists.specs.Lists.{list_of, no_list}
 use Rattle.bh_slot_arena.specs.Family.{FamilyView}
 use Rattle.bh_slot_arena.specs.Linked.{IsLinked, head_at}
+use Rattle.bh_slot_arena.specs.Nodes.{links_of, numbers_of}
 use Rattle.bh_slot_arena.proofs.Backward.{back-reverse}
 use Rattle.bh_slot_arena.proofs.family.Family.back.Goals as goal
 
@@ -15,10 +16,10 @@ at L heads on_list l sound lt =
 
 pub returns : goal.returns
 returns c =
-    let L = c.self.inside.links.items in
+    let L = links_of c.self.inside.nodes.items in
     let heads = c.self.inside.heads.items in
     let shown : c.args.list < length (map (list_of L) heads) = subst (λ (v : FamilyView). c.args.list < length v.lists) (sym c.self.view_is) c.requires in
     let within : c.args.list < length heads = omega (arith, shown, length-map heads (list_of L)) in
     let read = get_or_read heads c.args.list c.index.result.now within c.index.ensures no_list in
-    ap (λ (h : ListHead). h.last) read ∙ at L heads c.self.inside.on_list.items c.args.list c.self.invariant within
+    ap (λ (h : ListHead). h.last) read ∙ at L heads (numbers_of c.self.inside.nodes.items) c.args.list c.self.invariant within
     ∙ ap (λ (v : FamilyView). slice_get (reverse (get_or v.lists c.args.list [])) 0) c.self.view_is

@@ -3,10 +3,13 @@ use Rattle.std.proofs.lemmas.Bool.{cases_lt}
 use Rattle.std.proofs.lemmas.List.{get_or_read, get_or-map, get_or_past, length-map}
 use Rattle.bh_index_lists.specs.declared.lists.Link.{Link}
 use Rattle.bh_index_lists.specs.declared.lists.ListHead.{ListHead}
-use Rattle.bh_index_lists.specs.Lists.{list_of, link_at, no_link, no_list}
+use Rattle.bh_index_lists.specs.Lists.{list_of, link_at, no_list}
 use Rattle.bh_index_lists.proofs.Segments.{linked-next_at}
 use Rattle.bh_slot_arena.specs.Family.{FamilyView}
 use Rattle.bh_slot_arena.specs.Linked.{IsLinked, head_at}
+use Rattle.bh_slot_arena.specs.declared.nodes.Node.{Node}
+use Rattle.bh_slot_arena.specs.Nodes.{links_of, numbers_of}
+use Rattle.bh_slot_arena.proofs.Beside.{link_read, no_node}
 use Rattle.bh_slot_arena.proofs.family.Family.next.Goals as goal
 
 -- by the list that has the slot
@@ -23,7 +26,8 @@ at L heads on_list l k s sound e = elim (cases_lt l (length heads)) [
 
 pub returns : goal.returns
 returns c =
-    let within : c.args.slot < length c.self.inside.links.items = subst (λ (v : FamilyView). c.args.slot < v.slots) (sym c.self.view_is) c.requires in
-    let read = get_or_read c.self.inside.links.items c.args.slot c.index.result.now within c.index.ensures no_link in
-    λ l k. subst (λ (v : FamilyView). slice_get (get_or v.lists l []) k ≡ Some c.args.slot → c.index.result.now.next ≡ slice_get (get_or v.lists l []) (k + 1)) c.self.view_is
-    (λ e. ap (λ (x : Link). x.next) read ∙ at c.self.inside.links.items c.self.inside.heads.items c.self.inside.on_list.items l k c.args.slot c.self.invariant e)
+    let nodes = c.self.inside.nodes.items in
+    let within : c.args.slot < length nodes = subst (λ (v : FamilyView). c.args.slot < v.slots) (sym c.self.view_is) c.requires in
+    let read = ap (λ (n : Node). n.link) (get_or_read nodes c.args.slot c.index.result.now within c.index.ensures no_node) ∙ sym (link_read nodes c.args.slot no_node within) in
+    λ l k. subst (λ (v : FamilyView). slice_get (get_or v.lists l []) k ≡ Some c.args.slot → c.index.result.now.link.next ≡ slice_get (get_or v.lists l []) (k + 1)) c.self.view_is
+    (λ e. ap (λ (x : Link). x.next) read ∙ at (links_of nodes) c.self.inside.heads.items (numbers_of nodes) l k c.args.slot c.self.invariant e)

@@ -1,16 +1,29 @@
-use Rattle.std.proofs.Common.{◌≡◌, ◌+◌, ◌<◌, length, set, ap, arith, rules, subst, sym, ◌∙◌}
+use Rattle.std.proofs.Common.{◌≡◌, ◌+◌, ◌<◌, length, set, ap, arith, rules, subst, sym, ◌∙◌, Option}
 use Rattle.bh_cache.specs.declared.lists.GroupLists.{GroupLists}
 use Rattle.bh_cache.specs.Slots.{IsApart}
 use Rattle.bh_cache.proofs.Walks.{arena_is}
+use Rattle.bh_tickets.specs.declared.group_slots.GroupSlots.{GroupSlots}
 use Rattle.bh_tickets.specs.GroupSlots.{no_slot_taken}
 use Rattle.bh_tickets.specs.Spare.{IsTaken, IsVacant, free_slots}
 use Rattle.bh_tickets.specs.TicketsView.{HasPlace, TicketsView, slots_of}
-use Rattle.bh_tickets.specs.Whole.{view_of}
+use Rattle.bh_tickets.specs.Whole.{IsWhole, view_of}
 use Rattle.bh_tickets.proofs.Ready.{chosen}
 use Rattle.bh_tickets.proofs.Rebuilt.{entry_vacant, spare_apart, spare_max, spare_vacant, taken_here, taken_others, taken_rooms, taken_whole}
 use Rattle.bh_tickets.proofs.SlotCounts.{shown_rooms}
 use Rattle.bh_tickets.proofs.Whole.{get_lt}
 use Rattle.bh_tickets.proofs.tickets.Tickets.add_group.Goals as goal
+
+pub index-requires : goal.index-requires
+index-requires c =
+    let a = c.ready_spare.new.arena in
+    let ss = c.self.inside.groups.items in
+    let rs = c.take_place.new.groups.items in
+    let place = c.in_ok-place.place in
+    let spare = c.in_ok-from.ensures.ok in
+    let whole = subst (λ (q : Option GroupSlots). IsWhole a q ss) spare.is (c.in_ok-from.ensures.keeps.whole ss c.self.invariant) in
+    let placed = c.in_ok-place.ensures.ok.gets spare.part whole in
+    let lt : place < length rs = get_lt rs place placed.entry placed.here in
+    search (rules, lt)
 
 pub take_slots-requires-clause-giver : goal.take_slots-requires-clause-giver
 take_slots-requires-clause-giver c =

@@ -4,8 +4,8 @@ use Rattle.bh_tickets.proofs.Exists.{no_such, due_at}
 use Rattle.bh_tickets.proofs.Whole.{part_is, groups_in}
 use Rattle.bh_tickets.proofs.tickets.Tickets.is_due.Goals as goal
 
-pub find_serial-requires : goal.find_serial-requires
-find_serial-requires c =
+pub find_serial_from-requires : goal.find_serial_from-requires
+find_serial_from-requires c =
     let s = c.index-entry.result.now in
     let is = part_is c.self.inside.arena c.self.inside.groups.items c.args.self.now c.args.group s c.self.view_is c.requires c.index-entry.ensures in
     ((groups_in c.self.invariant).each c.args.group s is).chained
@@ -14,7 +14,7 @@ pub returns-in_default : goal.returns-in_default
 returns-in_default c =
     let s = c.index-entry.result.now in
     let is = part_is c.self.inside.arena c.self.inside.groups.items c.args.self.now c.args.group s c.self.view_is c.requires c.index-entry.ensures in
-    rw (← c.self.view_is) (no_such c.self.inside.arena c.self.inside.groups.items c.args.group s (groups_in c.self.invariant) is c.args.due.now c.args.serial (c.find_serial.ensures.none c.in_default.is))
+    rw (← c.self.view_is) (no_such c.self.inside.arena c.self.inside.groups.items c.args.group s (groups_in c.self.invariant) is c.args.due.now c.args.serial (c.find_serial_from.ensures.none c.in_default.is))
 
 pub get-requires : goal.get-requires
 get-requires c =

@@ -1,7 +1,13 @@
-use Rattle.std.proofs.Common.{◌+◌, ◌++◌, ◌∷◌, []}
+use Rattle.std.proofs.Common.{arith, ◌+◌, ◌++◌, ◌∷◌, []}
 use Rattle.bh_tickets.proofs.Whole.{part_is, can_add_at, items_now, groups_in, kept}
 use Rattle.bh_tickets.proofs.Whole.{others_same, next_now, room_now}
 use Rattle.bh_tickets.proofs.tickets.Tickets.push.Goals as goal
+
+pub back-slot-requires : goal.back-slot-requires
+back-slot-requires c =
+    let s = c.index_mut-entry.result.now in
+    let group = (groups_in c.self.invariant).each c.args.group s (part_is c.self.inside.arena c.self.inside.groups.items c.args.self.now c.args.group s c.self.view_is c.requires.group c.index_mut-entry.ensures.value) in
+    (omega arith, omega (arith, group.there, group.numbered.settled))
 
 pub add-requires-clause-group : goal.add-requires-clause-group
 add-requires-clause-group c =

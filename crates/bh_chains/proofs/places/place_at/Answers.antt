@@ -1,0 +1,7 @@
+use Rattle.std.proofs.Common.{◌+◌, ◌*◌, ◌/◌, ◌%◌, ap}
+use Rattle.bh_chains.specs.Places.{place_at}
+use Rattle.bh_chains.proofs.places.place_at.Goals as goal
+
+pub returns : goal.returns
+unfolding place_at
+returns c = ap (λ h. (h + c.args.step * (c.args.count / 16)) % c.args.count) c.home_of.ensures.home

@@ -1,0 +1,5 @@
+pub mod Cache
+pub mod Chains
+pub mod Drops
+pub mod Notes
+pub mod Places
