@@ -1,10 +1,11 @@
 -- The checks at one subject of the list.
-use Rattle.std.proofs.Common.{◌≡◌, ℕ, suc, ◌+◌, ◌<◌, List, ◌∷◌, drop, length, get_or, Option, Some, None, Err, sym, ap, ◌∙◌, add-one, drop-cons}
+use Rattle.std.proofs.Common.{◌≡◌, ℕ, suc, ◌+◌, ◌<◌, List, ◌∷◌, drop, length, get_or, Option, Some, None, Ok, Err, sym, ap, ◌∙◌, refl, add-one, drop-cons}
+use Rattle.std.specs.Result.{result_and}
 use Rattle.toml.specs.Data.{Data}
 use Rattle.bh_props.specs.declared.property.Property.{Property}
 use Rattle.bh_props.specs.declared.subject.Subject.{Subject}
 use Rattle.bh_props.specs.declared.value.Fault.{Fault}
-use Rattle.bh_props.specs.Refusals.{first_at_fault, refusal, refused_at, checked_values}
+use Rattle.bh_props.specs.Refusals.{Checked, first_at_fault, refusal, refused_at, checked_values}
 
 drop-here : (some : List Subject) (i : ℕ) (s : Subject) → i < length some → s ≡ get_or some i s → drop i some ≡ s ∷ drop (i + 1) some
 drop-here some i s within is =
@@ -33,3 +34,13 @@ pub checked_values-passed : (fault : Fault) (d : Data) (some : List Subject) (i 
 checked_values-passed fault d some i s found within is finds none =
     values-at fault d some i s found within is finds
     ∙ ap (λ o. refused_at fault s.name o (checked_values fault d (drop (i + 1) some))) none
+
+-- of two checks that pass together the first does
+pub first-passes : (a b : Checked) → Ok tt ≡ result_and a b → a ≡ Ok tt
+first-passes (Ok u) b h = refl
+first-passes (Err e) b h = sym h
+
+-- and so does the second
+pub second-passes : (a b : Checked) → Ok tt ≡ result_and a b → b ≡ Ok tt
+second-passes (Ok u) b h = sym h
+second-passes (Err e) b h = cc

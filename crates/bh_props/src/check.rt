@@ -1,6 +1,7 @@
 //! The checks of the values in force.
 
-ghost use Rattle.std.specs.Prelude.{◌≡◌};
+ghost use Rattle.std.specs.Prelude.{◌≡◌, true, None, Ok};
+ghost use Rattle.std.specs.Result.{result_and};
 ghost use Rattle.std.specs.List.{find};
 ghost use Rattle.toml.specs.View.{view};
 ghost use Rattle.bh_props.specs.InForce.{in_force};
@@ -15,8 +16,62 @@ use crate::subject::{Scope, Subject};
 use crate::value::{Fault, PropertyValue};
 use bh_base::Text;
 
+/// Refuses the first value in force that is of another type, else the first that is out of its range.
+pub(crate) fn check_types_and_ranges(
+    sections: &Sections,
+    subjects: &[Subject],
+) -> Result<(), SettingsError>
+    requires { AreFound sections.now }
+    ensures { result ≡ result_and (checked_values Fault.WrongType (view sections.now.root.now) subjects.now)
+        (checked_values Fault.OutOfRange (view sections.now.root.now) subjects.now) }
+{
+    // Where nothing is at fault, one look at each value says so for both faults.
+    if are_sound(sections, subjects) {
+        return Ok(());
+    }
+    check_values(sections, Fault::WrongType, subjects)?;
+    check_values(sections, Fault::OutOfRange, subjects)
+}
+
+/// Whether no value in force has a fault.
+fn are_sound(sections: &Sections, subjects: &[Subject]) -> bool
+    requires { AreFound sections.now }
+    ensures { result ≡ true → (fault : Fault) → checked_values fault (view sections.now.root.now) subjects.now ≡ Ok tt }
+{
+    for subject in subjects {
+        if !is_sound(sections, subject.name.as_str(), subject.scope) {
+            return false;
+        }
+    }
+    true
+}
+
+/// Whether no value in force of a subject of the name and the scope has a fault.
+fn is_sound(sections: &Sections, name: &str, scope: Scope) -> bool
+    requires { AreFound sections.now }
+    ensures { result ≡ true → (fault : Fault)
+        → find (is_at_fault fault name.now (view sections.now.root.now)) (properties_of scope) ≡ None }
+{
+    let given = sections.named(name);
+    have_no_fault(&given, scope.properties())
+}
+
+/// Whether none of the properties has a value in force with a fault.
+fn have_no_fault(given: &Given, properties: &[Property]) -> bool
+    requires { IsFound given.now }
+    ensures { result ≡ true → (fault : Fault)
+        → find (is_at_fault fault given.now.name.now (view given.now.sections.root.now)) properties.now ≡ None }
+{
+    for property in properties {
+        if given.in_force(*property).is_err() {
+            return false;
+        }
+    }
+    true
+}
+
 /// Refuses the first value in force that has the fault: by subjects in their order, then by properties.
-pub(crate) fn check_values(
+fn check_values(
     sections: &Sections,
     fault: Fault,
     subjects: &[Subject],

@@ -1,12 +1,13 @@
 //! The lines that show what is in force.
 
-ghost use Rattle.std.specs.Prelude.{◌≡◌, ◌<◌, All, Some, IfSome};
+ghost use Rattle.std.specs.Prelude.{◌≡◌, ◌<◌, ◌++◌, codes, All, Some, IfSome};
 ghost use Rattle.std.specs.List.{flat_map};
 ghost use Rattle.std.specs.Fmt.{WritesOnOk};
 ghost use Rattle.bh_base.specs.Commands.{command_count};
 ghost use Rattle.bh_props.specs.Commands.{commands_in};
 ghost use Rattle.bh_props.specs.ByGroup.{AreByGroup};
-ghost use Rattle.bh_props.specs.Printed.{value_of, property_line, lines_of, subject_lines, further_lines, number_or};
+ghost use Rattle.bh_props.specs.Table.{row};
+ghost use Rattle.bh_props.specs.Printed.{word_of, value_of, property_line, lines_of, subject_lines, further_lines, number_or};
 ghost use Rattle.bh_props.specs.Shown.{settings_view};
 
 use crate::by_group::{Further, by_group};
@@ -15,7 +16,8 @@ use crate::property::Property;
 use crate::settings::Settings;
 use crate::subject::Scope;
 use crate::value::PropertyValue;
-use bh_base::{CommandProps, GroupProps};
+use bh_base::{CommandProps, GroupProps, Strategy};
+use itoa::Buffer;
 use std::fmt;
 
 /// One line for each group and property, in their orders: the group, the property's name and the value in force. Behind
@@ -153,12 +155,61 @@ fn write_lines<W: fmt::Write>(
 {
     for property in properties {
         let value = property.value_in(props, command, audit_steps);
-        write!(f, "{name} {property} {value}\n")?;
+        f.write_str(name)?;
+        f.write_str(property.between_spaces())?;
+        write_end(f, value)?;
     }
     Ok(())
 }
 
+/// Writes what ends a line: the value and the line feed.
+fn write_end<W: fmt::Write>(f: &mut fmt::Formatter<W>, value: PropertyValue) -> fmt::Result
+    ensures { WritesOnOk W.write_str_gives f.old result (word_of value ++ codes "\n") f.new }
+{
+    match value {
+        PropertyValue::Number(n) => {
+            f.write_str(Buffer::new().format(n))?;
+            f.write_str("\n")
+        }
+        PropertyValue::Truth(true) => f.write_str("true\n"),
+        PropertyValue::Truth(false) => f.write_str("false\n"),
+        PropertyValue::Strategy(Strategy::Thread) => f.write_str("THREAD\n"),
+        PropertyValue::Strategy(Strategy::Semaphore) => f.write_str("SEMAPHORE\n"),
+        PropertyValue::NoQueue => f.write_str("-1\n"),
+        PropertyValue::Absent => f.write_str("none\n"),
+    }
+}
+
 impl Property {
+    /// The property's dotted name as it stands in a line, between the group or the command and the value.
+    fn between_spaces(self) -> &'static str
+        ensures { result.now ≡ codes " " ++ (row self).name ++ codes " " }
+    {
+        match self {
+            Property::AuditSteps => " service.auditSteps ",
+            Property::Slots => " service.slots ",
+            Property::Strategy => " execution.isolation.strategy ",
+            Property::Timeout => " execution.isolation.thread.timeoutInMilliseconds ",
+            Property::TimeoutOn => " execution.timeout.enabled ",
+            Property::Semaphore => " execution.isolation.semaphore.maxConcurrentRequests ",
+            Property::FallbackPermits => " fallback.isolation.semaphore.maxConcurrentRequests ",
+            Property::FallbackOn => " fallback.enabled ",
+            Property::CircuitOn => " circuitBreaker.enabled ",
+            Property::Volume => " circuitBreaker.requestVolumeThreshold ",
+            Property::SleepWindow => " circuitBreaker.sleepWindowInMilliseconds ",
+            Property::ErrorPercent => " circuitBreaker.errorThresholdPercentage ",
+            Property::ForceOpen => " circuitBreaker.forceOpen ",
+            Property::ForceClosed => " circuitBreaker.forceClosed ",
+            Property::Window => " metrics.rollingStats.timeInMilliseconds ",
+            Property::Buckets => " metrics.rollingStats.numBuckets ",
+            Property::HealthInterval => " metrics.healthSnapshot.intervalInMilliseconds ",
+            Property::CacheOn => " requestCache.enabled ",
+            Property::CoreSize => " coreSize ",
+            Property::MaxQueue => " maxQueueSize ",
+            Property::QueueThreshold => " queueSizeRejectionThreshold ",
+        }
+    }
+
     /// The value of this property, of a group and a command with these properties in a service with this limit of
     /// audited steps.
     pub(crate) fn value_in(

@@ -6,7 +6,7 @@ ghost use Rattle.bh_props.specs.Settings.{settings_of, settings_of_named, settin
 ghost use Rattle.bh_props.specs.Names.{names_of, first_twice};
 ghost use Rattle.bh_props.specs.Shown.{settings_view};
 
-use crate::check::{check_values, check_windows};
+use crate::check::{check_types_and_ranges, check_windows};
 use crate::commands::further_commands;
 use crate::error::SettingsError;
 use crate::in_force::Sections;
@@ -14,7 +14,6 @@ use crate::names::{Names, group_names};
 use crate::service::check_service;
 use crate::settings::{Settings, audit_steps_in_force, groups_in_force};
 use crate::subject::subjects;
-use crate::value::Fault;
 use std::alloc::Global;
 use toml::Value;
 
@@ -56,8 +55,7 @@ fn read_groups(alloc: Global, root: &Value, names: &Names) -> Result<Settings, S
     let commands = further_commands(alloc, root, names)?;
     let subjects = subjects(alloc, names.texts.as_slice(), &commands)?;
     let sections = Sections::of(root);
-    check_values(&sections, Fault::WrongType, &subjects)?;
-    check_values(&sections, Fault::OutOfRange, &subjects)?;
+    check_types_and_ranges(&sections, &subjects)?;
     check_windows(&sections, &subjects)?;
     Ok(Settings {
         groups: groups_in_force(alloc, &sections, names.texts.as_slice(), &commands)?,

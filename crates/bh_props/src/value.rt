@@ -1,12 +1,10 @@
 //! What a property may be, and what it is.
 
-ghost use Rattle.std.specs.Prelude.{◌≡◌, Some};
+ghost use Rattle.std.specs.Prelude.{◌≡◌};
 ghost use Rattle.toml.specs.View.{view};
 ghost use Rattle.bh_props.specs.InForce.{within, queue_size, strategy_of, read_as};
-ghost use Rattle.bh_props.specs.Printed.{word_of};
 
 use bh_base::Strategy;
-use std::fmt;
 use toml::Value;
 
 /// What a property may be.
@@ -22,7 +20,7 @@ pub(crate) enum Kind {
     Strategy,
 }
 
-/// What a property is. Shown, it is a decimal number, `true` or `false`, or a word.
+/// What a property is.
 #[derive(Clone, Copy, Debug, PartialEq, Eq)]
 pub(crate) enum PropertyValue {
     /// A whole number.
@@ -92,20 +90,5 @@ fn strategy(word: &str) -> Result<PropertyValue, Fault>
         "THREAD" => Ok(PropertyValue::Strategy(Strategy::Thread)),
         "SEMAPHORE" => Ok(PropertyValue::Strategy(Strategy::Semaphore)),
         _ => Err(Fault::OutOfRange),
-    }
-}
-
-impl fmt::Display for PropertyValue {
-    ghost output = { λ value. Some (word_of value) };
-
-    fn fmt<W: fmt::Write>(&self, f: &mut fmt::Formatter<W>) -> fmt::Result {
-        match self {
-            PropertyValue::Number(n) => write!(f, "{n}"),
-            PropertyValue::Truth(b) => write!(f, "{b}"),
-            PropertyValue::Strategy(Strategy::Thread) => write!(f, "THREAD"),
-            PropertyValue::Strategy(Strategy::Semaphore) => write!(f, "SEMAPHORE"),
-            PropertyValue::NoQueue => write!(f, "-1"),
-            PropertyValue::Absent => write!(f, "none"),
-        }
     }
 }

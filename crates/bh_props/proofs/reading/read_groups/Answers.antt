@@ -1,4 +1,5 @@
 use Rattle.std.proofs.Common.{◌≡◌, ◌∙◌, [], All, IfSome, Ok, ap, sym, subst}
+use Rattle.std.specs.Result.{result_and}
 use Rattle.toml.specs.Data.{Data}
 use Rattle.toml.specs.View.{view}
 use Rattle.bh_base.specs.Commands.{each_from}
@@ -10,6 +11,7 @@ use Rattle.bh_props.specs.InForce.{in_force}
 use Rattle.bh_props.specs.Refusals.{checked_values, checked_windows}
 use Rattle.bh_props.specs.Settings.{IsAuditLimit, IsFurther, optional_number, group_in_force}
 use Rattle.bh_props.specs.Subjects.{subjects}
+use Rattle.bh_props.proofs.Checks.{first-passes, second-passes}
 use Rattle.bh_props.proofs.InRange.{groups-in_range, audit-in_range}
 use Rattle.bh_props.proofs.Known.{commands_of-numbered, further-known}
 use Rattle.bh_props.proofs.reading.read_groups.Goals as goal
@@ -24,12 +26,15 @@ invariant_of-result c =
     c.in_ok-subjects.ensures ∙ ap (λ names. subjects names cs) c.as_slice.ensures.keys in
     let groups : c.in_ok-groups_in_force.field-0.entries ≡ each_from 0 (group_in_force d cs) c.args.names.now.texts.keys =
     c.in_ok-groups_in_force.ensures ∙ ap (λ x. each_from 0 (group_in_force x cs) c.as_slice-2.result.now) same ∙ ap (each_from 0 (group_in_force d cs)) c.as_slice-2.ensures.keys in
-    let types : checked_values WrongType d (subjects c.args.names.now.texts.keys cs) ≡ Ok tt =
-    ap (checked_values WrongType d) (sym (c.deref.ensures.value ∙ made)) ∙ ap (λ x. checked_values WrongType x c.deref.result.now) (sym same) ∙ sym c.in_ok-check_values.ensures in
-    let ranges : checked_values OutOfRange d (subjects c.args.names.now.texts.keys cs) ≡ Ok tt =
-    ap (checked_values OutOfRange d) (sym (c.deref-2.ensures.value ∙ made)) ∙ ap (λ x. checked_values OutOfRange x c.deref-2.result.now) (sym same) ∙ sym c.in_ok-check_values-2.ensures in
+    let some = subjects c.args.names.now.texts.keys cs in
+    let passed : Ok tt ≡ result_and (checked_values WrongType d some) (checked_values OutOfRange d some) =
+    c.in_ok-check_types_and_ranges.ensures
+    ∙ (λ i. result_and (checked_values WrongType (same i) (c.deref.ensures.value i)) (checked_values OutOfRange (same i) (c.deref.ensures.value i)))
+    ∙ ap (λ xs. result_and (checked_values WrongType d xs) (checked_values OutOfRange d xs)) made in
+    let types : checked_values WrongType d some ≡ Ok tt = first-passes (checked_values WrongType d some) (checked_values OutOfRange d some) passed in
+    let ranges : checked_values OutOfRange d some ≡ Ok tt = second-passes (checked_values WrongType d some) (checked_values OutOfRange d some) passed in
     let windows : checked_windows d (subjects c.args.names.now.texts.keys cs) ≡ Ok tt =
-    ap (checked_windows d) (sym (c.deref-3.ensures.value ∙ made)) ∙ ap (λ x. checked_windows x c.deref-3.result.now) (sym same) ∙ sym c.in_ok-check_windows.ensures in
+    ap (checked_windows d) (sym (c.deref-2.ensures.value ∙ made)) ∙ ap (λ x. checked_windows x c.deref-2.result.now) (sym same) ∙ sym c.in_ok-check_windows.ensures in
     record {
       in_range = subst (All (λ group. IsInRange group.1)) (sym groups) (groups-in_range d c.args.names.now.texts.keys cs numbered.few types ranges windows);
       audit = subst (λ steps. IfSome steps IsAuditLimit) (sym (c.audit_steps_in_force.ensures ∙ ap (λ x. optional_number (in_force properties.AuditSteps [] x)) same)) (audit-in_range d);
