@@ -1,10 +1,10 @@
 -- Sixteen bytes of a text at once: where the first stands at which its plain bytes stop.
 use Rattle.std.proofs.Common.{◌≡◌, ℕ, zero, suc, ◌+◌, ◌*◌, ◌%◌, ◌^◌, ◌<◌, ◌≤◌, Bool, true, false, not, ◌&&◌, cond, eqb, ltb, List, [], ◌∷◌, map, length, drop, replicate, bit_or, Fits, w8, inl, inr, refl, sym, ap, ap₂, ◌∙◌, arith, ne_eqb}
-use Rattle.std.proofs.lemmas.Bool.{false≢true, cases_eq, and_parts}
+use Rattle.std.proofs.lemmas.Bool.{false≢true, cases_eq, and_parts, eq-eqb}
 use Rattle.std.proofs.lemmas.List.{length-map}
 use Rattle.std.proofs.lemmas.List.Folds.{prefix_len-append}
 use Rattle.std.proofs.lemmas.List.Sums.{prefix_len-le-length}
-use Rattle.std.proofs.lemmas.Simd.{zip2_splat, zip2_of_maps, mask_l-mod, chunk-drop, length-chunk, trailing_mask_l}
+use Rattle.std.proofs.lemmas.Simd.{zip2_splat, zip2_of_maps, mask_l-mod, chunk-drop, length-chunk, trailing_mask_l, leading_from_mask_l}
 use Rattle.std.specs.List.{prefix_len}
 use lib.Count.{count_trailing_zeros}
 use lib.Lanes.{Each1, zip2, chunk, mask_l, top}
@@ -73,3 +73,12 @@ stop_among d i room some =
     ap (prefix_len is_plain) (chunk-drop i 16 d) ∙ prefix_len-append is_plain c ahead
     ∙ ap (λ b. cond b (length c + prefix_len is_plain ahead) (prefix_len is_plain c)) (ne_eqb (prefix_len is_plain c) (length c) stops)
     ∙ sym (trailing_mask_l is_stop 64 c (omega (arith, length-chunk i 16 d room)) some)
+
+-- where there is no stop among sixteen bytes, the plain ones go on behind them
+pub none_among : (d : List ℕ) (i : ℕ) → i + 16 ≤ length d → mask_l (map is_stop (chunk i 16 d)) ≡ 0 → prefix_len is_plain (drop i d) ≡ 16 + prefix_len is_plain (drop (i + 16) d)
+none_among d i room none =
+    let c = chunk i 16 d in
+    let ahead = drop (i + 16) d in
+    ap (prefix_len is_plain) (chunk-drop i 16 d) ∙ prefix_len-append is_plain c ahead
+    ∙ ap (λ b. cond b (length c + prefix_len is_plain ahead) (prefix_len is_plain c)) (eq-eqb (prefix_len is_plain c) (length c) (leading_from_mask_l is_stop c none))
+    ∙ ap (λ n. n + prefix_len is_plain ahead) (length-chunk i 16 d room)

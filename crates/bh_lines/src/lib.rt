@@ -12,6 +12,7 @@ pub mod port_error;
 pub mod replies;
 pub mod script_line;
 pub mod step_line;
+mod stops;
 pub mod told;
 
 pub use fault::{Fault, put_fault};

@@ -5,9 +5,9 @@
 ghost use Rattle.std.specs.Prelude.{◌≡◌, ◌+◌, ◌*◌, ◌<◌, ◌++◌, IsTrue, length, decimal};
 ghost use Rattle.std.specs.Char.{digit_char};
 ghost use Rattle.json.specs.Print.{escape, escape_byte, escape_letter};
-ghost use Rattle.json.specs.Run.{is_stop};
 ghost use Rattle.bh_lines.specs.Puts.{Puts};
 
+use crate::stops::{is_stop, plain_end};
 use itoa::Buffer;
 use std::alloc::AllocError;
 
@@ -106,22 +106,19 @@ fn is_plain(text: &[u8]) -> bool
     !stops
 }
 
-/// Whether the byte stands in a string behind a backslash.
-#[inline(always)]
-fn is_stop(byte: u8) -> bool
-    ensures { result ≡ is_stop byte }
-{
-    (byte == b'"') | (byte == b'\\') | (byte < 32)
-}
-
-/// A text of which some byte needs an escape.
+/// A text of which some byte needs an escape: the run of plain bytes in front, and then an escape and a run at a time.
 #[cold]
 #[inline(never)]
 fn put_escaped(bytes: &mut Vec<u8>, text: &[u8]) -> Result<(), AllocError>
     ensures { Puts result bytes.old bytes.new (escape text.now) (6 * length text.now) }
 {
-    for byte in text {
-        put_escape(bytes, *byte)?;
+    let mut place = plain_end(text, 0);
+    put_bytes(bytes, &text[..place])?;
+    while place < text.len() {
+        put_escape(bytes, text[place])?;
+        let end = plain_end(text, place + 1);
+        put_bytes(bytes, &text[place + 1..end])?;
+        place = end;
     }
     Ok(())
 }

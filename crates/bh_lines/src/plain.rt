@@ -3,19 +3,16 @@
 //! Plain are texts without escapes, whole numbers of 64 bits, truth values and null, with no white space between them but
 //! spaces. A line of any other form is not refused here: nothing is said of it.
 
-ghost use Rattle.std.specs.Prelude.{◌≡◌, ◌+◌, ◌<◌, ◌≤◌, [], ◌∷◌, length, drop, map, true, Some, IfSome};
-ghost use Rattle.std.specs.List.{prefix_len};
-ghost use Rattle.std.specs.Simd.Lanes.{mask_l};
+ghost use Rattle.std.specs.Prelude.{◌≡◌, ◌+◌, ◌<◌, ◌≤◌, [], ◌∷◌, length, drop, true, Some, IfSome};
 ghost use Rattle.json.specs.Word.{ends_word};
 ghost use Rattle.json.specs.Lex.{between, lex, tokens};
-ghost use Rattle.json.specs.Run.{is_plain, is_stop};
 ghost use Rattle.serde_json.specs.Read.{read};
 ghost use Rattle.bh_lines.specs.Flat.{is_flat, flat_data};
 ghost use Rattle.bh_lines.specs.Plain.{IsTextThen, IsKeyThen, IsNumberThen, IsScalarThen, IsMemberThen};
 
 use crate::flat::{FlatMember, MOST_MEMBERS, Scalar};
+use crate::stops::plain_end;
 use arrayvec::ArrayVec;
-use std::simd::prelude::*;
 
 /// Behind a larger number one more digit may not fit.
 const MOST_TENS: u64 = (u64::MAX - 9) / 10;
@@ -191,56 +188,6 @@ fn plain_text(line: &str, place: usize) -> Option<(&str, usize)>
         return None;
     }
     Some((&line[place + 1..end], end + 1))
-}
-
-/// The place of the first quote, backslash or control byte from a place on, or the length where there is none.
-///
-/// Sixteen bytes are looked through at once, where so many are left: most texts are shorter.
-#[inline(always)]
-fn plain_end(bytes: &[u8], from: usize) -> usize
-    requires { from ≤ length bytes.now }
-    ensures value { result ≡ from + prefix_len is_plain (drop from bytes.now) }
-    ensures within { result ≤ length bytes.now }
-{
-    if bytes.len() - from >= 16 {
-        let stops = stops_in(u8x16::from_slice(&bytes[from..]));
-        if stops != 0 {
-            return from + stops.trailing_zeros() as usize;
-        }
-    }
-    plain_end_slowly(bytes, from)
-}
-
-/// The same for a long text, or one near the end of the line.
-fn plain_end_slowly(bytes: &[u8], from: usize) -> usize
-    requires { from ≤ length bytes.now }
-    ensures value { result ≡ from + prefix_len is_plain (drop from bytes.now) }
-    ensures within { result ≤ length bytes.now }
-{
-    let mut end = from;
-    while end < bytes.len() && !is_stop(bytes[end]) {
-        end += 1;
-    }
-    end
-}
-
-/// A bit for each of the bytes at which the plain bytes of a text stop.
-#[inline(always)]
-fn stops_in(bytes: u8x16) -> u64
-    ensures { result ≡ mask_l (map is_stop bytes) }
-{
-    let quotes = bytes.simd_eq(u8x16::splat(b'"'));
-    let backslashes = bytes.simd_eq(u8x16::splat(b'\\'));
-    let controls = bytes.simd_lt(u8x16::splat(b' '));
-    (quotes | backslashes | controls).to_bitmask()
-}
-
-/// Whether the plain bytes of a text stop here. Most are letters, which stand behind the backslash.
-#[inline(always)]
-fn is_stop(byte: u8) -> bool
-    ensures { result ≡ is_stop byte }
-{
-    byte <= b'\\' && (byte == b'"' || byte == b'\\' || byte < b' ')
 }
 
 /// The place behind the spaces that stand at this one.
