@@ -26,21 +26,27 @@ impl fmt::Display for Settings {
     ghost output = { λ s. Some (lines_of (settings_view s)) };
 
     fn fmt<W: fmt::Write>(&self, f: &mut fmt::Formatter<W>) -> fmt::Result {
-        let gathered = gathered(self);
+        let mut lists = None;
         let mut place = 0;
         for (name, props) in self.groups.iter() {
             write_subject(f, Scope::Group, name.as_str(), props, 0, self.audit_steps)?;
-            write_commands(f, place, props, &self.commands, &gathered, self.audit_steps)?;
+            if place == 0 {
+                lists = gathered(self);
+            }
+            write_commands(f, place, props, &self.commands, &lists, self.audit_steps)?;
             place += 1;
         }
         Ok(())
     }
 }
 
-/// The further commands by their groups, where there is memory for such lists.
+/// The further commands by their groups, where there are any, and memory for such lists.
 fn gathered(settings: &Settings) -> Option<Vec<Vec<Further>>>
     ensures { IfSome result (λ lists. AreByGroup settings.now.commands.entries lists.items) }
 {
+    if settings.commands.is_empty() {
+        return None;
+    }
     let alloc = *settings.groups.allocator();
     match by_group(alloc, settings.groups.len(), &settings.commands) {
         Ok(lists) => Some(lists),
@@ -156,57 +162,71 @@ fn write_lines<W: fmt::Write>(
     for property in properties {
         let value = property.value_in(props, command, audit_steps);
         f.write_str(name)?;
-        f.write_str(property.between_spaces())?;
+        write_between_spaces(f, property.dotted_name())?;
         write_end(f, value)?;
     }
     Ok(())
+}
+
+/// Writes the text with a space before it and one behind it.
+fn write_between_spaces<W: fmt::Write>(f: &mut fmt::Formatter<W>, text: &str) -> fmt::Result
+    ensures { WritesOnOk W.write_str_gives f.old result (codes " " ++ text.now ++ codes " ") f.new }
+{
+    f.write_str(" ")?;
+    f.write_str(text)?;
+    f.write_str(" ")
 }
 
 /// Writes what ends a line: the value and the line feed.
 fn write_end<W: fmt::Write>(f: &mut fmt::Formatter<W>, value: PropertyValue) -> fmt::Result
     ensures { WritesOnOk W.write_str_gives f.old result (word_of value ++ codes "\n") f.new }
 {
+    write_value(f, value)?;
+    f.write_str("\n")
+}
+
+/// Writes a value.
+fn write_value<W: fmt::Write>(f: &mut fmt::Formatter<W>, value: PropertyValue) -> fmt::Result
+    ensures { WritesOnOk W.write_str_gives f.old result (word_of value) f.new }
+{
     match value {
-        PropertyValue::Number(n) => {
-            f.write_str(Buffer::new().format(n))?;
-            f.write_str("\n")
-        }
-        PropertyValue::Truth(true) => f.write_str("true\n"),
-        PropertyValue::Truth(false) => f.write_str("false\n"),
-        PropertyValue::Strategy(Strategy::Thread) => f.write_str("THREAD\n"),
-        PropertyValue::Strategy(Strategy::Semaphore) => f.write_str("SEMAPHORE\n"),
-        PropertyValue::NoQueue => f.write_str("-1\n"),
-        PropertyValue::Absent => f.write_str("none\n"),
+        PropertyValue::Number(n) => f.write_str(Buffer::new().format(n)),
+        PropertyValue::Truth(true) => f.write_str("true"),
+        PropertyValue::Truth(false) => f.write_str("false"),
+        PropertyValue::Strategy(Strategy::Thread) => f.write_str("THREAD"),
+        PropertyValue::Strategy(Strategy::Semaphore) => f.write_str("SEMAPHORE"),
+        PropertyValue::NoQueue => f.write_str("-1"),
+        PropertyValue::Absent => f.write_str("none"),
     }
 }
 
 impl Property {
-    /// The property's dotted name as it stands in a line, between the group or the command and the value.
-    fn between_spaces(self) -> &'static str
-        ensures { result.now ≡ codes " " ++ (row self).name ++ codes " " }
+    /// The property's dotted name.
+    fn dotted_name(self) -> &'static str
+        ensures { result.now ≡ (row self).name }
     {
         match self {
-            Property::AuditSteps => " service.auditSteps ",
-            Property::Slots => " service.slots ",
-            Property::Strategy => " execution.isolation.strategy ",
-            Property::Timeout => " execution.isolation.thread.timeoutInMilliseconds ",
-            Property::TimeoutOn => " execution.timeout.enabled ",
-            Property::Semaphore => " execution.isolation.semaphore.maxConcurrentRequests ",
-            Property::FallbackPermits => " fallback.isolation.semaphore.maxConcurrentRequests ",
-            Property::FallbackOn => " fallback.enabled ",
-            Property::CircuitOn => " circuitBreaker.enabled ",
-            Property::Volume => " circuitBreaker.requestVolumeThreshold ",
-            Property::SleepWindow => " circuitBreaker.sleepWindowInMilliseconds ",
-            Property::ErrorPercent => " circuitBreaker.errorThresholdPercentage ",
-            Property::ForceOpen => " circuitBreaker.forceOpen ",
-            Property::ForceClosed => " circuitBreaker.forceClosed ",
-            Property::Window => " metrics.rollingStats.timeInMilliseconds ",
-            Property::Buckets => " metrics.rollingStats.numBuckets ",
-            Property::HealthInterval => " metrics.healthSnapshot.intervalInMilliseconds ",
-            Property::CacheOn => " requestCache.enabled ",
-            Property::CoreSize => " coreSize ",
-            Property::MaxQueue => " maxQueueSize ",
-            Property::QueueThreshold => " queueSizeRejectionThreshold ",
+            Property::AuditSteps => "service.auditSteps",
+            Property::Slots => "service.slots",
+            Property::Strategy => "execution.isolation.strategy",
+            Property::Timeout => "execution.isolation.thread.timeoutInMilliseconds",
+            Property::TimeoutOn => "execution.timeout.enabled",
+            Property::Semaphore => "execution.isolation.semaphore.maxConcurrentRequests",
+            Property::FallbackPermits => "fallback.isolation.semaphore.maxConcurrentRequests",
+            Property::FallbackOn => "fallback.enabled",
+            Property::CircuitOn => "circuitBreaker.enabled",
+            Property::Volume => "circuitBreaker.requestVolumeThreshold",
+            Property::SleepWindow => "circuitBreaker.sleepWindowInMilliseconds",
+            Property::ErrorPercent => "circuitBreaker.errorThresholdPercentage",
+            Property::ForceOpen => "circuitBreaker.forceOpen",
+            Property::ForceClosed => "circuitBreaker.forceClosed",
+            Property::Window => "metrics.rollingStats.timeInMilliseconds",
+            Property::Buckets => "metrics.rollingStats.numBuckets",
+            Property::HealthInterval => "metrics.healthSnapshot.intervalInMilliseconds",
+            Property::CacheOn => "requestCache.enabled",
+            Property::CoreSize => "coreSize",
+            Property::MaxQueue => "maxQueueSize",
+            Property::QueueThreshold => "queueSizeRejectionThreshold",
         }
     }
 

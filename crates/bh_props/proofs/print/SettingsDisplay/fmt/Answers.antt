@@ -1,12 +1,14 @@
-use Rattle.std.proofs.Common.{◌≡◌, ◌<◌, ◌+◌, ℕ, List, [], ◌∷◌, ◌++◌, ◌∙◌, map, length, slice_index, get_or, sym, ap, subst, arith, append_assoc, length-append, refl, rules}
+use Rattle.std.proofs.Common.{◌≡◌, ◌<◌, ◌+◌, ℕ, List, [], ◌∷◌, ◌++◌, ◌∙◌, map, length, slice_index, get_or, IfSome, sym, ap, subst, arith, append_assoc, length-append, refl, rules}
 use Rattle.std.proofs.Output.{has_written_append, has_written_of_eq}
 use Rattle.std.proofs.lemmas.Grind.{common_steps}
 use Rattle.bh_base.specs.Commands.{command_count}
 use Rattle.bh_base.specs.Props.{GroupProps}
+use Rattle.bh_props.specs.ByGroup.{AreByGroup}
 use Rattle.bh_props.specs.Printed.{group_lines}
 use Rattle.bh_props.specs.Shown.{settings_view}
 use Rattle.bh_props.proofs.Each.{rows-next, index-behind}
 use Rattle.bh_props.proofs.print.SettingsDisplay.fmt.Goals as goal
+use Rattle.bh_props.proofs.print.SettingsDisplay.fmt.Goals.{then-place-eq0, else-place-eq0}
 
 grown : (done : List (List ℕ × GroupProps)) (e : List ℕ × GroupProps) (place : ℕ) → place ≡ length done → place + 1 ≡ length (done ++ e ∷ [])
 grown done e place at = omega (arith, length-append done (e ∷ []))
@@ -35,7 +37,10 @@ loop-name-preserved g c =
       done ++ e ∷ [],
       whole ∙ ap (λ t. done ++ t) iter ∙ sym (append_assoc done (e ∷ []) c.next.new.self),
       grown done e c.loop-name.place at,
-      gathered,
+      elim c.if-place-eq0.branch [
+        | then-place-eq0 w ↦ subst (λ o. IfSome o (λ lists. AreByGroup c.args.self.now.commands.entries lists.items)) (sym w.lists-is) w.gathered-lists.ensures
+        | else-place-eq0 w ↦ subst (λ o. IfSome o (λ lists. AreByGroup c.args.self.now.commands.entries lists.items)) (sym w.lists-is) gathered
+      ],
       λ plain.
           let first = rw c.as_str.ensures.text at own (written plain).plain (search rules) in
           has_written_of_eq _ _ _ _ _ (rows-next (group_lines (settings_view c.args.self.now)) done e c.loop-name.place _ _ at refl)

@@ -11,6 +11,6 @@ use Rattle.bh_props.proofs.print.SettingsDisplay.fmt.Given as goal
 abbrev pub invariant-loop-name : goal.invariant-loop-name
 invariant-loop-name g l =
     (done : List (List ℕ × GroupProps)) × (l.self.groups.entries ≡ done ++ l.name-iterator) × (l.place ≡ length done)
-    × IfSome l.gathered (λ lists. AreByGroup l.self.commands.entries lists.items)
+    × IfSome l.lists (λ lists. AreByGroup l.self.commands.entries lists.items)
     × (IsPlainFormatter l.initial.f
     → HasWritten g.W.Write.write_str_gives l.initial.f (flat_map (λ lines. lines) (each_from 0 (group_lines (settings_view l.self)) done)) l.f)
