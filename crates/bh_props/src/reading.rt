@@ -6,6 +6,7 @@ ghost use Rattle.bh_props.specs.Settings.{settings_of, settings_of_named, settin
 ghost use Rattle.bh_props.specs.Names.{names_of, first_twice};
 ghost use Rattle.bh_props.specs.Shown.{settings_view};
 
+use crate::by_group::by_group;
 use crate::check::{check_types_and_ranges, check_windows};
 use crate::commands::further_commands;
 use crate::error::SettingsError;
@@ -53,12 +54,13 @@ fn read_groups(alloc: Global, root: &Value, names: &Names) -> Result<Settings, S
 {
     check_service(root, names)?;
     let commands = further_commands(alloc, root, names)?;
-    let subjects = subjects(alloc, names.texts.as_slice(), &commands)?;
+    let further = by_group(alloc, names.texts.len(), &commands)?;
+    let subjects = subjects(alloc, names.texts.as_slice(), &further)?;
     let sections = Sections::of(root);
     check_types_and_ranges(&sections, &subjects)?;
     check_windows(&sections, &subjects)?;
     Ok(Settings {
-        groups: groups_in_force(alloc, &sections, names.texts.as_slice(), &commands)?,
+        groups: groups_in_force(alloc, &sections, names.texts.as_slice(), &further)?,
         audit_steps: audit_steps_in_force(&sections),
         commands,
     })

@@ -5,13 +5,14 @@ ghost use Rattle.std.proofs.Props.{props};
 ghost use Rattle.toml.specs.View.{view};
 ghost use Rattle.bh_base.specs.Commands.{each_from};
 ghost use Rattle.bh_base.specs.Ranges.{IsInRange, IsQueueLength-prop};
+ghost use Rattle.bh_props.specs.Commands.{Commands};
+ghost use Rattle.bh_props.specs.ByGroup.{AreByGroup};
 ghost use Rattle.bh_props.specs.InForce.{in_force};
 ghost use Rattle.bh_props.specs.Found.{AreFound, IsFound};
 ghost use Rattle.bh_props.specs.Names.{first_twice};
 ghost use Rattle.bh_props.specs.Settings.{IsAuditLimit, IsFurther, truth, strategy, optional_number, props_of, command_in_force, group_in_force};
 
-use crate::by_group::{Further, by_group};
-use crate::commands::Commands;
+use crate::by_group::Further;
 use crate::in_force::{Given, Sections};
 use crate::property::Property;
 use crate::value::PropertyValue;
@@ -38,20 +39,20 @@ pub struct Settings {
     pub ghost known_commands: { All (λ command. IsFurther groups.entries command.1) commands.entries } by { Prim.hlevel props },
 }
 
-/// The groups in listed order, each with its properties in force.
+/// The groups in listed order, each with its properties in force. The further commands stand by groups.
 pub(crate) fn groups_in_force(
     alloc: Global,
     sections: &Sections,
     names: &[Text<32>],
-    commands: &Commands,
+    further: &[Vec<Further>],
 ) -> Result<IndexMap<Text<32>, GroupProps>, AllocError>
     requires found { AreFound sections.now }
     requires distinct { first_twice [] 1 names.now ≡ None }
     requires few { length names.now ≤ 1000 }
-    ensures { IfOk result (λ groups.
-        groups.entries ≡ each_from 0 (group_in_force (view sections.now.root.now) commands.now.entries) names.now) }
+    requires groups { length further.now ≡ length names.now }
+    ensures { IfOk result (λ groups. (commands : Commands) → AreByGroup commands further.now
+        → groups.entries ≡ each_from 0 (group_in_force (view sections.now.root.now) commands) names.now) }
 {
-    let further = by_group(alloc, names.len(), commands)?;
     let mut groups = IndexMap::new(alloc);
     for (place, name) in names.iter().enumerate() {
         let own = commands_in_force(alloc, sections, name.as_str(), &further[place])?;

@@ -1,10 +1,11 @@
 //! Whose properties are checked and shown: each group, and behind it its further commands.
 
 ghost use Rattle.std.specs.Prelude.{◌≡◌, ◌≤◌, ◌^◌, ◌++◌, length, map, IfOk, OnOk};
+ghost use Rattle.bh_props.specs.Commands.{Commands};
+ghost use Rattle.bh_props.specs.ByGroup.{AreByGroup};
 ghost use Rattle.bh_props.specs.Subjects.{properties_of, a_group, a_command, subjects};
 
-use crate::by_group::{Further, by_group};
-use crate::commands::Commands;
+use crate::by_group::Further;
 use crate::property::Property;
 use bh_base::Text;
 use std::alloc::{AllocError, Global};
@@ -39,15 +40,15 @@ pub(crate) struct Subject {
     pub(crate) scope: Scope,
 }
 
-/// The groups in listed order, each with its further commands behind it.
+/// The groups in listed order, each with its further commands, which stand by groups, behind it.
 pub(crate) fn subjects(
     alloc: Global,
     names: &[Text<32>],
-    commands: &Commands,
+    further: &[Vec<Further>],
 ) -> Result<Vec<Subject>, AllocError>
-    ensures { IfOk result (λ made. made.items ≡ subjects names.now commands.now.entries) }
+    requires { length further.now ≡ length names.now }
+    ensures { IfOk result (λ made. (commands : Commands) → AreByGroup commands further.now → made.items ≡ subjects names.now commands) }
 {
-    let further = by_group(alloc, names.len(), commands)?;
     let mut subjects = Vec::new(alloc);
     for (place, name) in names.iter().enumerate() {
         subjects.push(Subject {

@@ -17,13 +17,13 @@ props-made d cs place name s t own made same_s same_t are is =
     ∙ ap (λ some. props_of some (λ p. in_force p name d)) (are ∙ ap (commands_in_force d cs place) same_s)
 
 pub loop-place-preserved : goal.loop-place-preserved
-loop-place-preserved c =
+loop-place-preserved c = λ commands by_group.
     let d : Data = view c.args.sections.now.root.now in
-    let further = list-at c.args.commands.now.entries c.in_ok-further.further.items (length c.args.names.now) c.loop-place.place c.index.result.now c.deref.result.now
-    c.in_ok-further.ensures.further c.in_ok-further.ensures.groups c.loop-place-test.true c.index.ensures c.deref.ensures.value in
-    insert_entry-next (props_in_force d c.args.commands.now.entries) _ _ _ _ _ _ c.requires.distinct c.loop-place-test.true c.index-names-place.is
-    c.loop-place.invariant
-    (props-made d c.args.commands.now.entries c.loop-place.place _ _ _ _ _ c.as_str.ensures.text c.as_str-in-loop-place.ensures.text
+    let further = list-at commands c.args.further.now (length c.args.names.now) c.loop-place.place _ c.deref.result.now
+    by_group c.requires.groups c.loop-place-test.true c.index-further-place.is c.deref.ensures.value in
+    insert_entry-next (props_in_force d commands) _ _ _ _ _ _ c.requires.distinct c.loop-place-test.true c.index-names-place.is
+    (c.loop-place.invariant commands by_group)
+    (props-made d commands c.loop-place.place _ _ _ _ _ c.as_str.ensures.text c.as_str-in-loop-place.ensures.text
     (c.in_ok-own.ensures ∙ ap (λ (some : Commands). command_in_force d c.as_str.result.now ∷ map (λ x. command_in_force d x.0) some) further)
     c.props_in_force.ensures)
     c.in_ok-insert.ensures.entries
