@@ -63,7 +63,8 @@ is_right() {
 }
 
 # Each allocation of a command line in turn: the name, the right status, the input, and the arguments. A list of the
-# arguments that is refused its room at once is made all the same, by asking again.
+# arguments that is refused its room at once is made all the same, by asking again, and settings are shown all the same
+# where a list of their further commands is refused.
 each_allocation() {
     local name=$1 right_status=$2 input=$3 status nth again=0
     shift 3

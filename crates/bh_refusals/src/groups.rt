@@ -1,6 +1,6 @@
 //! Settings, and the groups of a core.
 
-use crate::refusing::{MANY, assert_told, give_up, refuse};
+use crate::refusing::{MANY, assert_told, give_up, none_refused, refuse};
 use crate::worked::{assert_new, props_of_two, replies, steps, two_groups};
 use bh_base::{CommandProps, GroupId};
 use bh_core::{Act, Core, Outcome, RegisterError};
@@ -32,6 +32,27 @@ fn settings_are_read_or_not(rt: HostRuntime) {
                 return;
             }
             Err(error) => assert_eq!(rt; error, SettingsError::Memory),
+        }
+    }
+    give_up(&rt);
+}
+
+/// One group has a further command, and one has none. Where there is no room for lists of the further commands, the
+/// lines are written without, so that such a refusal is passed over.
+#[test]
+fn settings_are_shown_or_not(rt: HostRuntime) {
+    let settings = read(rt.alloc(), EXAMPLE).expect(&rt, "settings");
+    let right = settings.to_string(rt.alloc()).expect(&rt, "memory");
+    for nth in 1..MANY {
+        refuse(rt.alloc(), nth);
+        let told = settings.to_string(rt.alloc());
+        let none_refused = none_refused(rt.alloc(), nth);
+        match told {
+            Ok(shown) => assert_eq!(rt; shown.as_str(), right.as_str()),
+            Err(_) => assert!(rt; !none_refused, "allocation {nth}"),
+        }
+        if none_refused {
+            return;
         }
     }
     give_up(&rt);

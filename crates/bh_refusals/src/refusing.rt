@@ -34,11 +34,15 @@ fn still_stands(alloc: Global, nth: usize) -> bool {
     (0..nth).any(|_| !is_given(alloc, 1))
 }
 
+/// Whether no allocation was refused in a call whose nth was to be.
+pub(crate) fn none_refused(alloc: Global, nth: usize) -> bool {
+    still_stands(alloc, nth) || !follows_orders(alloc)
+}
+
 /// Asserts that a call whose nth allocation was to be refused succeeded exactly where no allocation was refused in it:
 /// that no refusal is passed over, and no want of memory made up.
 pub(crate) fn assert_told<R: Abort + AllocGlobal>(rt: &R, nth: usize, success: bool) {
-    let none_refused = still_stands(rt.alloc(), nth) || !follows_orders(rt.alloc());
-    assert_eq!(rt; success, none_refused, "allocation {nth}");
+    assert_eq!(rt; success, none_refused(rt.alloc(), nth), "allocation {nth}");
 }
 
 /// Ends a test whose call did not succeed in that many turns.
