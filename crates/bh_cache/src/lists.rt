@@ -1,7 +1,7 @@
 //! The lists of a group in the arena that holds the tickets of all groups.
 
 /// The numbers of one group's lists in each family of the arena: the first has its tickets by state, the second by
-/// serial, and the third by cache name. Of sixteen chains it has the number of the first, on which the others follow.
+/// serial, and the third by cache name. Of chains it has the number of the first, on which the others follow.
 #[derive(Clone, Copy, Debug)]
 pub struct GroupLists {
     /// Slots that have no ticket.
@@ -16,10 +16,11 @@ pub struct GroupLists {
     pub serials: usize,
     /// Of the second family: slots that have no ticket.
     pub free1: usize,
-    /// Of the third family: sixteen chains of cached tickets, by request context and cache key.
+    /// Of the third family: chains of cached tickets, by request context and cache key: sixteen, or in `bh_chains` as many
+    /// as go up to `uncached`.
     pub names: usize,
     /// Of the third family: tickets that are not cached.
     pub uncached: usize,
-    /// Of the third family: slots that have no ticket.
+    /// Of the third family: slots that have no ticket; in `bh_chains` the same list as `uncached`.
     pub free2: usize,
 }

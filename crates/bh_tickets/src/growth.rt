@@ -17,12 +17,18 @@ pub fn new_arena(alloc: Global, limit: u32) -> Arena<Ticket, 3>
     Arena::new(alloc, limit)
 }
 
-/// How many chains by cache name a group with so many slots has: one for every four slots, sixteen at least.
+/// How many chains by cache name a group with so many slots has: from 256 slots on a quarter of the slots, or down to a
+/// sixteenth, in one of three sizes, so that the places of retired groups fit others.
 pub fn chains_for(slots: u64) -> usize
     ensures some { 0 < result }
     ensures few { result < 2 ^ 63 }
 {
-    16 + (slots / 64 * 16) as usize
+    match slots {
+        0..=255 => 16,
+        256..=1023 => 64,
+        1024..=4095 => 256,
+        _ => 1024,
+    }
 }
 
 /// The lists of a new group, which are empty, with so many chains by cache name. In the third family slots without a

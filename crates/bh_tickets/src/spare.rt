@@ -63,8 +63,8 @@ fn spare_lists(
     Ok(lists)
 }
 
-/// A place for a group, with lists and no slot: one that a retired group left, with the lists that it has, else a new one
-/// behind the others, with lists for so many slots. Refused, the arena may have some empty lists more.
+/// A place for a group, with lists for so many slots and no slot: one that a retired group with as many lists left, else a
+/// new one behind the others. Refused, the arena may have some empty lists more.
 pub fn take_place(
     arena: &mut Arena<Ticket, 3>,
     groups: &mut Vec<GroupSlots>,
@@ -73,22 +73,25 @@ pub fn take_place(
     ensures ok { IfOk result (λ place. GetsPlace place arena.old groups.old.items arena.new groups.new.items) }
     ensures err { OnErr result (StaysWhole arena.old groups.old.items arena.new groups.new.items) }
 {
-    if let Some(place) = left_place(groups) {
+    let chains = chains_for(slots);
+    if let Some(place) = left_place(groups, chains) {
         return Ok(place);
     }
     groups.reserve(1)?;
-    let lists = add_lists(arena, chains_for(slots))?;
+    let lists = add_lists(arena, chains)?;
     let place = groups.len();
     groups.push_reserved(GroupSlots::new(lists, 0));
     Ok(place)
 }
 
-/// A place whose group has no slot.
-fn left_place(groups: &[GroupSlots]) -> Option<usize>
+/// A place whose group has no slot, and so many chains by cache name: a group that needs few is not to pay for the many
+/// of one before it, nor to take them from the next one that needs them.
+fn left_place(groups: &[GroupSlots], chains: usize) -> Option<usize>
     ensures { IfSome result (λ place. IsLeft place groups.now) }
 {
     for (place, group) in groups.iter().enumerate() {
-        if has_no_slots(group) {
+        let lists = group.lists;
+        if lists.names.saturating_add(chains) == lists.uncached && has_no_slots(group) {
             return Some(place);
         }
     }

@@ -22,4 +22,4 @@ returns-clause-ok c =
     let size : c.len-place.result ≡ length c.reserve.new.self.items = search rules in
     let place : c.len-place.result ≡ length ss = size ∙ ap (λ (xs : List GroupSlots). length xs) c.reserve.ensures.items in
     subst (λ k. GetsPlace k a ss b c.push_reserved.new.self.items) (sym place)
-    (subst (λ (xs : List GroupSlots). GetsPlace (length ss) a ss b xs) (sym items) (new_gets c.chains_for.result c.chains_for.ensures.some a b g ss c.in_ok-lists.ensures.ok c.in_ok-lists.ensures.lists))
+    (subst (λ (xs : List GroupSlots). GetsPlace (length ss) a ss b xs) (sym items) (new_gets c.chains_for-chains.result c.chains_for-chains.ensures.some a b g ss c.in_ok-lists.ensures.ok c.in_ok-lists.ensures.lists))
