@@ -167,6 +167,17 @@ released_few a s few b r group is released = released_is a s b r group change re
     at y true e = refl
     at y false e = kept_same (ticket_at a s.lists y) (λ t f. other y t e f)
 
+-- where no slot is noted, each ticket is needed
+pub released_empty : (a : Slots) (s : GroupSlots) → IsArena a 0 → IsGroupSlots a s → ((x : ℕ) → is_noted s.needless x ≡ false) → IsReleased a s a s
+released_empty a s arena group empty = record {
+  change = change_none a s arena group;
+  next = refl;
+  items = listed_filter is_kept (ticket_at a s.lists) (ticket_at a s.lists) (length a.payloads) group.arranged.distinct (λ x lt. kept x ∙ as_filter (ticket_at a s.lists x));
+}
+  where
+    kept : (x : ℕ) → ticket_at a s.lists x ≡ if_kept (ticket_at a s.lists x)
+    kept x = kept_same (ticket_at a s.lists x) (λ t e. keeps_unless (is_kept t) (λ k. let z : true ≡ false = sym (group.needed x t e k) ∙ empty x in cc))
+
 -- no slot is released
 pub released_nothing : (a : Slots) (s : GroupSlots) → IsArena a 0 → IsGroupSlots a s → IsReleasedFrom [] a s a s
 released_nothing a s arena group = record {

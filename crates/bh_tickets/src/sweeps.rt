@@ -1,8 +1,9 @@
 //! Walks along all of a group's tickets, which may move the ticket at hand to another list.
 
-ghost use Rattle.std.specs.Prelude.{◌≡◌, ◌≢◌, ◌<◌, [], ◌∷◌, true};
+ghost use Rattle.std.specs.Prelude.{◌≡◌, ◌≢◌, ◌<◌, ℕ, [], ◌∷◌, false, true};
 ghost use Rattle.bh_slot_arena.specs.Slots.{slots_on};
 ghost use Rattle.bh_cache.specs.Slots.{IsArena, is_live_list};
+ghost use Rattle.bh_chains.specs.Notes.{is_noted};
 ghost use Rattle.bh_tickets.specs.GroupSlots.{IsGroupSlots, IsReleased, IsRising};
 ghost use Rattle.bh_tickets.specs.Sweeps.{IsReleasedFrom, IsSinceFrom, IsTimedFrom, IsTimedOut};
 
@@ -51,9 +52,22 @@ pub fn release(arena: &mut Arena<Ticket, 3>, group: &mut GroupSlots)
     requires group { IsGroupSlots arena.old group.old }
     ensures { IsReleased arena.old group.old arena.new group.new }
 {
+    if is_nothing(&group.needless) {
+        return;
+    }
     match group.needless {
         Noted::Few(few) => release_few(arena, group, &few),
         Noted::Many => release_all(arena, group),
+    }
+}
+
+/// Whether no slot is noted, as after most steps.
+fn is_nothing(notes: &Noted) -> bool
+    ensures { result ≡ true → (slot : ℕ) → is_noted notes.now slot ≡ false }
+{
+    match notes {
+        Noted::Few(few) => few.count == 0,
+        Noted::Many => false,
     }
 }
 
