@@ -1,6 +1,7 @@
 pub mod Lists
 pub mod Naming
 pub mod Opening
+pub mod FoundFrom
 pub mod Keeping
 pub mod Showing
 pub mod TextLaws

@@ -4,3 +4,4 @@ pub mod Course
 pub mod Text
 pub mod Kept
 pub mod Script
+pub mod CommandPlaces

@@ -1,18 +1,20 @@
 //! What a line asks of the groups of a run, and what it is told.
 
-ghost use Rattle.std.specs.Prelude.{◌≡◌, Err, IfOk, MatchResult, Ok, OnErr, OnOk, option_copied};
+ghost use Rattle.std.specs.Prelude.{◌≡◌, Err, IfOk, IfSome, MatchResult, Ok, OnErr, OnOk, option_copied};
 ghost use Rattle.bh_lines.specs.declared.told.Told.TheVariants as told;
 ghost use Rattle.bh_lines.specs.Flat.{members_data};
 ghost use Rattle.bh_lines.specs.ScriptLine.{asked_at};
 ghost use Rattle.bh_props.specs.SettingsView.{SettingsView};
 ghost use Rattle.bh_props.specs.Shown.{settings_view};
 ghost use Rattle.bh_port.specs.declared.act.LineAct.TheVariants as act;
+ghost use Rattle.bh_port.specs.CommandPlaces.{AreCommandPlaces};
 ghost use Rattle.bh_port.specs.Course.{Course, IsActOf, act_asked, is_free, line_act, registration, retirement};
 ghost use Rattle.bh_port.specs.Script.{GroupsShow};
 ghost use Rattle.bh_port.specs.Text.{told_by, with_act};
 
 use crate::commands::{assigned_command, further_command};
 use crate::groups::Groups;
+use crate::places::CommandPlaces;
 use crate::steps::{group_number, tell_step};
 use bh_base::{GroupId, Reply, Step, Text};
 use bh_core::MOST_GROUPS;
@@ -148,7 +150,7 @@ impl Groups {
         match act {
             LineAct::Step(step) => {
                 let mut reply = Reply::NoGroup;
-                let command = self.make_step(settings, step, &mut reply);
+                let command = self.make_step(settings, None, step, &mut reply);
                 let command = command.copied();
                 Ok(Told::Reply { reply, command })
             }
@@ -171,16 +173,18 @@ impl Groups {
     pub(crate) fn make_step<'a>(
         &mut self,
         settings: &'a Settings,
+        places: Option<&CommandPlaces>,
         step: &Step,
         reply: &mut Reply,
     ) -> Option<&'a Text<32>>
-        requires { IsActOf (settings_view settings.now) self.old.entries (act.Step step.now) }
+        requires act { IsActOf (settings_view settings.now) self.old.entries (act.Step step.now) }
+        requires places { IfSome places (λ places. AreCommandPlaces (settings_view settings.now).commands places.now) }
         ensures told { (before : Course) → GroupsShow (settings_view settings.now) self.old before →
             told.Reply reply.new (option_copied result) ≡ told_by (settings_view settings.now) before (act.Step step.entry.now) }
         ensures agrees { (before : Course) → GroupsShow (settings_view settings.now) self.old before →
             GroupsShow (settings_view settings.now) self.new (with_act (settings_view settings.now) before (act.Step step.entry.now)) }
     {
         self.apply_to(step.group, step.now, &step.op, reply);
-        assigned_command(settings, self, step.group, reply)
+        assigned_command(settings, places, self, step.group, reply)
     }
 }

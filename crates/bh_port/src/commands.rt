@@ -1,13 +1,15 @@
 //! The commands of the groups, by name and by number.
 
-ghost use Rattle.std.specs.Prelude.{◌≡◌, find, option_map, option_copied};
+ghost use Rattle.std.specs.Prelude.{◌≡◌, IfSome, find, option_map, option_copied};
 ghost use Rattle.std.specs.Str.{bytes_eq};
 ghost use Rattle.bh_lines.specs.Names.{command_number, command_name, further_number, is_own_name};
 ghost use Rattle.bh_props.specs.Shown.{settings_view};
+ghost use Rattle.bh_port.specs.CommandPlaces.{AreCommandPlaces};
 ghost use Rattle.bh_port.specs.Course.{command_at, command_of, names_in};
 ghost use Rattle.bh_port.specs.Text.{told_name};
 
 use crate::groups::{Entry, Groups};
+use crate::places::CommandPlaces;
 use bh_base::{GroupId, Reply, Text};
 use bh_props::Settings;
 use indexmap::IndexMap;
@@ -79,24 +81,43 @@ pub fn told_command(
 ) -> Option<Text<32>>
     ensures { result ≡ told_name (settings_view settings.now) groups.now.entries group.0 reply.now }
 {
-    assigned_command(settings, groups, group, reply).copied()
+    assigned_command(settings, None, groups, group, reply).copied()
 }
 
-/// The same name where the settings have it, so that it can be told without a copy.
+/// The same name where the settings have it, so that it can be told without a copy. It takes no walk along the commands
+/// where their places are known.
 pub(crate) fn assigned_command<'a>(
     settings: &'a Settings,
+    places: Option<&CommandPlaces>,
     groups: &Groups,
     group: GroupId,
     reply: &Reply,
 ) -> Option<&'a Text<32>>
+    requires { IfSome places (λ places. AreCommandPlaces (settings_view settings.now).commands places.now) }
     ensures { option_copied result ≡ told_name (settings_view settings.now) groups.now.entries group.0 reply.now }
 {
     match reply {
         Reply::Assigned { command, .. } => {
             let entry = groups.entry(group)?;
-            command_name(settings, GroupId(entry.like), *command)
+            listed_name(settings, places, GroupId(entry.like), *command)
         }
         _ => None,
+    }
+}
+
+/// The name of the further command of the number in the group of the settings, as `command_name` tells it.
+fn listed_name<'a>(
+    settings: &'a Settings,
+    places: Option<&CommandPlaces>,
+    group: GroupId,
+    command: u8,
+) -> Option<&'a Text<32>>
+    requires { IfSome places (λ places. AreCommandPlaces (settings_view settings.now).commands places.now) }
+    ensures { option_copied result ≡ command_name (names_in (settings_view settings.now)) group.0 command }
+{
+    match places {
+        Some(places) => places.name(settings, group, command),
+        None => command_name(settings, group, command),
     }
 }
 

@@ -5,6 +5,7 @@
 pub mod act;
 pub mod commands;
 pub mod groups;
+mod places;
 pub mod reader;
 mod run;
 pub mod script;

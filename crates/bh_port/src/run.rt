@@ -7,12 +7,14 @@ ghost use Rattle.bh_lines.specs.Taken.{IsMemoryOrLine};
 ghost use Rattle.bh_lines.specs.FaultLine.{fault_line};
 ghost use Rattle.bh_lines.specs.ToldLine.{told_line};
 ghost use Rattle.bh_streams.specs.Watched.{writer_of, bytes_held, OneRefused, NoneRefused};
+ghost use Rattle.bh_port.specs.CommandPlaces.{AreCommandPlaces};
 ghost use Rattle.bh_port.specs.Course.{Course, IsActOf};
 ghost use Rattle.bh_port.specs.Text.{told_by, with_act};
 ghost use Rattle.bh_port.specs.Script.{GroupsShow, AnswersLine, ScriptAnswered, ScriptOutcome, IsNotRead};
 
 use crate::act::{LineAct, line_act};
 use crate::groups::Groups;
+use crate::places::CommandPlaces;
 use bh_base::Reply;
 use bh_lines::{Fault, PortError, end_line, front_line, put_fault, put_reply, put_told};
 use bh_props::Settings;
@@ -41,9 +43,11 @@ impl Run {
     pub fn write_answers<W: Write>(
         &mut self,
         settings: &Settings,
+        places: &CommandPlaces,
         buffer: &mut BytesMut,
         writer: &mut WatchedWriter<'_, W>,
     ) -> Result<(), PortError>
+        requires { AreCommandPlaces (settings_view settings.now).commands places.now }
         ensures answered { OnOk result ((before : Course) → GroupsShow (settings_view settings.now) self.old.groups before →
             ScriptAnswered (bytes_held W.contents writer.old) (bytes_held W.contents writer.new) (settings_view settings.now) before self.new.groups buffer.old.items buffer.new.items) }
         ensures none_left { OnOk result (has_line buffer.new.items ≡ false) }
@@ -55,7 +59,7 @@ impl Run {
             ScriptOutcome (bytes_held W.contents writer.old) (bytes_held W.contents writer.new) (settings_view settings.now) before (cut (buffer.old.items ++ more)) (Err e)) }
     {
         self.out.clear();
-        let answered = self.answer_lines(settings, buffer.as_slice());
+        let answered = self.answer_lines(settings, places, buffer.as_slice());
         write(writer, self.out.as_slice())?;
         let taken = answered?;
         buffer.advance(taken);
@@ -66,10 +70,12 @@ impl Run {
     pub fn write_last<W: Write>(
         &mut self,
         settings: &Settings,
+        places: &CommandPlaces,
         rest: &[u8],
         writer: &mut WatchedWriter<'_, W>,
     ) -> Result<(), PortError>
-        requires { has_line rest.now ≡ false }
+        requires places { AreCommandPlaces (settings_view settings.now).commands places.now }
+        requires last { has_line rest.now ≡ false }
         ensures no_read { IfErr result IsNotRead }
         ensures same_writer { (writer_of writer.new).ghost_name ≡ (writer_of writer.old).ghost_name }
         ensures refused { result ≡ Err PortError.Write → OneRefused writer.old writer.new }
@@ -78,14 +84,20 @@ impl Run {
             ScriptOutcome (bytes_held W.contents writer.old) (bytes_held W.contents writer.new) (settings_view settings.now) before (cut rest.now) result }
     {
         self.out.clear();
-        let answered = self.answer_last(settings, rest);
+        let answered = self.answer_last(settings, places, rest);
         write(writer, self.out.as_slice())?;
         answered
     }
 
     /// Answers each line of the bytes that has ended, behind what is to be written, and tells how many of the bytes these
     /// lines take.
-    fn answer_lines(&mut self, settings: &Settings, bytes: &[u8]) -> Result<usize, PortError>
+    fn answer_lines(
+        &mut self,
+        settings: &Settings,
+        places: &CommandPlaces,
+        bytes: &[u8],
+    ) -> Result<usize, PortError>
+        requires { AreCommandPlaces (settings_view settings.now).commands places.now }
         ensures within { IfOk result (λ taken. taken ≤ length bytes.now) }
         ensures answered { IfOk result (λ taken. (before : Course) → GroupsShow (settings_view settings.now) self.old.groups before →
             ScriptAnswered (Some self.old.out.items) (Some self.new.out.items) (settings_view settings.now) before self.new.groups bytes.now (drop taken bytes.now)) }
@@ -96,15 +108,21 @@ impl Run {
     {
         let mut taken = 0;
         'lines: while let Some(line) = front_line(&bytes[taken..])? {
-            self.answer_line(settings, line.text)?;
+            self.answer_line(settings, places, line.text)?;
             taken += line.taken;
         }
         Ok(taken)
     }
 
     /// Answers the line at the end of the input that no line feed ended, if any.
-    fn answer_last(&mut self, settings: &Settings, rest: &[u8]) -> Result<(), PortError>
-        requires { has_line rest.now ≡ false }
+    fn answer_last(
+        &mut self,
+        settings: &Settings,
+        places: &CommandPlaces,
+        rest: &[u8],
+    ) -> Result<(), PortError>
+        requires places { AreCommandPlaces (settings_view settings.now).commands places.now }
+        requires last { has_line rest.now ≡ false }
         ensures kinds { IfErr result IsMemoryOrLine }
         ensures outcome { (before : Course) → GroupsShow (settings_view settings.now) self.old.groups before →
             ScriptOutcome (Some self.old.out.items) (Some self.new.out.items) (settings_view settings.now) before (cut rest.now) result }
@@ -112,12 +130,18 @@ impl Run {
         let Some(line) = end_line(rest)? else {
             return Ok(());
         };
-        self.answer_line(settings, line)?;
+        self.answer_line(settings, places, line)?;
         Ok(())
     }
 
     /// Answers a line, behind what is to be written.
-    fn answer_line(&mut self, settings: &Settings, line: &str) -> Result<(), AllocError>
+    fn answer_line(
+        &mut self,
+        settings: &Settings,
+        places: &CommandPlaces,
+        line: &str,
+    ) -> Result<(), AllocError>
+        requires { AreCommandPlaces (settings_view settings.now).commands places.now }
         ensures answers { OnOk result ((before : Course) → GroupsShow (settings_view settings.now) self.old.groups before →
             AnswersLine (settings_view settings.now) before line.now self.new.groups self.old.out.items self.new.out.items) }
         ensures kept { OnErr result (self.new.out.items ≡ self.old.out.items) }
@@ -131,14 +155,15 @@ impl Run {
             &mut self.act,
         )?;
         match said {
-            Ok(()) => self.answer_act(settings),
+            Ok(()) => self.answer_act(settings, places),
             Err(fault) => self.answer_fault(fault),
         }
     }
 
     /// Does what the last line asked for, and puts the line of what is told behind what is to be written.
-    fn answer_act(&mut self, settings: &Settings) -> Result<(), AllocError>
-        requires { IsActOf (settings_view settings.now) self.old.groups.entries self.old.act }
+    fn answer_act(&mut self, settings: &Settings, places: &CommandPlaces) -> Result<(), AllocError>
+        requires act { IsActOf (settings_view settings.now) self.old.groups.entries self.old.act }
+        requires places { AreCommandPlaces (settings_view settings.now).commands places.now }
         ensures wrote { OnOk result ((before : Course) → GroupsShow (settings_view settings.now) self.old.groups before →
             self.new.out.items ≡ self.old.out.items ++ told_line (told_by (settings_view settings.now) before self.old.act)) }
         ensures agrees { OnOk result ((before : Course) → GroupsShow (settings_view settings.now) self.old.groups before →
@@ -146,7 +171,9 @@ impl Run {
         ensures kept { OnErr result (self.new.out.items ≡ self.old.out.items) }
     {
         if let LineAct::Step(step) = &self.act {
-            let command = self.groups.make_step(settings, step, &mut self.reply);
+            let command = self
+                .groups
+                .make_step(settings, Some(places), step, &mut self.reply);
             return put_reply(self.alloc, &mut self.out, &self.reply, command);
         }
         self.answer_change(settings)

@@ -9,6 +9,7 @@ ghost use Rattle.bh_port.specs.Script.{ScriptHasAnswered, ScriptOutcome};
 
 use crate::act::LineAct;
 use crate::groups::Groups;
+use crate::places::CommandPlaces;
 use crate::reader::fill;
 use crate::run::Run;
 use bh_base::{GroupId, Reply};
@@ -63,6 +64,7 @@ pub fn script<R: Read, W: Write>(
         ScriptOutcome (bytes_held W.contents writer.old) (bytes_held W.contents writer.new) (settings_view settings.now) (new_course (settings_view settings.now)) (cut input) result) }
 {
     let groups = Groups::open(alloc, settings)?;
+    let places = CommandPlaces::of(alloc, settings)?;
     let mut run = Run {
         alloc,
         groups,
@@ -74,9 +76,9 @@ pub fn script<R: Read, W: Write>(
     let mut buffer = BytesMut::new(alloc);
     let mut piece = [0u8; READ_SIZE];
     for _ in 0..MOST_READS {
-        run.write_answers(settings, &mut buffer, writer)?;
+        run.write_answers(settings, &places, &mut buffer, writer)?;
         if !fill(reader, &mut piece, &mut buffer)? {
-            return run.write_last(settings, buffer.as_slice(), writer);
+            return run.write_last(settings, &places, buffer.as_slice(), writer);
         }
     }
     Err(PortError::Read)

@@ -10,8 +10,8 @@ use Rattle.bh_port.proofs.Lists.{read_within}
 use Rattle.bh_port.proofs.Showing.{agrees-registered, agrees-retired, held-is}
 use Rattle.bh_port.proofs.groups.Groups.act.Goals as goal
 
-pub make_step-command-requires : goal.make_step-command-requires
-make_step-command-requires c = subst (IsActOf (settings_view c.args.settings.now) c.args.self.now.entries) c.in-Step.is c.requires
+pub make_step-command-requires-clause-act : goal.make_step-command-requires-clause-act
+make_step-command-requires-clause-act c = subst (IsActOf (settings_view c.args.settings.now) c.args.self.now.entries) c.in-Step.is c.requires
 
 pub returns-in-Step-clause-told : goal.returns-in-Step-clause-told
 returns-in-Step-clause-told c = λ before agrees.

@@ -17,4 +17,4 @@ returns-clause-told c = λ before agrees.
 
 pub returns-clause-agrees : goal.returns-clause-agrees
 returns-clause-agrees c = λ before agrees.
-    agrees-step (settings_view c.args.settings.now) c.args.self.now c.apply_to.new.self before c.args.step.now c.apply_to.new.reply agrees c.apply_to.ensures.step c.apply_to.ensures.entries c.requires
+    agrees-step (settings_view c.args.settings.now) c.args.self.now c.apply_to.new.self before c.args.step.now c.apply_to.new.reply agrees c.apply_to.ensures.step c.apply_to.ensures.entries c.requires.act
