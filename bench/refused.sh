@@ -1,10 +1,10 @@
 #!/bin/bash
 # Refuses each allocation in turn, and fails where that ends in another way than it should: of each call of the
-# libraries by the tests of `bh_refusals`, and of the whole program for several command lines.
+# libraries by the tests of `bh_refusals` and `bh_service_refusals`, and of the whole program for several command lines.
 #
-#   bench/refused.sh [-p PORT] [PROGRAM TESTS]
+#   bench/refused.sh [-p PORT] [PROGRAM TESTS..]
 #
-# PROGRAM is `bulkhead` and TESTS the built tests of `bh_refusals`; both are proved and built where they are not given.
+# PROGRAM is `bulkhead` and TESTS the built tests of the two crates; all are proved and built where they are not given.
 # Nothing here may take longer than twenty seconds, so that nothing hangs unseen.
 set -euo pipefail
 
@@ -19,14 +19,18 @@ while getopts p: option; do
 done
 shift $((OPTIND - 1))
 program=${1:-$crates/bulkhead/out/bulkhead}
-tests=${2:-$crates/bh_refusals/out/bh_refusals_tests}
+refusals=(bh_refusals bh_service_refusals)
+built=("${@:2}")
 work=$(mktemp -d)
 trap 'rm -r "$work"' EXIT
 failures=0
 
 if [ $# -eq 0 ]; then
     (cd "$crates/bulkhead" && rt run -- --help >"$work/build" 2>&1) || { cat "$work/build"; exit 1; }
-    (cd "$crates/bh_refusals" && rt test >"$work/build" 2>&1) || { cat "$work/build"; exit 1; }
+    for crate in "${refusals[@]}"; do
+        (cd "$crates/$crate" && rt test >"$work/build" 2>&1) || { cat "$work/build"; exit 1; }
+        built+=("$crates/$crate/out/${crate}_tests")
+    done
 fi
 cc -O2 -shared -fPIC -o "$work/refuse.so" "$here/refuse.c" -ldl
 
@@ -64,7 +68,7 @@ is_right() {
 
 # Each allocation of a command line in turn: the name, the right status, the input, and the arguments. A list of the
 # arguments that is refused its room at once is made all the same, by asking again, and settings are shown all the same
-# where a list of their further commands is refused.
+# where a list of their further commands is refused. Guesses at the slots of tickets are needed for no answer.
 each_allocation() {
     local name=$1 right_status=$2 input=$3 status nth again=0
     shift 3
@@ -147,8 +151,10 @@ cat >"$work/script" <<'END'
 END
 printf '%s\n' '{"groups":["a","b"],"reply":"groups"}' '{"body":"x","reply":"value"}' >"$work/answers"
 
-for test in $("$tests" --list | sed -n 's/: test$//p'); do
-    limited 0 "$tests" "$test" </dev/null || wrong "$test: $(errors)"
+for tests in "${built[@]}"; do
+    for test in $("$tests" --list | sed -n 's/: test$//p'); do
+        limited 0 "$tests" "$test" </dev/null || wrong "$test: $(errors)"
+    done
 done
 each_allocation run 0 "$work/script" run "$work/settings.toml"
 each_allocation check 0 /dev/null check "$work/settings.toml"

@@ -2,11 +2,12 @@
 # Runs each test with threads many times in a row, alone and then while every processor is kept busy, and fails where
 # one fails or takes longer than a minute.
 #
-#   bench/stress.sh [-n TIMES] [TESTS]     TESTS are the built tests of `bh_tests`, proved and built where not given
+#   bench/stress.sh [-n TIMES] [TESTS..]     TESTS are the built tests of `bh_audit_tests` and `bh_workers_tests`, proved
+#                                            and built where not given
 set -euo pipefail
 
 here=$(cd "$(dirname "$0")" && pwd)
-crate=$here/../crates/bh_tests
+crates=$here/../crates
 times=100
 while getopts n: option; do
     case $option in
@@ -15,7 +16,7 @@ while getopts n: option; do
     esac
 done
 shift $((OPTIND - 1))
-tests=${1:-$crate/out/bh_tests_tests}
+built=("$@")
 work=$(mktemp -d)
 busy=()
 trap 'end_load; rm -r "$work"' EXIT
@@ -33,20 +34,30 @@ load_all() {
     done
 }
 
-# Runs each test so many times.
+# Runs a test so many times.
+run_one() {
+    local started=$SECONDS
+    for _ in $(seq "$times"); do
+        timeout 60 "$2" "$3" >"$work/out" 2>&1 || { echo "$1: $3 failed" >&2; cat "$work/out" >&2; exit 1; }
+    done
+    echo "$1: $3, $times times in $((SECONDS - started)) s"
+}
+
+# Runs each test with threads so many times.
 run_all() {
-    local test started
-    for test in $("$tests" --list | sed -n 's/: test$//p' | grep -E '^(threads|threads_stress|threads_mixed|waking_threads)::'); do
-        started=$SECONDS
-        for _ in $(seq "$times"); do
-            timeout 60 "$tests" "$test" >"$work/out" 2>&1 || { echo "$1: $test failed" >&2; cat "$work/out" >&2; exit 1; }
+    local tests test
+    for tests in "${built[@]}"; do
+        for test in $("$tests" --list | sed -n 's/: test$//p' | grep -E '^(lives|mixed|stress|threads|waking)::'); do
+            run_one "$1" "$tests" "$test"
         done
-        echo "$1: $test, $times times in $((SECONDS - started)) s"
     done
 }
 
 if [ $# -eq 0 ]; then
-    (cd "$crate" && rt test >"$work/build" 2>&1) || { cat "$work/build"; exit 1; }
+    for crate in bh_audit_tests bh_workers_tests; do
+        (cd "$crates/$crate" && rt test >"$work/build" 2>&1) || { cat "$work/build"; exit 1; }
+        built+=("$crates/$crate/out/${crate}_tests")
+    done
 fi
 run_all alone
 load_all

@@ -7,6 +7,6 @@ set -euo pipefail
 . "$(dirname "${BASH_SOURCE[0]}")/library.sh"
 mkdir -p "$bindings/out"
 cc -shared -o "$bindings/out/libbulkhead.so" -Wl,--whole-archive "$library" -Wl,--no-whole-archive "${archives[@]}"
-for name in example run; do
-    cc -O2 -Wall -Wextra -I "$bindings/../include" -o "$bindings/out/$name" "$bindings/c/$name.c" "$library" "${archives[@]}"
+for name in example handles run; do
+    cc -O2 -pthread -Wall -Wextra -I "$bindings/../include" -o "$bindings/out/$name" "$bindings/c/$name.c" "$library" "${archives[@]}"
 done

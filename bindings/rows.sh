@@ -1,8 +1,9 @@
 #!/bin/bash
 # Gives scripts of lines to the program, to the program in C over the library (c/run.c) and to the one in Python
-# (python/run.py), and compares what each writes, byte for byte, and its exit status: the scripts of examples/ and of
+# (../python/examples/run.py), and compares what each writes, byte for byte, and its exit status: the scripts of examples/ and of
 # crates/bulkhead/data, if any, a script of every operation, one of several commands, and inputs that end a script early.
-# Runs the two examples too, which fail where a step of theirs does not go as it should.
+# Runs the two examples too, which fail where a step of theirs does not go as it should, and what is called on handles
+# that are empty and from several threads (c/handles.c).
 #
 #   bindings/rows.sh [PROGRAM LIBRARY]     both are proved and built where none are given
 set -euo pipefail
@@ -16,6 +17,7 @@ if [ $# -eq 0 ]; then
 else
     "$here/build.sh" "$2"
 fi
+export PYTHONPATH=$top/python/src BULKHEAD_LIBRARY=$here/out/libbulkhead.so
 work=$(mktemp -d)
 trap 'rm -r "$work"' EXIT
 same=0 differ=0
@@ -33,7 +35,7 @@ compare() {
     local by kind
     keep program "$program" "$2" "$3"
     keep c "$here/out/run" "$2" "$3"
-    keep python python3 "$here/python/run.py" "$2" "$3"
+    keep python python3 "$top/python/examples/run.py" "$2" "$3"
     for by in c python; do
         for kind in out err status; do
             if cmp -s "$work/program.$kind" "$work/$by.$kind"; then
@@ -155,6 +157,7 @@ printf '\xff' >"$work/refused.toml"
 compare "settings that are not UTF-8" check "$work/refused.toml"
 
 "$here/out/example" >"$work/example"
-python3 "$here/python/example.py" >>"$work/example"
+python3 "$top/python/examples/steps.py" >>"$work/example"
+"$here/out/handles"
 echo "$same agree, $differ differ"
 [ "$differ" -eq 0 ]

@@ -7,17 +7,19 @@
  *
  * What every call keeps to:
  *
- * - All calls on a service are made from one thread, the one that opened it. Another thread hands its steps to that
- *   one. Two services know nothing of one another.
+ * - Calls on a service come from any thread, one at a time: where several threads make them, a lock or the like orders
+ *   them. Nothing in the library belongs to a thread. Two services know nothing of one another, and calls on different
+ *   ones may be made at the same time.
  * - No pointer may be null, also where its length is 0. What a pointer leads to has to be there until the call returns,
  *   initialized as a whole, as {0} does it, and may not overlap what another parameter of the same call leads to.
  * - A length is the number of bytes at the pointer before it, and is below 2^63.
  * - Nothing is called from a signal handler, or from the forked child of a process with threads.
  * - Memory comes from malloc, realloc and free of the program, which belong together.
  *
- * Every function but bulkhead_version and bulkhead_close answers one of the numbers under "What a call comes to".
- * Wherever it is not BULKHEAD_DONE, nothing was done: the service, the reply and the bytes of a buffer are as they were,
- * save that a refused opening writes its reason.
+ * Every function but bulkhead_version answers one of the numbers under "What a call comes to". Wherever it is not
+ * BULKHEAD_DONE, nothing was done: the service, the reply and the bytes of a buffer are as they were, save that a refused
+ * opening writes its reason. Where no service is open, every function but bulkhead_version and bulkhead_open answers
+ * BULKHEAD_NOT_OPEN, and writes nothing.
  */
 #ifndef BULKHEAD_H
 #define BULKHEAD_H
@@ -31,7 +33,7 @@ extern "C" {
 
 /* The version of this interface. A program that was compiled with this file may use a library whose bulkhead_version
  * answers the same number. */
-#define BULKHEAD_VERSION 2u
+#define BULKHEAD_VERSION 3u
 
 /* What a call comes to. */
 #define BULKHEAD_DONE 0u              /* the call did what it is for */
@@ -44,9 +46,10 @@ extern "C" {
 #define BULKHEAD_TOO_LONG 7u          /* a text of a step is longer than it may be */
 #define BULKHEAD_NO_SUCH_OPERATION 8u /* no operation has the number */
 #define BULKHEAD_NO_SUCH_COMMAND 9u   /* no command of the group has the name */
+#define BULKHEAD_NOT_OPEN 10u         /* no service is open: none was opened, or it was closed */
 
-/* What a program holds of a service. Begin with {0}, let bulkhead_open fill it, and neither read nor write nor copy it:
- * it is open from then until bulkhead_close, and every call below but bulkhead_open wants one that is open. */
+/* What a program holds of a service. Begin with {0}, which is empty, let bulkhead_open fill it, and neither read nor
+ * write nor copy it: a service is open from then until bulkhead_close, which leaves it empty again. */
 typedef struct bulkhead_service {
     void *of_the_library;
 } bulkhead_service;
@@ -178,7 +181,7 @@ uint32_t bulkhead_open(bulkhead_service *service, const uint8_t *settings, size_
                        uint8_t *why, size_t why_room, size_t *why_length);
 
 /* Closes a service and gives its memory back. */
-void bulkhead_close(bulkhead_service *service);
+uint32_t bulkhead_close(bulkhead_service *service);
 
 /* Writes the number of the group of the name to `number`: where groups had the name one after another, that of the last.
  *

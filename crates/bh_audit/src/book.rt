@@ -8,7 +8,7 @@ ghost use Rattle.bh_base.specs.Seen.{view_reply};
 ghost use Rattle.bh_base.specs.Ranges.{IsInRange};
 ghost use Rattle.bh_core.specs.Acts.{with_opened};
 ghost use Rattle.bh_core.specs.CoreView.{most_groups, slots_in, view_at, with_retired};
-ghost use Rattle.bh_core.specs.Looks.{is_assigned, is_in_use};
+ghost use Rattle.bh_core.specs.Looks.{is_assigned, is_in_use, is_worn_out};
 ghost use Rattle.bh_core.specs.Step.{IsStep};
 ghost use Rattle.bh_journal.specs.Replay.{written};
 ghost use Rattle.bh_audit.specs.Calls.{NeedsNoWait, is_due};
@@ -194,6 +194,8 @@ impl Book {
     pub(crate) fn must_wait(&self, group: GroupId) -> bool
         ensures goes_on { result ≡ false → (v : View) → view_at self.now.groups group.0 ≡ Some v → NeedsNoWait v }
         ensures waits { result ≡ true → (v : View) (moment : ℕ) → view_at self.now.groups group.0 ≡ Some v → is_assigned (view_reply v op.Start moment) ≡ false }
+        ensures fresh { result ≡ true → (v : View) (moment : ℕ) → view_at self.now.groups group.0 ≡ Some v → is_worn_out (view_reply v op.Start moment) ≡ false }
+        ensures there { result ≡ true → is_some (view_at self.now.groups group.0) ≡ true }
     {
         if !self.is_registered(group) {
             return false;

@@ -25,7 +25,8 @@ pub enum FreedCallers {
 
 /// Whom a step lets go on. All idle workers of a group wait for the same, so one is as good as another.
 ///
-/// It cannot be dropped, and only `tell` takes it: whoever makes a step has to notify those whom it lets go on.
+/// It cannot be dropped, and only `tell` and `tell_all` take it: whoever makes a step has to notify those whom it lets go
+/// on. That they are notified where they wait is read and not proved, since contracts see nothing of a condition variable.
 pub struct Freed {
     workers: Notice,
     callers: FreedCallers,

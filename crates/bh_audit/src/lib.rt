@@ -2,10 +2,12 @@
 #![tactic(auto)]
 
 mod account;
+mod asks;
 pub mod book;
 pub mod clock;
 pub mod error;
 mod freed;
+mod guarded;
 mod locked;
 pub mod next;
 pub mod pass;

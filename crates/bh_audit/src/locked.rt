@@ -1,30 +1,30 @@
 //! What the lock guards, and what a thread that has it does there.
 
 ghost use Rattle.std.specs.Prelude.{◌≡◌, ◌≢◌, ◌==◌, ◌<◌, ◌||◌, ℕ, Bool, IfSome, IsNone, OnSome, None, Some, true, false, is_some, length};
-ghost use Rattle.bh_base.specs.declared.reply.Reply.TheVariants as replies;
+ghost use Rattle.bh_base.specs.declared.reply.Reply.{Reply};
 ghost use Rattle.bh_base.specs.declared.step.Op.TheVariants as op;
 ghost use Rattle.bh_base.specs.declared.step.Step.{Step};
-ghost use Rattle.bh_base.specs.Replies.{can_reply, is_refusal};
+ghost use Rattle.bh_base.specs.Replies.{is_refusal};
 ghost use Rattle.bh_base.specs.Runs.{View, is_worn};
 ghost use Rattle.bh_base.specs.Seen.{view_reply};
 ghost use Rattle.bh_core.specs.CoreView.{view_at};
-ghost use Rattle.bh_core.specs.Looks.{is_assigned, is_pending};
+ghost use Rattle.bh_core.specs.Looks.{is_assigned};
 ghost use Rattle.bh_core.specs.Step.{IsStep};
 ghost use Rattle.std.specs.List.{position_from};
 ghost use Rattle.bh_journal.specs.Passes.{Adds, PassView, added, receipt_of};
 ghost use Rattle.bh_audit.specs.Books.{IsAudited, IsWritten};
-ghost use Rattle.bh_audit.specs.Calls.{AddsCollect, AddsExpire, AddsNext, CanBeMissing, NeedsNoWait, is_due, workers_of};
+ghost use Rattle.bh_audit.specs.Calls.{NeedsNoWait, is_due, workers_of};
 ghost use Rattle.bh_audit.specs.Waking.{IsEverybody, KeepsWakeUps, frees_by, frees_one, is_told_again};
+ghost use Rattle.bh_audit.specs.declared.asks.Ask.TheVariants as ask;
+ghost use Rattle.bh_audit.specs.Turns.{CallerWaits, Does, HasToWait, IsAllowed, IsMade, IsStarted, IsUnchanged, WorkerWaits, held, may_step};
 
+use crate::asks::{Answer, Ask, Said};
 use crate::book::Book;
 use crate::clock::Clock;
 use crate::freed::{Freed, FreedCallers, Notice, is_told_again};
-use crate::next::Next;
 use crate::pass::Pass;
-use crate::waiting::Place;
 use bh_base::{GroupId, GroupProps, Moment, Op, Reply, Serial, Step, Strategy};
 use bh_journal::Receipt;
-use std::sync::{Mutex, Wait};
 
 /// What the lock guards. The book is audited where `A` is 1.
 #[derive(Drop)]
@@ -44,12 +44,21 @@ impl<const A: u32> Locked<A> {
 
     /// Makes one step, writes its reply where the caller keeps it, and what comes of it in the pass. It says whom the step
     /// lets go on.
-    pub(crate) fn step(&mut self, pass: &mut Pass, step: &Step, reply: &mut Reply) -> Freed
+    fn step(&mut self, pass: &mut Pass, step: &Step, reply: &mut Reply) -> Freed
+        requires { (A == 1) ≡ true → 0 < pass.old.room }
+        ensures { IsMade (A == 1) step.entry.now reply.new (held self.old.book self.old.stopped pass.old) (held self.new.book self.new.stopped pass.new) result }
+    {
+        self.make(pass, step, reply)
+    }
+
+    /// Makes the step: what `step` says of it, by parts.
+    fn make(&mut self, pass: &mut Pass, step: &Step, reply: &mut Reply) -> Freed
         requires { (A == 1) ≡ true → 0 < pass.old.room }
         ensures adds { Adds (A == 1) pass.old step.entry.now reply.new pass.new }
         ensures groups { IsStep self.old.book.groups step.entry.now reply.new self.new.book.groups }
         ensures refused { is_refusal reply.new ≡ true → self.new.book ≡ self.old.book }
         ensures written { (A == 1) ≡ true → is_refusal reply.new ≡ false → IsWritten self.old.book.journals step.entry.now.group.0 step.entry.now reply.new self.new.book.journals }
+        ensures unwritten { (A == 1) ≡ false → self.new.book.journals ≡ self.old.book.journals }
         ensures place { (A == 1) ≡ true → is_refusal reply.new ≡ false → (v : View) × (view_at self.new.book.groups step.entry.now.group.0 ≡ Some v) × (pass.new ≡ added pass.old (receipt_of v.present.steps step.entry.now reply.new)) }
         ensures stopped { self.new.stopped ≡ self.old.stopped }
         ensures told { KeepsWakeUps self.old.book.groups step.entry.now.group step.entry.now.op self.new.book.groups result }
@@ -90,81 +99,118 @@ impl<const A: u32> Locked<A> {
 }
 
 impl<const A: u32> Locked<A> {
-    /// What a worker of the pass's group is told now; None where it has to wait. Then nothing has changed.
-    pub(crate) fn try_next<C: Clock>(&mut self, pass: &mut Pass, clock: &C) -> Option<(Next, Freed)>
+    /// Does what is asked for, in the turn of the lock that the caller has, and nothing else; None where whoever asks has
+    /// to wait. Then nothing has changed.
+    pub(crate) fn answer<C: Clock>(
+        &mut self,
+        ask: &Ask,
+        clock: &C,
+        pass: &mut Pass,
+        reply: &mut Reply,
+    ) -> Option<Answer>
+        requires room { may_step ask.now ≡ true → (A == 1) ≡ true → 0 < pass.old.room }
+        requires allowed { IsAllowed ask.now }
+        ensures does { IfSome result (λ answer. Does C.moments (A == 1) ask.now (held self.old.book self.old.stopped pass.old) (held self.new.book self.new.stopped pass.new) reply.new answer.said answer.freed) }
+        ensures waits { IsNone result → HasToWait ask.now (held self.old.book self.old.stopped pass.old) }
+        ensures same { IsNone result → IsUnchanged (held self.old.book self.old.stopped pass.old) (held self.new.book self.new.stopped pass.new) }
+        ensures reply { IsNone result → reply.new ≡ reply.old }
+    {
+        match ask {
+            Ask::Step(step) => Some(Answer {
+                said: Said::Done,
+                freed: self.step(pass, step, reply),
+            }),
+            Ask::Next => self.try_next(pass, clock, reply),
+            Ask::Collect(serial) => self.try_collect(pass, *serial, clock, reply),
+            Ask::Expire => Some(self.expire(pass, clock)),
+            Ask::FirstDue(passes) => Some(Answer::look(Said::Due(self.first_due(
+                passes,
+                clock.now(),
+            )))),
+            Ask::Stop => Some(Answer {
+                said: Said::Done,
+                freed: self.stop(),
+            }),
+            Ask::IsStopped => Some(Answer::look(Said::Is(self.stopped))),
+            Ask::Register {
+                alloc,
+                props,
+                step_limit,
+            } => {
+                let registered = self.register(*alloc, props, *step_limit);
+                Some(Answer::look(Said::Registered(registered)))
+            }
+            Ask::Retire(group) => {
+                let (retired, freed) = self.retire(*group);
+                let said = Said::Retired(retired);
+                Some(Answer { said, freed })
+            }
+            Ask::IsRegistered(group) => Some(Answer::look(Said::Is(self.is_registered(*group)))),
+            Ask::Groups => Some(Answer::look(Said::Count(self.groups()))),
+            Ask::Workers(group) => Some(Answer::look(Said::Count(self.workers(*group)))),
+        }
+    }
+}
+
+impl<const A: u32> Locked<A> {
+    /// What a worker of the pass's group is told now; None where it has to wait. Then nothing has changed. Where it is not
+    /// told to stop, the reply to its Start is written where the caller keeps it.
+    fn try_next<C: Clock>(
+        &mut self,
+        pass: &mut Pass,
+        clock: &C,
+        reply: &mut Reply,
+    ) -> Option<Answer>
         requires { (A == 1) ≡ true → 0 < pass.old.room }
-        ensures adds { IfSome result (λ n. AddsNext C.moments (A == 1) pass.old n.0 pass.new) }
-        ensures told { IfSome result (λ n. n.0 ≡ Next.Stopped → self.old.stopped ≡ true) }
-        ensures registered { IfSome result (λ n. n.0 ≡ Next.Stopped → is_some (view_at self.old.book.groups pass.old.group.0) ≡ true) }
-        ensures waits { IsNone result → (v : View) (moment : ℕ) → view_at self.old.book.groups pass.old.group.0 ≡ Some v → is_assigned (view_reply v op.Start moment) ≡ false }
-        ensures wakes { IfSome result (λ n. n.0 ≢ Next.Stopped → KeepsWakeUps self.old.book.groups pass.old.group op.Start self.new.book.groups n.1) }
-        ensures pass { IsNone result → pass.new ≡ pass.old }
-        ensures book { IsNone result → self.new.book ≡ self.old.book }
-        ensures stopped { self.new.stopped ≡ self.old.stopped }
+        ensures does { IfSome result (λ answer. Does C.moments (A == 1) ask.Next (held self.old.book self.old.stopped pass.old) (held self.new.book self.new.stopped pass.new) reply.new answer.said answer.freed) }
+        ensures waits { IsNone result → WorkerWaits (held self.old.book self.old.stopped pass.old) }
+        ensures same { IsNone result → IsUnchanged (held self.old.book self.old.stopped pass.old) (held self.new.book self.new.stopped pass.new) }
+        ensures reply { IsNone result → reply.new ≡ reply.old }
     {
         let group = pass.group();
         if self.stopped && self.book.is_registered(group) {
             pass.mark_stopped();
-            return Some((Next::Stopped, Freed::nobody()));
+            return Some(Answer {
+                said: Said::Stopped,
+                freed: Freed::nobody(),
+            });
         }
         if self.book.must_wait(group) {
             return None;
         }
-        Some(self.start(pass, clock))
+        Some(Answer {
+            said: Said::Done,
+            freed: self.start(pass, clock, reply),
+        })
     }
 
     /// Makes a Start that is answered with a run, or refused.
-    fn start<C: Clock>(&mut self, pass: &mut Pass, clock: &C) -> (Next, Freed)
+    fn start<C: Clock>(&mut self, pass: &mut Pass, clock: &C, reply: &mut Reply) -> Freed
         requires room { (A == 1) ≡ true → 0 < pass.old.room }
         requires ready { (v : View) → view_at self.old.book.groups pass.old.group.0 ≡ Some v → NeedsNoWait v }
-        ensures adds { AddsNext C.moments (A == 1) pass.old result.0 pass.new }
-        ensures told { result.0 ≢ Next.Stopped }
-        ensures wakes { KeepsWakeUps self.old.book.groups pass.old.group op.Start self.new.book.groups result.1 }
-        ensures stopped { self.new.stopped ≡ self.old.stopped }
+        ensures { IsStarted C.moments (A == 1) reply.new (held self.old.book self.old.stopped pass.old) (held self.new.book self.new.stopped pass.new) result }
     {
         let group = pass.group();
         let now = clock.now();
         let op = Op::Start;
-        let mut reply = Reply::Idle;
-        let freed = self.step(pass, &Step { group, now, op }, &mut reply);
-        let next = match &reply {
-            Reply::Assigned {
-                serial,
-                command,
-                arg,
-            } => Next::Assigned {
-                serial: *serial,
-                command: *command,
-                arg: *arg,
-            },
-            Reply::Worn => Next::Worn,
-            Reply::NoGroup => Next::NoGroup,
-            _ => unreachable!(),
-        };
-        (next, freed)
+        let start = Step { group, now, op };
+        self.step(pass, &start, reply)
     }
 
     /// Makes a Collect of the serial, unless it would be answered `Pending` and the service is not stopped, and writes its
-    /// reply where the caller keeps it. It says whom the step lets go on; or it gives None, and nothing has changed.
-    pub(crate) fn try_collect<C: Clock>(
+    /// reply where the caller keeps it; or it gives None, and nothing has changed.
+    fn try_collect<C: Clock>(
         &mut self,
         pass: &mut Pass,
         serial: Serial,
         clock: &C,
         reply: &mut Reply,
-    ) -> Option<Freed>
+    ) -> Option<Answer>
         requires { (A == 1) ≡ true → 0 < pass.old.room }
-        ensures adds { OnSome result (AddsCollect C.moments (A == 1) pass.old serial reply.new pass.new) }
-        ensures kinds { OnSome result (can_reply (op.Collect serial) reply.new ≡ true) }
-        ensures known { OnSome result (reply.new ≢ replies.NoCommand) }
-        ensures told { OnSome result (reply.new ≡ replies.Pending → self.old.stopped ≡ true) }
-        ensures waits { IsNone result → (v : View) (moment : ℕ) → view_at self.old.book.groups pass.old.group.0 ≡ Some v → is_pending (view_reply v (op.Collect serial) moment) ≡ true }
-        ensures waits_on { IsNone result → self.old.stopped ≡ false }
-        ensures wakes { IfSome result (λ freed. KeepsWakeUps self.old.book.groups pass.old.group (op.Collect serial) self.new.book.groups freed) }
-        ensures pass { IsNone result → pass.new ≡ pass.old }
-        ensures book { IsNone result → self.new.book ≡ self.old.book }
+        ensures does { IfSome result (λ answer. Does C.moments (A == 1) (ask.Collect serial) (held self.old.book self.old.stopped pass.old) (held self.new.book self.new.stopped pass.new) reply.new answer.said answer.freed) }
+        ensures waits { IsNone result → CallerWaits serial (held self.old.book self.old.stopped pass.old) }
+        ensures same { IsNone result → IsUnchanged (held self.old.book self.old.stopped pass.old) (held self.new.book self.new.stopped pass.new) }
         ensures reply { IsNone result → reply.new ≡ reply.old }
-        ensures stopped { self.new.stopped ≡ self.old.stopped }
     {
         let group = pass.group();
         if !self.stopped && self.book.core().pending(group, serial) {
@@ -176,33 +222,36 @@ impl<const A: u32> Locked<A> {
         if matches!(reply, Reply::Pending) {
             pass.mark_stopped();
         }
-        Some(freed)
+        Some(Answer {
+            said: Said::Done,
+            freed,
+        })
     }
 
     /// Makes an Expire where a ticket is due, and says how many timed out.
-    pub(crate) fn expire<C: Clock>(&mut self, pass: &mut Pass, clock: &C) -> (Option<u64>, Freed)
+    fn expire<C: Clock>(&mut self, pass: &mut Pass, clock: &C) -> Answer
         requires { (A == 1) ≡ true → 0 < pass.old.room }
-        ensures adds { AddsExpire C.moments (A == 1) pass.old result.0 pass.new }
-        ensures book { IsNone result.0 → self.new.book ≡ self.old.book }
-        ensures stopped { self.new.stopped ≡ self.old.stopped }
-        ensures wakes { OnSome result.0 (KeepsWakeUps self.old.book.groups pass.old.group op.Expire self.new.book.groups result.1) }
+        ensures { (reply : Reply) → Does C.moments (A == 1) ask.Expire (held self.old.book self.old.stopped pass.old) (held self.new.book self.new.stopped pass.new) reply result.said result.freed }
     {
         let group = pass.group();
         let now = clock.now();
         if !self.book.core().due(group, now) {
-            return (None, Freed::nobody());
+            return Answer::look(Said::Expired(None));
         }
         let op = Op::Expire;
         let mut reply = Reply::Idle;
         let freed = self.step(pass, &Step { group, now, op }, &mut reply);
         match &reply {
-            Reply::Expired(number) => (Some(*number), freed),
+            Reply::Expired(number) => Answer {
+                said: Said::Expired(Some(*number)),
+                freed,
+            },
             _ => unreachable!(),
         }
     }
 
     /// The place of the first of the passes in whose group a ticket is due at the moment; None where there is none.
-    pub(crate) fn first_due(&mut self, passes: &[Pass], now: Moment) -> Option<usize>
+    fn first_due(&mut self, passes: &[Pass], now: Moment) -> Option<usize>
         ensures first { result ≡ position_from (λ (p : PassView). is_due self.old.book.groups p.group now) 0 passes.now }
         ensures book { self.new.book ≡ self.old.book }
         ensures stopped { self.new.stopped ≡ self.old.stopped }
@@ -216,7 +265,7 @@ impl<const A: u32> Locked<A> {
     }
 
     /// Sets the stop mark. Everybody goes on that waits in any group.
-    pub(crate) fn stop(&mut self) -> Freed
+    fn stop(&mut self) -> Freed
         ensures stopped { self.new.stopped ≡ true }
         ensures everybody { IsEverybody result }
         ensures book { self.new.book ≡ self.old.book }
@@ -226,7 +275,7 @@ impl<const A: u32> Locked<A> {
     }
 
     /// How many workers the group wants; 0 where it is not registered.
-    pub(crate) fn workers(&self, group: GroupId) -> u64
+    fn workers(&self, group: GroupId) -> u64
         ensures known { (v : View) → view_at self.now.book.groups group.0 ≡ Some v → result ≡ workers_of v.present.props }
         ensures unknown { view_at self.now.book.groups group.0 ≡ None → result ≡ 0 }
     {
@@ -235,116 +284,6 @@ impl<const A: u32> Locked<A> {
             _ => 0,
         }
     }
-}
-
-/// Waits until a worker of the pass's group is told something.
-pub(crate) fn next_in<const A: u32, R: Wait, C: Clock>(
-    rt: &R,
-    lock: &Mutex<Locked<A>>,
-    place: &Place,
-    pass: &mut Pass,
-    clock: &C,
-) -> (Next, Freed)
-    requires { (A == 1) ≡ true → 0 < pass.old.room }
-    ensures { AddsNext C.moments (A == 1) pass.old result.0 pass.new }
-{
-    let mut guard = lock.lock(rt);
-    for _ in rt.forever() {
-        match guard.try_next(pass, clock) {
-            Some(next) => return next,
-            None => guard = place.wait(rt, guard),
-        }
-    }
-    unreachable!()
-}
-
-/// Waits until the serial can be collected, or the service is stopped, and collects it: the reply is written where the
-/// caller keeps it.
-pub(crate) fn await_in<const A: u32, R: Wait, C: Clock>(
-    rt: &R,
-    lock: &Mutex<Locked<A>>,
-    place: &Place,
-    pass: &mut Pass,
-    serial: Serial,
-    clock: &C,
-    reply: &mut Reply,
-) -> Freed
-    requires { (A == 1) ≡ true → 0 < pass.old.room }
-    ensures adds { AddsCollect C.moments (A == 1) pass.old serial reply.new pass.new }
-    ensures kinds { can_reply (op.Collect serial) reply.new ≡ true }
-    ensures known { reply.new ≢ replies.NoCommand }
-{
-    let mut guard = lock.lock(rt);
-    for _ in rt.forever() {
-        match guard.try_collect(pass, serial, clock, reply) {
-            Some(freed) => return freed,
-            None => guard = place.wait(rt, guard),
-        }
-    }
-    unreachable!()
-}
-
-/// Makes one step under the lock, and writes its reply where the caller keeps it.
-pub(crate) fn step_in<const A: u32, R: Wait>(
-    rt: &R,
-    lock: &Mutex<Locked<A>>,
-    pass: &mut Pass,
-    step: &Step,
-    reply: &mut Reply,
-) -> Freed
-    requires { (A == 1) ≡ true → 0 < pass.old.room }
-    ensures adds { Adds (A == 1) pass.old step.entry.now reply.new pass.new }
-    ensures kinds { can_reply step.entry.now.op reply.new ≡ true }
-    ensures missing { reply.new ≡ replies.NoCommand → CanBeMissing step.entry.now.op }
-{
-    lock.lock(rt).step(pass, step, reply)
-}
-
-/// Makes an Expire under the lock, where a ticket is due.
-pub(crate) fn expire_in<const A: u32, R: Wait, C: Clock>(
-    rt: &R,
-    lock: &Mutex<Locked<A>>,
-    pass: &mut Pass,
-    clock: &C,
-) -> (Option<u64>, Freed)
-    requires { (A == 1) ≡ true → 0 < pass.old.room }
-    ensures { AddsExpire C.moments (A == 1) pass.old result.0 pass.new }
-{
-    lock.lock(rt).expire(pass, clock)
-}
-
-/// The first of the passes in whose group a ticket is due at the moment that is read under the lock.
-pub(crate) fn first_due_in<const A: u32, R: Wait, C: Clock>(
-    rt: &R,
-    lock: &Mutex<Locked<A>>,
-    passes: &[Pass],
-    clock: &C,
-) -> Option<usize>
-    ensures { IfSome result (λ place. place < length passes.now) }
-{
-    let mut guard = lock.lock(rt);
-    guard.first_due(passes, clock.now())
-}
-
-/// Stops the service under the lock.
-pub(crate) fn stop_in<const A: u32, R: Wait>(rt: &R, lock: &Mutex<Locked<A>>) -> Freed
-    ensures { IsEverybody result }
-{
-    lock.lock(rt).stop()
-}
-
-/// Reads the stop mark.
-pub(crate) fn stopped_in<const A: u32, R: Wait>(rt: &R, lock: &Mutex<Locked<A>>) -> bool {
-    lock.lock(rt).stopped
-}
-
-/// How many workers the group wants.
-pub(crate) fn workers_in<const A: u32, R: Wait>(
-    rt: &R,
-    lock: &Mutex<Locked<A>>,
-    group: GroupId,
-) -> u64 {
-    lock.lock(rt).workers(group)
 }
 
 /// How many workers a group of these properties wants: none where callers run the requests of each command.

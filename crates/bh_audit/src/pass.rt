@@ -82,6 +82,22 @@ impl Pass {
         })
     }
 
+    /// A pass of the group that has no room for a receipt, so that it takes no memory.
+    pub(crate) fn without_room(alloc: Global, group: GroupId) -> Pass
+        ensures { result ≡ blank group 0 }
+    {
+        Pass {
+            group,
+            receipts: Vec::new(alloc),
+            limit: 0,
+            marks: Marks {
+                worn: false,
+                no_group: false,
+                stopped: false,
+            },
+        }
+    }
+
     /// Adds a receipt behind those that are there. This takes no memory and cannot fail.
     pub(crate) fn add(&mut self, receipt: Receipt)
         requires { 0 < self.old.room }

@@ -1,20 +1,19 @@
 //! How groups come and go under the lock.
 
-ghost use Rattle.std.specs.Prelude.{◌≡◌, ◌↔◌, ◌+◌, ◌<◌, ◌≤◌, ◌^◌, [], ◌∷◌, ◌++◌, length, is_some, IfOk, OnErr, OnOk, Err, None, Some, true, if◌then◌else◌};
+ghost use Rattle.std.specs.Prelude.{◌≡◌, ◌↔◌, ◌==◌, ◌+◌, ◌<◌, ◌≤◌, ◌^◌, ℕ, [], ◌∷◌, ◌++◌, length, is_some, IfOk, OnErr, OnOk, Err, if◌then◌else◌};
 ghost use Rattle.bh_base.specs.Ranges.{IsInRange};
-ghost use Rattle.bh_base.specs.Runs.{View};
 ghost use Rattle.bh_core.specs.Acts.{with_opened};
-ghost use Rattle.bh_core.specs.CoreView.{most_groups, slots_in, view_at, with_retired};
-ghost use Rattle.bh_core.specs.Looks.{is_in_use};
+ghost use Rattle.bh_core.specs.CoreView.{most_groups, slots_in, view_at};
+ghost use Rattle.bh_journal.specs.Passes.{PassView};
 ghost use Rattle.bh_audit.specs.Books.{empty_journal};
 ghost use Rattle.bh_audit.specs.Waking.{IsEverybody};
+ghost use Rattle.bh_audit.specs.Turns.{IsRetirement, held};
 
 use crate::freed::Freed;
 use crate::locked::Locked;
 use bh_base::{GroupId, GroupProps};
 use bh_core::{RegisterError, RetireError};
 use std::alloc::Global;
-use std::sync::{Mutex, Wait};
 
 impl<const A: u32> Locked<A> {
     /// Registers a group, as the book does, also where the service is stopped. Nobody waits in it yet.
@@ -41,18 +40,12 @@ impl<const A: u32> Locked<A> {
 
     /// Retires a group that nobody uses, as the book does, also where the service is stopped. It says that everybody
     /// goes on who waits in the group: idle workers.
-    pub(crate) fn retire(&mut self, group: GroupId) -> Result<Freed, RetireError>
-        ensures ended { OnOk result ((v : View) × (view_at self.old.book.groups group.0 ≡ Some v) × (self.new.book.groups ≡ with_retired group.0 v self.old.book.groups)) }
-        ensures everybody { IfOk result (λ freed. IsEverybody freed) }
-        ensures no_group { (result ≡ Err RetireError.NoGroup) ↔ (view_at self.old.book.groups group.0 ≡ None) }
-        ensures busy { (v : View) → view_at self.old.book.groups group.0 ≡ Some v → ((result ≡ Err RetireError.Busy) ↔ (is_in_use v ≡ true)) }
-        ensures journals { self.new.book.journals ≡ self.old.book.journals }
-        ensures audited { self.new.book.audited ≡ self.old.book.audited }
-        ensures stopped { self.new.stopped ≡ self.old.stopped }
-        ensures err { OnErr result (self.new ≡ self.old) }
+    pub(crate) fn retire(&mut self, group: GroupId) -> (Result<(), RetireError>, Freed)
+        ensures { (pass : PassView) → IsRetirement group result.0 (held self.old.book self.old.stopped pass) (held self.new.book self.new.stopped pass) result.1 }
     {
-        self.book.retire(group)?;
-        Ok(Freed::everybody())
+        let retired = self.book.retire(group);
+        let freed = freed_by(&retired);
+        (retired, freed)
     }
 
     /// Whether the group is registered, and not retired.
@@ -70,42 +63,12 @@ impl<const A: u32> Locked<A> {
     }
 }
 
-/// Registers a group under the lock.
-pub(crate) fn register_in<const A: u32, R: Wait>(
-    rt: &R,
-    lock: &Mutex<Locked<A>>,
-    alloc: Global,
-    props: &GroupProps,
-    step_limit: u64,
-) -> Result<GroupId, RegisterError>
-    requires props { IsInRange props.now }
-    requires some_steps { 1 ≤ step_limit }
-    requires few_steps { step_limit ≤ 2 ^ 40 }
+/// Whom a retirement lets go on: everybody that waits in the group, unless it was refused.
+fn freed_by(retired: &Result<(), RetireError>) -> Freed
+    ensures { OnOk retired.now (IsEverybody result) }
 {
-    lock.lock(rt).register(alloc, props, step_limit)
-}
-
-/// Retires a group under the lock, where nobody uses it.
-pub(crate) fn retire_in<const A: u32, R: Wait>(
-    rt: &R,
-    lock: &Mutex<Locked<A>>,
-    group: GroupId,
-) -> Result<Freed, RetireError>
-    ensures { IfOk result (λ freed. IsEverybody freed) }
-{
-    lock.lock(rt).retire(group)
-}
-
-/// Whether the group is registered, and not retired.
-pub(crate) fn is_registered_in<const A: u32, R: Wait>(
-    rt: &R,
-    lock: &Mutex<Locked<A>>,
-    group: GroupId,
-) -> bool {
-    lock.lock(rt).is_registered(group)
-}
-
-/// How many groups were registered in all.
-pub(crate) fn groups_in<const A: u32, R: Wait>(rt: &R, lock: &Mutex<Locked<A>>) -> u64 {
-    lock.lock(rt).groups()
+    match retired {
+        Ok(()) => Freed::everybody(),
+        Err(_) => Freed::nobody(),
+    }
 }

@@ -1,42 +1,45 @@
 //! One service, which threads share.
 
-ghost use Rattle.std.specs.Prelude.{◌≡◌, ◌≢◌, ◌↔◌, ◌<◌, ◌≤◌, ◌^◌, ◌&&◌, length, nat_lt, vec_len, IfOk, IfErr, IfSome, IsErr, OnErr, OnOk, Err, true, false, if◌then◌else◌};
+ghost use Rattle.std.specs.Prelude.{◌≡◌, ◌≢◌, ◌↔◌, ◌<◌, ◌≤◌, ◌^◌, ◌&&◌, length, is_some, nat_lt, vec_len, IfOk, IfErr, IfSome, IsErr, OnErr, OnOk, Err, Some, true, false, if◌then◌else◌};
 ghost use Rattle.bh_base.specs.declared.reply.Reply.TheVariants as replies;
 ghost use Rattle.bh_base.specs.declared.step.Op.TheVariants as op;
 ghost use Rattle.bh_base.specs.Ranges.{IsInRange};
 ghost use Rattle.bh_base.specs.Replies.{can_reply};
-ghost use Rattle.bh_journal.specs.Passes.{Adds, blank};
+ghost use Rattle.bh_base.specs.declared.reply.Reply.{Reply};
+ghost use Rattle.bh_journal.specs.Passes.{Adds, PassView, blank};
 ghost use Rattle.bh_audit.specs.declared.error.AuditError.TheVariants.{NotAudited};
 ghost use Rattle.bh_audit.specs.declared.next.PassError.TheVariants.{Memory};
 ghost use Rattle.bh_audit.specs.declared.next.StepError.TheVariants.{OtherGroup, PassFull};
 ghost use Rattle.bh_audit.specs.Calls.{AddsCollect, AddsExpire, AddsNext, CanBeMissing};
 ghost use Rattle.bh_audit.specs.Finish.{FinishSays};
 ghost use Rattle.bh_audit.specs.Service.{is_audited};
+ghost use Rattle.bh_audit.specs.Turns.{Did, IsAllowed, may_step, next_of};
+ghost use Rattle.bh_audit.specs.declared.freed.Freed.{Freed};
 
-use crate::account::audit;
+use crate::asks::{Answer, Ask, Said};
 use crate::book::Book;
-use crate::clock::Clock;
+use crate::clock::{Clock, NoClock};
 use crate::error::AuditError;
 use crate::freed::Freed;
-use crate::locked::{
-    Locked, await_in, expire_in, first_due_in, next_in, step_in, stop_in, stopped_in, workers_in,
-};
+use crate::guarded::Guarded;
 use crate::next::{Next, PassError, StepError};
 use crate::pass::Pass;
-use crate::registering::{groups_in, is_registered_in, register_in, retire_in};
-use crate::waiting::Waiting;
+use crate::waiting::{Place, Waiting};
 use bh_base::{GroupId, GroupProps, Reply, Serial, Step};
 use bh_core::{RegisterError, RetireError};
 use bh_journal::AuditReport;
 use std::alloc::{AllocError, Global};
 use std::marker::Model;
-use std::sync::{Mutex, Wait};
+use std::sync::Wait;
+
+/// Looks that are of no group in particular name this one.
+const NO_GROUP: GroupId = GroupId(0);
 
 /// The lock of an audited book, or of another.
 #[derive(Drop)]
 enum Lock {
-    Audited(Mutex<Locked<1>>),
-    Plain(Mutex<Locked<0>>),
+    Audited(Guarded<1>),
+    Plain(Guarded<0>),
 }
 
 /// One service, which threads share: a book under one lock. Contracts see whether it is audited, and nothing of its
@@ -59,17 +62,19 @@ pub struct Shared {
 }
 
 impl Model for Shared {
+    ghost use Rattle.std.specs.Prelude.{vec_len};
     ghost use Rattle.bh_audit.specs.Service.{ServiceView, is_audited};
 
     ghost Value = { ServiceView };
 
-    ghost view = { λ s. record { audited = is_audited s.lock } };
+    ghost view = { λ s. record { audited = is_audited s.lock; begun = vec_len s.waiting } };
 }
 
 impl Shared {
     /// A service over a book, which is handed back where memory was refused.
     pub fn new(alloc: Global, book: Book) -> Result<Shared, (Book, AllocError)>
         ensures audited { IfOk result (λ s. s.audited ≡ book.audited) }
+        ensures begun { IfOk result (λ s. s.begun ≡ length book.groups.lives) }
         ensures err { IfErr result (λ e. e.0 ≡ book) }
     {
         match all_waiting(alloc, book.core().groups()) {
@@ -142,10 +147,15 @@ impl Shared {
         requires some_steps { 1 ≤ step_limit }
         requires few_steps { step_limit ≤ 2 ^ 40 }
     {
-        match &self.lock {
-            Lock::Audited(lock) => register_in(rt, lock, alloc, props, step_limit),
-            Lock::Plain(lock) => register_in(rt, lock, alloc, props, step_limit),
-        }
+        let ask = Ask::Register {
+            alloc,
+            props,
+            step_limit,
+        };
+        let Said::Registered(registered) = self.look(rt, NO_GROUP, &ask, &NoClock) else {
+            unreachable!()
+        };
+        registered
     }
 
     /// Retires a group that nobody uses: its slots are there for groups that come later, and its journal stays for the
@@ -155,12 +165,10 @@ impl Shared {
     /// The errors are, in this order, `NoGroup` where the group is not registered, or was retired before, and `Busy`
     /// where a run of it has not ended, or someone has still to collect an answer; nothing has changed then.
     pub fn retire<R: Wait>(&self, rt: &R, group: GroupId) -> Result<(), RetireError> {
-        let freed = match &self.lock {
-            Lock::Audited(lock) => retire_in(rt, lock, group)?,
-            Lock::Plain(lock) => retire_in(rt, lock, group)?,
+        let Said::Retired(retired) = self.look(rt, group, &Ask::Retire(group), &NoClock) else {
+            unreachable!()
         };
-        self.tell(group, freed);
-        Ok(())
+        retired
     }
 
     /// Makes one step. Its receipt is added to the pass in an audited service, save where it is refused: `Worn` and
@@ -209,8 +217,7 @@ impl Shared {
         if self.lacks_room(pass, 1) {
             return Err(StepError::PassFull);
         }
-        let freed = self.make(rt, pass, step, reply);
-        self.tell(group, freed);
+        self.ask(rt, group, &Ask::Step(step), &NoClock, pass, reply);
         Ok(())
     }
 
@@ -236,14 +243,12 @@ impl Shared {
         if self.lacks_room(pass, 2) {
             return Err(StepError::PassFull);
         }
-        let group = pass.group();
-        let idle = self.waiting_at(group).workers();
-        let told = match &self.lock {
-            Lock::Audited(lock) => next_in(rt, lock, idle, pass, clock),
-            Lock::Plain(lock) => next_in(rt, lock, idle, pass, clock),
-        };
-        self.tell(group, told.1);
-        Ok(told.0)
+        let mut reply = Reply::Idle;
+        match self.ask(rt, pass.group(), &Ask::Next, clock, pass, &mut reply) {
+            Said::Done => Ok(told_by(&reply)),
+            Said::Stopped => Ok(Next::Stopped),
+            _ => unreachable!(),
+        }
     }
 
     /// Waits while a Collect of the serial would be answered `Pending` and the service is not stopped, and then makes
@@ -294,13 +299,8 @@ impl Shared {
         if self.lacks_room(pass, 1) {
             return Err(StepError::PassFull);
         }
-        let group = pass.group();
-        let callers = self.waiting_at(group).callers_of(serial);
-        let freed = match &self.lock {
-            Lock::Audited(lock) => await_in(rt, lock, callers, pass, serial, clock, reply),
-            Lock::Plain(lock) => await_in(rt, lock, callers, pass, serial, clock, reply),
-        };
-        self.tell(group, freed);
+        let ask = Ask::Collect(serial);
+        self.ask(rt, pass.group(), &ask, clock, pass, reply);
         Ok(())
     }
 
@@ -324,13 +324,11 @@ impl Shared {
         if self.lacks_room(pass, 1) {
             return Err(StepError::PassFull);
         }
-        let group = pass.group();
-        let expiry = match &self.lock {
-            Lock::Audited(lock) => expire_in(rt, lock, pass, clock),
-            Lock::Plain(lock) => expire_in(rt, lock, pass, clock),
-        };
-        self.tell(group, expiry.1);
-        Ok(expiry.0)
+        let mut reply = Reply::Idle;
+        match self.ask(rt, pass.group(), &Ask::Expire, clock, pass, &mut reply) {
+            Said::Expired(number) => Ok(number),
+            _ => unreachable!(),
+        }
     }
 
     /// The place of the first of the passes in whose group a ticket is due; None where there is none. All groups are
@@ -340,10 +338,10 @@ impl Shared {
     pub fn first_due<R: Wait, C: Clock>(&self, rt: &R, passes: &[Pass], clock: &C) -> Option<usize>
         ensures { IfSome result (λ place. place < length passes.now) }
     {
-        match &self.lock {
-            Lock::Audited(lock) => first_due_in(rt, lock, passes, clock),
-            Lock::Plain(lock) => first_due_in(rt, lock, passes, clock),
-        }
+        let Said::Due(place) = self.look(rt, NO_GROUP, &Ask::FirstDue(passes), clock) else {
+            unreachable!()
+        };
+        place
     }
 
     /// How many calls wait in the group: idle workers, and callers whose ticket has no answer. It takes no lock. A call
@@ -357,36 +355,34 @@ impl Shared {
 
     /// Stops the service: workers and callers that wait go on at once, and later ones do not wait.
     pub fn stop<R: Wait>(&self, rt: &R) {
-        let freed = match &self.lock {
-            Lock::Audited(lock) => stop_in(rt, lock),
-            Lock::Plain(lock) => stop_in(rt, lock),
-        };
-        freed.tell_all(self.waiting.as_slice(), &self.later);
+        self.look(rt, NO_GROUP, &Ask::Stop, &NoClock);
     }
 
     /// Whether the service was stopped.
     pub fn stopped<R: Wait>(&self, rt: &R) -> bool {
-        match &self.lock {
-            Lock::Audited(lock) => stopped_in(rt, lock),
-            Lock::Plain(lock) => stopped_in(rt, lock),
-        }
+        let Said::Is(stopped) = self.look(rt, NO_GROUP, &Ask::IsStopped, &NoClock) else {
+            unreachable!()
+        };
+        stopped
     }
 
     /// How many groups were registered in all, retired ones included. The next one gets that number.
-    pub fn groups<R: Wait>(&self, rt: &R) -> u64 {
-        match &self.lock {
-            Lock::Audited(lock) => groups_in(rt, lock),
-            Lock::Plain(lock) => groups_in(rt, lock),
-        }
+    pub fn groups<R: Wait>(&self, rt: &R) -> u64
+        ensures { self.now.begun ≤ result }
+    {
+        let Said::Count(groups) = self.look(rt, NO_GROUP, &Ask::Groups, &NoClock) else {
+            unreachable!()
+        };
+        groups.max(self.waiting.len() as u64)
     }
 
     /// How many workers the group wants: as many as its pool has where a command of the group runs in that pool, else
     /// 0; 0 where it is not registered, or was retired.
     pub fn workers<R: Wait>(&self, rt: &R, group: GroupId) -> u64 {
-        match &self.lock {
-            Lock::Audited(lock) => workers_in(rt, lock, group),
-            Lock::Plain(lock) => workers_in(rt, lock, group),
-        }
+        let Said::Count(workers) = self.look(rt, group, &Ask::Workers(group), &NoClock) else {
+            unreachable!()
+        };
+        workers
     }
 
     /// The account of the service, where the passes agree with it. It takes no lock, and gives up the service and the
@@ -404,7 +400,7 @@ impl Shared {
             later: _,
         } = self;
         match lock {
-            Lock::Audited(lock) => audit(alloc, lock.into_inner(), &passes),
+            Lock::Audited(lock) => lock.finish(alloc, &passes),
             Lock::Plain(_) => Err(AuditError::NotAudited),
         }
     }
@@ -418,24 +414,58 @@ impl Shared {
         self.audited() && pass.room_left() < receipts
     }
 
-    /// Makes one step, writes its reply where the caller keeps it, and says whom it lets go on.
-    fn make<R: Wait>(&self, rt: &R, pass: &mut Pass, step: &Step, reply: &mut Reply) -> Freed
-        requires { self.now.audited ≡ true → 0 < pass.old.room }
-        ensures adds { Adds self.now.audited pass.old step.entry.now reply.new pass.new }
-        ensures kinds { can_reply step.entry.now.op reply.new ≡ true }
-        ensures missing { reply.new ≡ replies.NoCommand → CanBeMissing step.entry.now.op }
+    /// Has done what is asked for in one turn of the lock, and then notifies whom that lets go on. The group is that of
+    /// the pass; of a retirement, the one that is retired.
+    fn ask<R: Wait, C: Clock>(
+        &self,
+        rt: &R,
+        group: GroupId,
+        ask: &Ask,
+        clock: &C,
+        pass: &mut Pass,
+        reply: &mut Reply,
+    ) -> Said
+        requires room { may_step ask.now ≡ true → self.now.audited ≡ true → 0 < pass.old.room }
+        requires allowed { IsAllowed ask.now }
+        ensures { (freed : Freed) × Did C.moments self.now.audited ask.now pass.old pass.new reply.new result freed }
     {
-        match &self.lock {
-            Lock::Audited(lock) => step_in(rt, lock, pass, step, reply),
-            Lock::Plain(lock) => step_in(rt, lock, pass, step, reply),
+        let place = self.place_of(group, ask);
+        let Answer { said, freed } = match &self.lock {
+            Lock::Audited(lock) => lock.ask(rt, place, ask, clock, pass, reply),
+            Lock::Plain(lock) => lock.ask(rt, place, ask, clock, pass, reply),
+        };
+        match ask {
+            Ask::Stop => freed.tell_all(self.waiting.as_slice(), &self.later),
+            _ => self.tell(group, freed),
         }
+        said
+    }
+
+    /// Asks for what makes no step, with a pass that has no room for a receipt.
+    fn look<R: Wait, C: Clock>(&self, rt: &R, group: GroupId, ask: &Ask, clock: &C) -> Said
+        requires step { may_step ask.now ≡ false }
+        requires allowed { IsAllowed ask.now }
+        ensures { (pass : PassView) × (pass' : PassView) × (reply : Reply) × (freed : Freed) × Did C.moments self.now.audited ask.now pass pass' reply result freed }
+    {
+        let mut pass = Pass::without_room(*self.waiting.allocator(), group);
+        let mut reply = Reply::Idle;
+        self.ask(rt, group, ask, clock, &mut pass, &mut reply)
     }
 
     /// Whether the group is registered, and not retired.
     fn is_registered<R: Wait>(&self, rt: &R, group: GroupId) -> bool {
-        match &self.lock {
-            Lock::Audited(lock) => is_registered_in(rt, lock, group),
-            Lock::Plain(lock) => is_registered_in(rt, lock, group),
+        let Said::Is(registered) = self.look(rt, group, &Ask::IsRegistered(group), &NoClock) else {
+            unreachable!()
+        };
+        registered
+    }
+
+    /// Where whoever asks waits, if it has to.
+    fn place_of(&self, group: GroupId, ask: &Ask) -> &Place {
+        let waiting = self.waiting_at(group);
+        match ask {
+            Ask::Collect(serial) => waiting.callers_of(*serial),
+            _ => waiting.workers(),
         }
     }
 
@@ -458,15 +488,30 @@ fn lock_of(book: Book) -> Lock
     ensures { is_audited result ≡ book.audited }
 {
     if book.audited() {
-        Lock::Audited(Mutex::new(Locked {
-            book,
-            stopped: false,
-        }))
+        Lock::Audited(Guarded::new(book))
     } else {
-        Lock::Plain(Mutex::new(Locked {
-            book,
-            stopped: false,
-        }))
+        Lock::Plain(Guarded::new(book))
+    }
+}
+
+/// What the reply to its Start tells a worker.
+fn told_by(reply: &Reply) -> Next
+    requires { is_some (next_of reply.now) ≡ true }
+    ensures { next_of reply.now ≡ Some result }
+{
+    match reply {
+        Reply::Assigned {
+            serial,
+            command,
+            arg,
+        } => Next::Assigned {
+            serial: *serial,
+            command: *command,
+            arg: *arg,
+        },
+        Reply::Worn => Next::Worn,
+        Reply::NoGroup => Next::NoGroup,
+        _ => unreachable!(),
     }
 }
 

@@ -16,7 +16,7 @@ pub record Circuit : Type 0 where
   pub state : CircuitState
   pub snapshot : Option Snapshot
 
--- the circuit breaker of a new group, and after a test call's success: closed, and without a snapshot
+-- a new circuit breaker, and one after a test call's success: closed, and without a snapshot
 abbrev pub new_circuit : Circuit
 new_circuit = record { state = state.Closed; snapshot = None }
 

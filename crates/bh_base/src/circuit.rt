@@ -1,4 +1,4 @@
-//! The circuit breaker of a group (Hystrix wiki, "How It Works", circuit breaker).
+//! The circuit breaker of a command (Hystrix wiki, "How It Works", circuit breaker).
 
 use crate::event::Health;
 use crate::step::{Moment, Serial};

@@ -1,3 +1,5 @@
 pub mod Answered
+pub mod HeldCases
 pub mod LooseValues
+pub mod Refused
 pub mod Texts

@@ -15,3 +15,4 @@ code_of outcomes.NotText = 6
 code_of outcomes.TooLong = 7
 code_of outcomes.NoSuchOperation = 8
 code_of outcomes.NoSuchCommand = 9
+code_of outcomes.NotOpen = 10

@@ -1,10 +1,10 @@
 //! What C calls. `include/bulkhead.h` has these functions for people who write C.
 
-ghost use Rattle.std.specs.Prelude.{◌≡◌, ◌≢◌, ◌⊎◌, IsSome, IfErr, IfOk, None, Some, Err};
+ghost use Rattle.std.specs.Prelude.{◌≡◌, ◌≢◌, ◌⊎◌, IfErr, IfOk, None, Some, Err};
 ghost use Rattle.bh_props.specs.Printed.{lines_of};
 ghost use Rattle.bh_props.specs.Shown.{settings_view};
 ghost use Rattle.bh_c.specs.Calls.{CheckTold, LineTold, NumberTold, StepTold};
-ghost use Rattle.bh_c.specs.Exports.{Answers, Keeps, OpenTold, Works};
+ghost use Rattle.bh_c.specs.Exports.{Answers, CloseTold, Keeps, OpenTold, Works};
 ghost use Rattle.bh_c.specs.Given.{step_in};
 ghost use Rattle.bh_c.specs.Names.{command_in, group_in};
 ghost use Rattle.bh_props.specs.SettingsFile.{settings_in};
@@ -19,12 +19,12 @@ use bh_props::SettingsError;
 use std::alloc::Global;
 
 /// The version of the interface.
-const VERSION: u32 = 2;
+const VERSION: u32 = 3;
 
 /// The version of the interface.
 #[unsafe(no_mangle)]
 pub extern "C" fn bulkhead_version() -> u32
-    ensures { result ≡ 2 }
+    ensures { result ≡ 3 }
 {
     VERSION
 }
@@ -50,13 +50,16 @@ pub extern "C" fn bulkhead_open(
     }
 }
 
-/// Closes a service, and gives all of its memory back.
+/// Closes a service, and gives all of its memory back. The handle is empty then.
 #[unsafe(no_mangle)]
-pub extern "C" fn bulkhead_close(alloc: Global, service: &mut Handle)
-    requires { IsSome service.old.held }
-    ensures { service.new.held ≡ None }
+pub extern "C" fn bulkhead_close(alloc: Global, service: &mut Handle) -> u32
+    ensures told { Answers result (CloseTold service.old.held) }
+    ensures emptied { service.new.held ≡ None }
 {
-    let _service = take(service, alloc);
+    match take(service, alloc) {
+        Some(_held) => Outcome::Done.code(),
+        None => Outcome::NotOpen.code(),
+    }
 }
 
 /// The number of the group of a name: of those that had it, the last, where that was not retired.
@@ -67,11 +70,12 @@ pub extern "C" fn bulkhead_group(
     name: &[u8],
     number: &mut u64,
 ) -> u32
-    requires { IsSome service.old.held }
-    ensures { Answers result (λ outcome. Keeps service.old.held service.new.held (λ held.
+    ensures { Answers result (λ outcome. Keeps service.old.held service.new.held outcome (number.new ≡ number.old) (λ held.
         NumberTold (group_in held.groups.entries name.now) number.old number.new outcome)) }
 {
-    let held = take(service, alloc);
+    let Some(held) = take(service, alloc) else {
+        return Outcome::NotOpen.code();
+    };
     let outcome = held.group(name, number);
     put(service, held);
     outcome.code()
@@ -86,11 +90,12 @@ pub extern "C" fn bulkhead_command(
     name: &[u8],
     number: &mut u8,
 ) -> u32
-    requires { IsSome service.old.held }
-    ensures { Answers result (λ outcome. Keeps service.old.held service.new.held (λ held.
+    ensures { Answers result (λ outcome. Keeps service.old.held service.new.held outcome (number.new ≡ number.old) (λ held.
         NumberTold (command_in (settings_view held.settings) held.groups.entries group name.now) number.old number.new outcome)) }
 {
-    let held = take(service, alloc);
+    let Some(held) = take(service, alloc) else {
+        return Outcome::NotOpen.code();
+    };
     let outcome = held.command(group, name, number);
     put(service, held);
     outcome.code()
@@ -104,11 +109,12 @@ pub extern "C" fn bulkhead_make_step(
     step: &GivenStep,
     reply: &mut ToldReply,
 ) -> u32
-    requires { IsSome service.old.held }
-    ensures { Answers result (λ outcome. Works service.old.held service.new.held (λ was is.
+    ensures { Answers result (λ outcome. Works service.old.held service.new.held outcome (reply.new ≡ reply.old) (λ was is.
         StepTold (step_in step.now) was.groups is.groups reply.old reply.new outcome)) }
 {
-    let mut held = take(service, alloc);
+    let Some(mut held) = take(service, alloc) else {
+        return Outcome::NotOpen.code();
+    };
     let outcome = held.step(step, reply);
     put(service, held);
     outcome.code()
@@ -123,11 +129,12 @@ pub extern "C" fn bulkhead_line(
     answer: &mut [u8],
     length: &mut usize,
 ) -> u32
-    requires { IsSome service.old.held }
-    ensures { Answers result (λ outcome. Works service.old.held service.new.held (λ was is.
+    ensures { Answers result (λ outcome. Works service.old.held service.new.held outcome ((answer.new ≡ answer.old) × (length.new ≡ length.old)) (λ was is.
         LineTold (settings_view was.settings) line.now was.groups is.groups answer.old answer.new length.new outcome)) }
 {
-    let mut held = take(service, alloc);
+    let Some(mut held) = take(service, alloc) else {
+        return Outcome::NotOpen.code();
+    };
     let outcome = held.line(line, answer, length);
     put(service, held);
     outcome.code()
@@ -141,11 +148,12 @@ pub extern "C" fn bulkhead_check(
     text: &mut [u8],
     length: &mut usize,
 ) -> u32
-    requires { IsSome service.old.held }
-    ensures { Answers result (λ outcome. Keeps service.old.held service.new.held (λ held.
+    ensures { Answers result (λ outcome. Keeps service.old.held service.new.held outcome ((text.new ≡ text.old) × (length.new ≡ length.old)) (λ held.
         CheckTold (lines_of (settings_view held.settings)) text.old text.new length.new outcome)) }
 {
-    let held = take(service, alloc);
+    let Some(held) = take(service, alloc) else {
+        return Outcome::NotOpen.code();
+    };
     let outcome = held.check(text, length);
     put(service, held);
     outcome.code()

@@ -26,10 +26,12 @@ pub enum Outcome {
     NoSuchOperation,
     /// No command of the group has the name.
     NoSuchCommand,
+    /// The handle holds no service.
+    NotOpen,
 }
 
 impl Outcome {
-    /// The number that C sees, 0 to 9.
+    /// The number that C sees, 0 to 10.
     pub fn code(self) -> u32
         ensures { result ≡ code_of self }
     {
@@ -44,6 +46,7 @@ impl Outcome {
             Outcome::TooLong => 7,
             Outcome::NoSuchOperation => 8,
             Outcome::NoSuchCommand => 9,
+            Outcome::NotOpen => 10,
         }
     }
 }

@@ -1,5 +1,5 @@
 -- The chains of a group: where its slots lie, and what stays as one of them is placed.
-use Rattle.std.proofs.Math.Nat.{mod-lt}
+use Rattle.std.proofs.lemmas.Nat.{and_le_r}
 use Rattle.std.proofs.Common.{◌≡◌, ℕ, ◌+◌, ◌*◌, ◌/◌, ◌-◌, ◌<◌, ◌≤◌, inl, inr, Bool, true, false, List, [], length, get_or, Option, Some, None, refl, ◌∙◌, sym, ap, arith}
 use Rattle.std.specs.Prelude.{◌&&◌, eqb, is_some, if◌then◌else◌}
 use Rattle.std.proofs.lemmas.Bool.{cases_eq, eq-eqb, ne_eqb}
@@ -18,7 +18,7 @@ use Rattle.bh_chains.specs.Places.{home_of, place_among, place_at}
 -- a place is one of so many
 pub place_at_within : (n context step : ℕ) → 0 < n → place_at n context step < n
 unfolding place_at
-place_at_within n context step some = mod-lt (home_of context + step * (n / 16)) some
+place_at_within n context step some = let k = and_le_r (home_of context + step * (n / 16)) (n - 1) in omega (arith, k, some)
 
 pub place_within : (n : ℕ) (name : ℕ × List ℕ) → 0 < n → place_among n name < n
 place_within n name some = place_at_within n name.0 _ some

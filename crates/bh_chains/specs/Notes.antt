@@ -10,9 +10,13 @@ abbrev pub is_noted : Noted → ℕ → Bool
 is_noted (noted.Few few) x = has x (take few.count few.slots)
 is_noted noted.Many x = true
 
+-- how many slots may be noted one by one
+abbrev pub most_noted : ℕ
+most_noted = 8
+
 -- no slot is noted
 abbrev pub nothing : Noted
-nothing = noted.Few (record { slots = replicate 8 0; count = 0 })
+nothing = noted.Few (record { slots = replicate most_noted 0; count = 0 })
 
 -- the slot is noted now, and what was noted still is
 pub record IsNoted (x : ℕ) (n m : Noted) : Type 0 where

@@ -12,5 +12,5 @@ pub mod serial;
 
 pub use cache::{drop_context, find};
 pub use chains::{place, place_free, place_gone, place_new};
-pub use notes::{FewSlots, Noted, nothing, with_slot};
+pub use notes::{FewSlots, MOST_NOTED, Noted, nothing, with_slot};
 pub use serial::{find_serial, find_serial_from};

@@ -1,12 +1,15 @@
 //! Slots that are noted, to be looked at again.
 
 ghost use Rattle.std.specs.Prelude.{◌≡◌, ◌<◌, [], ◌∷◌, ◌++◌, take};
-ghost use Rattle.bh_chains.specs.Notes.{IsNoted, nothing};
+ghost use Rattle.bh_chains.specs.Notes.{IsNoted, most_noted, nothing};
+
+/// How many slots may be noted one by one, as those of tickets that a step left needless.
+pub const MOST_NOTED: usize = 8;
 
 /// A few slots: the first `count` entries.
 #[derive(Clone, Copy, Debug)]
 pub struct FewSlots {
-    pub slots: [u32; 8],
+    pub slots: [u32; MOST_NOTED],
     pub count: usize,
 }
 
@@ -24,7 +27,7 @@ pub fn nothing() -> Noted
     ensures { result ≡ nothing }
 {
     Noted::Few(FewSlots {
-        slots: [0; 8],
+        slots: [0; MOST_NOTED],
         count: 0,
     })
 }
@@ -36,7 +39,7 @@ pub fn with_slot(notes: Noted, slot: u32) -> Noted
     let Noted::Few(few) = notes else {
         return Noted::Many;
     };
-    if few.count >= 8 {
+    if few.count >= MOST_NOTED {
         return Noted::Many;
     }
     Noted::Few(one_more(few, slot))
@@ -44,7 +47,7 @@ pub fn with_slot(notes: Noted, slot: u32) -> Noted
 
 /// A slot more, where there is room.
 fn one_more(few: FewSlots, slot: u32) -> FewSlots
-    requires { few.count < 8 }
+    requires { few.count < most_noted }
     ensures { take result.count result.slots ≡ take few.count few.slots ++ slot ∷ [] }
 {
     let mut slots = few.slots;

@@ -19,13 +19,14 @@ pub fn place_among(count: usize, context: u64, key: &Text<32>) -> usize
 }
 
 /// The place that is so many steps from the home of the request context, around so many chains. A step is a sixteenth of
-/// the way around.
+/// the way around. Chains are a power of two, so that no look-up takes a division: of another number some would be left
+/// out.
 pub fn place_at(count: usize, context: u64, step: usize) -> usize
     requires some { 0 < count }
     requires step { step < 16 }
     ensures { result ≡ place_at count context step }
 {
-    (home_of(context) + step * (count / 16)) % count
+    (home_of(context) + step * (count / 16)) & (count - 1)
 }
 
 /// Where the chains of a request context begin: neighbours begin far apart.

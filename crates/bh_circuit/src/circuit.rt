@@ -8,7 +8,7 @@ use crate::health::is_unhealthy;
 use bh_base::{Admit, CircuitState, CommandProps, End, Health, Moment, Serial, Snapshot};
 use std::marker::Model;
 
-/// The circuit breaker of a group.
+/// The circuit breaker of a command.
 ///
 /// It is closed at first. It opens where a submit finds the dependency unhealthy, and then short-circuits submits.
 /// Once the sleep window is over, one submit passes as the test call; its success closes the circuit breaker again.
@@ -33,7 +33,7 @@ impl Model for Circuit {
 }
 
 impl Circuit {
-    /// The circuit breaker of a new group: closed, and without a snapshot of health.
+    /// A new circuit breaker: closed, and without a snapshot of health.
     pub fn new() -> Self
         ensures { result ≡ new_circuit }
     {

@@ -7,7 +7,7 @@ ghost use Rattle.bh_control.specs.Taken.{TakesAsked, IsLastAsked};
 
 use crate::control::Control;
 use crate::control_line::{Asked, ControlLine};
-use bh_lines::{PortError, end_line, front_line};
+use bh_lines::{PortError, front_line, last_line, next_line};
 use bytes::BytesMut;
 use json::Scratch;
 use std::alloc::{AllocError, Global};
@@ -66,12 +66,24 @@ impl Received {
         ensures taken { TakesAsked (C.names control.now) self.old result self.new }
         ensures group { IfOk result (λ next. IfSome next (λ asked. IfOk asked (IsOfGroups (length (C.names control.now).groups)))) }
     {
-        let Some(line) = front_line(self.bytes.as_slice())? else {
-            return Ok(None);
+        let Some(line) = front_line(self.bytes.as_slice()) else {
+            return self.next_cut(control);
         };
         let asked = ControlLine::parse(self.alloc, &mut self.scratch, control, line.text)?;
         let taken = line.taken;
         self.bytes.advance(taken);
+        Ok(Some(asked))
+    }
+
+    /// The same where no plain line stands in front.
+    fn next_cut<C: Control>(&mut self, control: &C) -> Result<Option<Asked>, PortError>
+        ensures taken { TakesAsked (C.names control.now) self.old result self.new }
+        ensures group { IfOk result (λ next. IfSome next (λ asked. IfOk asked (IsOfGroups (length (C.names control.now).groups)))) }
+    {
+        let Some(line) = next_line(&mut self.bytes)? else {
+            return Ok(None);
+        };
+        let asked = ControlLine::parse(self.alloc, &mut self.scratch, control, line.as_str())?;
         Ok(Some(asked))
     }
 
@@ -84,10 +96,10 @@ impl Received {
         ensures last { IsLastAsked (C.names control.now) self.old result }
         ensures group { IfOk result (λ last. IfSome last (λ asked. IfOk asked (IsOfGroups (length (C.names control.now).groups)))) }
     {
-        let Some(text) = end_line(self.bytes.as_slice())? else {
+        let Some(line) = last_line(&mut self.bytes)? else {
             return Ok(None);
         };
-        let asked = ControlLine::parse(self.alloc, &mut self.scratch, control, text)?;
+        let asked = ControlLine::parse(self.alloc, &mut self.scratch, control, line.as_str())?;
         Ok(Some(asked))
     }
 }

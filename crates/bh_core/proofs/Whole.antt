@@ -1,6 +1,6 @@
 -- A run goes on by one step.
 use Rattle.std.proofs.Common.{◌≡◌, ◌≢◌, ℕ, ◌+◌, Bool, true, false, List, [], ◌∷◌, ◌++◌, length, map, take, None, refl, ◌∙◌, sym, ap, subst, arith, append-nil}
-use Rattle.std.specs.Prelude.{◌==◌, if◌then◌else◌}
+use Rattle.std.specs.Prelude.{◌==◌, slice_get, if◌then◌else◌}
 use Rattle.std.proofs.lemmas.Bool.Decides.{nat_tests}
 use Rattle.bh_base.specs.declared.step.Step.{Step}
 use Rattle.bh_base.specs.declared.reply.Reply.{Reply}
@@ -114,6 +114,16 @@ stays_unknown group xs x rs r old new same so applied = at (x.group.0 == group) 
     at : (b : Bool) → (x.group.0 == group) ≡ b → IsUnknown group (xs ++ x ∷ []) (rs ++ r ∷ []) new
     at true test = mine (grind (arith, nat_tests)) test
     at false test = other (grind (arith, nat_tests)) test
+
+-- and is what it was
+pub stays_kept : (group : ℕ) (x : Step) (r : Reply) (old new : CoreView) → view_at old group ≡ None → IsStep old x r new → slice_get new.lives group ≡ slice_get old.lives group
+stays_kept group x r old new none applied = at (x.group.0 == group) refl
+  where
+    at : (b : Bool) → (x.group.0 == group) ≡ b → slice_get new.lives group ≡ slice_get old.lives group
+    at true test =
+        let is : x.group.0 ≡ group = grind (arith, nat_tests) in
+        ap (λ (gs : CoreView). slice_get gs.lives group) (applied.unknown_same (ap (view_at old) is ∙ none))
+    at false test = applied.others group (grind (arith, nat_tests))
 
 -- the steps before the place
 abbrev seen : List Step → ℕ → List Step

@@ -1,6 +1,6 @@
 //! All groups: each step goes to its own group and leaves the others as they are.
 
-ghost use Rattle.std.specs.Prelude.{◌≡◌, ◌↔◌, ℕ, ◌+◌, ◌<◌, ◌≤◌, ◌^◌, [], ◌∷◌, ◌++◌, length, map, IfOk, OnOk, OnErr, Err, None, Some, true};
+ghost use Rattle.std.specs.Prelude.{◌≡◌, ◌↔◌, ℕ, ◌+◌, ◌<◌, ◌≤◌, ◌^◌, [], ◌∷◌, ◌++◌, length, map, slice_get, IfOk, OnOk, OnErr, Err, None, Some, true};
 ghost use Rattle.bh_base.specs.declared.reply.Reply.{Reply};
 ghost use Rattle.bh_base.specs.Ranges.{IsInRange};
 ghost use Rattle.bh_base.specs.Runs.{State, View, own, replies, state_after, opened, view};
@@ -196,6 +196,7 @@ impl Core {
         // Steps of groups that are not registered, or are retired.
         ensures unknown { IfOk result (λ rs. (group : ℕ) → view_at self.old group ≡ None →
             own_replies group steps.now rs.items ≡ map (λ x. Reply.NoGroup) (own group steps.now)) }
+        ensures unregistered { (group : ℕ) → view_at self.old group ≡ None → slice_get self.new.lives group ≡ slice_get self.old.lives group }
 
         ensures count { IfOk result (λ rs. length rs.items ≡ length steps.now) }
         ensures groups { length self.new.lives ≡ length self.old.lives }

@@ -1,5 +1,5 @@
 -- The line in front, found by its line feed.
-use Rattle.std.proofs.Common.{◌≡◌, ℕ, suc, ◌+◌, ◌-◌, ◌<◌, ◌≤◌, ◌==◌, Bool, true, false, cond, not, List, [], ◌∷◌, ◌++◌, length, take, drop, refl, sym, ap, ◌∙◌, subst, arith, Some, None, Ok, Err, Bor}
+use Rattle.std.proofs.Common.{◌≡◌, ℕ, suc, ◌+◌, ◌-◌, ◌<◌, ◌≤◌, ◌==◌, Bool, true, false, cond, not, List, [], ◌∷◌, ◌++◌, length, take, drop, refl, sym, ap, ◌∙◌, subst, arith, Some, None, Bor, ◌⊎◌, inl, inr}
 use Rattle.std.specs.List.{list_any}
 use Rattle.std.specs.Prelude.{slice_index, ◌||◌, ◌&&◌, nat_lt, nat_eq}
 use Rattle.std.specs.Str.{is_utf8, IsUtf8}
@@ -11,11 +11,9 @@ use Rattle.memchr.specs.Find.{IsFirstByte, is_byte}
 use Rattle.tokio_util.specs.Codec.Lines.{without_carriage_return, newline_from, read_line, Scan}
 use Rattle.tokio_util.specs.Codec.Lines as scans
 use Rattle.tokio_util.specs.Codec.LinesLaws.{read_line_found, read_line_long}
-use Rattle.bh_lines.specs.Lines.{line, ended, stopped, less_return, cut, has_line}
-use Rattle.bh_lines.specs.Front.{IsFront, IsEnd, IsTextOf}
-use Rattle.bh_lines.specs.declared.port_error.PortError.{PortError}
-use Rattle.bh_lines.specs.declared.port_error.PortError.TheVariants.{Read, Write, Line, Memory}
-use Rattle.bh_lines.proofs.Cutting.{feed, Finds, finds, less_return-is, cut-missing, last-is, last-empty, some_bytes, any-above}
+use Rattle.bh_lines.specs.Lines.{stopped, less_return, cut, has_line}
+use Rattle.bh_lines.specs.Front.{IsFront}
+use Rattle.bh_lines.proofs.Cutting.{feed, Finds, finds, less_return-is}
 
 false_unless : (b : Bool) → ¬ (b ≡ true) → b ≡ false
 false_unless true h = absurd (h refl)
@@ -47,7 +45,7 @@ found-scan xs end found near =
 
 -- the line in front, of so few bytes and UTF-8
 pub front-found : (xs : List ℕ) (end : ℕ) (text : Bor (List ℕ)) → IsFirstByte (is_byte 10) xs (Some end) → end ≤ 1024
-    → text.now ≡ less_return (take end xs) → is_utf8 (less_return (take end xs)) ≡ true → IsFront xs (Ok (Some (record { text = text; taken = end + 1 })))
+    → text.now ≡ less_return (take end xs) → is_utf8 (less_return (take end xs)) ≡ true → IsFront xs (Some (record { text = text; taken = end + 1 }))
 front-found xs end text found near is valid =
     let f = found-scan xs end found near in
     let same : without_carriage_return (take end xs) ≡ text.now = sym (is ∙ less_return-is (take end xs)) in
@@ -59,29 +57,22 @@ front-found xs end text found near is valid =
     )
 
 -- the line in front is not UTF-8
-front-invalid : (xs : List ℕ) (end : ℕ) → IsFirstByte (is_byte 10) xs (Some end) → end ≤ 1024 → is_utf8 (less_return (take end xs)) ≡ false → (more : List ℕ) → cut (xs ++ more) ≡ stopped
-front-invalid xs end found near invalid more =
+pub front-invalid : (xs : List ℕ) (end : ℕ) → IsFirstByte (is_byte 10) xs (Some end) → end ≤ 1024 → is_utf8 (less_return (take end xs)) ≡ false → IsFront xs None
+front-invalid xs end found near invalid = inr (λ more.
     let f = found-scan xs end found near in
     let bad : is_utf8 (without_carriage_return (take end xs)) ≡ false = ap is_utf8 (sym (less_return-is (take end xs))) ∙ invalid in
-    f.1 more ∙ rw bad refl
-
--- the text of a line that is refused, refuses the line
-pub front-refused : (xs : List ℕ) (end : ℕ) (fault : PortError) → IsFirstByte (is_byte 10) xs (Some end) → end ≤ 1024 → IsTextOf (less_return (take end xs)) (Err fault) → IsFront xs (Err fault)
-front-refused xs end Line found near invalid = front-invalid xs end found near invalid
-front-refused xs end Memory found near invalid = invalid
-front-refused xs end Read found near invalid = invalid
-front-refused xs end Write found near invalid = invalid
+    f.1 more ∙ rw bad refl)
 
 -- the line in front has ended, with too many bytes
-pub front-far : (xs : List ℕ) (end : ℕ) → IsFirstByte (is_byte 10) xs (Some end) → 1024 < end → (more : List ℕ) → cut (xs ++ more) ≡ stopped
-front-far xs end found far =
+pub front-far : (xs : List ℕ) (end : ℕ) → IsFirstByte (is_byte 10) xs (Some end) → 1024 < end → IsFront xs None
+front-far xs end found far = inr (
     let at : newline_from 0 xs ≡ end = newline-is xs ∙ feed-at xs end found in
     let past : 1024 < newline_from 0 xs = omega arith in
     let long : 1024 < length xs = omega (arith, found.0.high) in
-    scan-is xs _ (read_line_long 1024 0 xs past long)
+    scan-is xs _ (read_line_long 1024 0 xs past long))
 
 -- the line in front has not ended, with too many bytes
-pub front-long : (xs : List ℕ) → IsFirstByte (is_byte 10) xs None → 1024 < length xs → (more : List ℕ) → cut (xs ++ more) ≡ stopped
+front-long : (xs : List ℕ) → IsFirstByte (is_byte 10) xs None → 1024 < length xs → (more : List ℕ) → cut (xs ++ more) ≡ stopped
 front-long xs none long =
     let at : newline_from 0 xs ≡ length xs = newline-is xs ∙ feed-none xs none in
     let past : 1024 < newline_from 0 xs = omega arith in
@@ -96,61 +87,22 @@ any-none (b ∷ bs) h =
     ] h
 
 -- no line has ended
-pub front-none : (xs : List ℕ) → IsFirstByte (is_byte 10) xs None → length xs ≤ 1024 → has_line xs ≡ false
+front-none : (xs : List ℕ) → IsFirstByte (is_byte 10) xs None → length xs ≤ 1024 → has_line xs ≡ false
 front-none xs none short =
     let few : nat_lt 1024 (length xs) ≡ false = grind (arith, nat_tests) in
     let missing : length xs ≤ feed xs = omega (arith, feed-none xs none) in
     rw few (any-none xs missing)
 
-no_line-short : (xs : List ℕ) → has_line xs ≡ false → length xs ≤ 1024
-no_line-short xs h =
-    elim (nat_lt 1024 (length xs)) as (λ v. nat_lt 1024 (length xs) ≡ v → (v || list_any (λ b. b == 10) xs) ≡ false → length xs ≤ 1024) [
-      | true ↦ λ _ k. let e : true ≡ false = k in cc
-      | false ↦ λ is _. grind (arith, nat_tests)
-    ] refl h
-
-no_line-any : (xs : List ℕ) → has_line xs ≡ false → list_any (λ b. b == 10) xs ≡ false
-no_line-any xs h =
-    elim (nat_lt 1024 (length xs)) as (λ v. (v || list_any (λ b. b == 10) xs) ≡ false → list_any (λ b. b == 10) xs ≡ false) [
-      | true ↦ λ k. let e : true ≡ false = k in cc
-      | false ↦ λ k. k
-    ] h
-
-no_line-missing : (xs : List ℕ) → has_line xs ≡ false → length xs ≤ newline_from 0 xs
-no_line-missing xs h = omega (arith, newline-is xs, any-above xs (no_line-any xs h))
-
--- a last line of these bytes
-pub end-some : (xs : List ℕ) (text : Bor (List ℕ)) → has_line xs ≡ false → text.now ≡ less_return xs → is_utf8 (less_return xs) ≡ true → (length text.now == 0) ≡ false → cut xs ≡ line text.now ended
-end-some xs text none is valid some =
-    let same : without_carriage_return xs ≡ text.now = sym (is ∙ less_return-is xs) in
-    let good : is_utf8 (without_carriage_return xs) ≡ true = ap is_utf8 (sym (less_return-is xs)) ∙ valid in
-    let long : 0 < length (without_carriage_return xs) = rw same (grind (arith, nat_tests)) in
-    cut-missing xs (no_line-missing xs none) ∙ last-is xs long (no_line-short xs none) ∙ rw (good, same) refl
-
--- no last line
-pub end-none : (xs : List ℕ) (text : Bor (List ℕ)) → has_line xs ≡ false → text.now ≡ less_return xs → (length text.now == 0) ≡ true → cut xs ≡ ended
-end-none xs text none is empty =
-    let zero_long : length text.now ≡ 0 = grind (arith, nat_tests) in
-    let same : without_carriage_return xs ≡ [] = sym (is ∙ less_return-is xs) ∙ nothing text.now zero_long in
-    cut-missing xs (no_line-missing xs none) ∙ last-empty xs same
+-- no line feed stands in the bytes
+pub front-missing : (xs : List ℕ) → IsFirstByte (is_byte 10) xs None → IsFront xs None
+front-missing xs none =
+    elim (cases_lt 1024 (length xs)) [
+      | inl long ↦ inr (front-long xs none long)
+      | inr short ↦ inl (front-none xs none short)
+    ]
   where
-    nothing : (ys : List ℕ) → length ys ≡ 0 → ys ≡ []
-    nothing [] h = refl
-    nothing (y ∷ ys) h = absurd (omega (arith, h))
-
--- the last line is not UTF-8
-end-invalid : (xs : List ℕ) → has_line xs ≡ false → is_utf8 (less_return xs) ≡ false → cut xs ≡ stopped
-end-invalid xs none invalid =
-    let bad : is_utf8 (without_carriage_return xs) ≡ false = ap is_utf8 (sym (less_return-is xs)) ∙ invalid in
-    let long : 0 < length (without_carriage_return xs) = some_bytes _ bad in
-    cut-missing xs (no_line-missing xs none) ∙ last-is xs long (no_line-short xs none) ∙ rw bad refl
-
--- the text of the last line that is refused, refuses the line
-pub end-refused : (xs : List ℕ) (fault : PortError) → has_line xs ≡ false → IsTextOf (less_return xs) (Err fault) → IsEnd xs (Err fault)
-end-refused xs Line none invalid = end-invalid xs none invalid
-end-refused xs Memory none invalid = invalid
-end-refused xs Read none invalid = invalid
-end-refused xs Write none invalid = invalid
+    cases_lt : (a b : ℕ) → (a < b) ⊎ (b ≤ a)
+    cases_lt a b = grind arith
 
 -- the bytes that were read as text are UTF-8
 pub text-valid : (found bytes : List ℕ) → found ≡ bytes → IsUtf8 found → is_utf8 bytes ≡ true

@@ -1,11 +1,13 @@
 -- Plain lines: the tokens that their bytes are, and the members of these.
-use Rattle.std.proofs.Common.{◌≡◌, ℕ, suc, ◌+◌, ◌-◌, ◌^◌, ◌<◌, ◌≤◌, true, false, cond, ◌==◌, List, [], ◌∷◌, ◌++◌, length, take, drop, get_or, Some, refl, sym, ap, ap₂, ◌∙◌, subst, arith, take-append-drop, length-take-le, get_or-take, append-nil, lt-ltb, ne_eqb, length-append, length-drop}
+use Rattle.std.proofs.Common.{◌≡◌, ℕ, Bool, suc, ◌+◌, ◌-◌, ◌^◌, ◌<◌, ◌≤◌, true, false, cond, ◌==◌, List, [], ◌∷◌, ◌++◌, length, take, drop, get_or, Some, refl, sym, ap, ap₂, ◌∙◌, subst, arith, take-append-drop, length-take-le, get_or-take, append-nil, lt-ltb, ne_eqb, length-append, length-drop}
 use Rattle.std.proofs.Common.{inl, inr, eq-eqb, option_and_then, None}
-use Rattle.std.proofs.lemmas.Bool.Decides.{nat_tests}
 use Rattle.std.proofs.lemmas.Bool.{false≢true, eqb-true, cases_eq}
-use Rattle.std.proofs.lemmas.List.{drop_all, drop-drop, get_or-drop, get_or_default}
+use Rattle.std.proofs.lemmas.List.{drop_all, drop_more, drop-drop, take_all, get_or-drop, get_or_default}
+use Rattle.std.proofs.lemmas.Slice.Eq.{starts_is}
+use Rattle.std.proofs.lemmas.Bool.Decides.{Decides-eqb}
+use Rattle.std.specs.List.{starts_with}
 use Rattle.std.proofs.lemmas.List.Sums.{prefix_len_passes, prefix_len-le-length}
-use Rattle.std.specs.Prelude.{◌&&◌, nat_lt}
+use Rattle.std.specs.Prelude.{◌&&◌}
 use Rattle.std.proofs.lemmas.Str.Parse.{digit_from_value}
 use Rattle.std.specs.Borrow.{Bor}
 use Rattle.std.specs.List.{prefix_len}
@@ -136,6 +138,17 @@ lex-false rest ended = ap₂ (λ b l. token (cond b (Token.boolean false) Token.
 lex-null : (rest : List ℕ) → ends_word rest ≡ true → lex between (110 ∷ 117 ∷ 108 ∷ 108 ∷ rest) ≡ token Token.null ∷ lex between rest
 unfolding lex word
 lex-null rest ended = ap₂ (λ b l. token (cond b Token.null Token.bad) ∷ l) ended (in_word-ended rest ended)
+
+-- a word that the bytes from a place on begin with, as the code cuts them
+pub word_stands : (line bytes word letters : List ℕ) (place : ℕ) (found : Bool) → bytes ≡ line → letters ≡ word
+    → found ≡ starts_with (λ a b. a == b) (take (length bytes - place) (drop place bytes)) letters → found ≡ true → drop place line ≡ word ++ drop (place + length word) line
+word_stands line bytes word letters place found same spelt is there =
+    let part = take (length bytes - place) (drop place bytes) in
+    let whole : part ≡ drop place bytes = take_all (length bytes - place) (drop place bytes) (omega (arith, length-drop place bytes)) in
+    let begins : part ≡ letters ++ drop (length letters) part = (starts_is Decides-eqb part letters found is).0 there in
+    let cut : drop place bytes ≡ letters ++ drop (length letters) (drop place bytes) = subst (λ t. t ≡ letters ++ drop (length letters) t) whole begins in
+    let split : drop place bytes ≡ letters ++ drop (place + length letters) bytes = cut ∙ ap (λ t. letters ++ t) (drop-drop (length letters) place bytes) in
+    subst (λ ls. drop place line ≡ ls ++ drop (place + length ls) line) spelt (subst (λ bs. drop place bs ≡ letters ++ drop (place + length letters) bs) same split)
 
 pub true_scalar : (text rest : List ℕ) → text ≡ 116 ∷ 114 ∷ 117 ∷ 101 ∷ rest → IsScalarThen text (scalars.Truth true) rest
 true_scalar text rest is = record {
@@ -314,7 +327,7 @@ all_whole t h some zero_alone =
       | inr n ↦ (λ i. cond (ne_eqb (head t) 48 n i) (Some (drop 1 t)) (after_digits t)) ∙ all_digits t (digits_len_all t h) some
     ]
 
--- digits are a number of JSON, unless a zero stands before others
+-- digits are a number of JSON, where no zero stands before others
 digits_number : (ds : List ℕ) → AllDigits 10 ds → 0 < length ds → (get_or ds 0 0 ≡ 48 → length ds ≡ 1) → IsNumber ds
 unfolding after_number
 digits_number ds h some zero_alone =
@@ -325,9 +338,9 @@ digits_number ds h some zero_alone =
 
 -- digits from one place to another are a number
 pub number_between : (line : List ℕ) (place end n : ℕ) → place ≤ end → end ≤ length line → (end ≡ place → ⊥) → AllDigits 10 (take (end - place) (drop place line))
-    → n ≡ digits_value 10 (take (end - place) (drop place line)) → n < 2 ^ 64 → ((get_or line place 0 == 48) && nat_lt 1 (end - place)) ≡ false
+    → n ≡ digits_value 10 (take (end - place) (drop place line)) → n < 2 ^ 64 → (get_or line place 0 ≡ 48 → ⊥)
     → IsNumberThen (drop place line) n (drop end line)
-number_between line place end n after within some h value fits zero_alone =
+number_between line place end n after within some h value fits no_zero =
     let text = drop place line in
     let count = end - place in
     let ds = take count text in
@@ -339,12 +352,25 @@ number_between line place end n after within some h value fits zero_alone =
     record {
       digits = ds;
       split = sym (take-append-drop count text) ∙ ap (λ l. ds ++ l) (drop-drop count place line ∙ ap (λ k. drop k line) behind);
-      is_number = digits_number ds h filled (λ e. one_of_them (get_or line place 0) count (length ds) (sym first ∙ e) zero_alone long (omega arith));
+      is_number = digits_number ds h filled (λ e. absurd (no_zero (sym first ∙ e)));
       is_found = subst (λ v. number_of ds ≡ Some (unsigned v)) (sym value) (digits_read ds h filled (omega arith));
     }
-  where
-    one_of_them : (x count long : ℕ) → x ≡ 48 → ((x == 48) && nat_lt 1 count) ≡ false → long ≡ count → 0 < count → long ≡ 1
-    one_of_them x count long e none same some = grind (arith, nat_tests)
+
+-- a zero in front is a number by itself
+zero_in_front : (text rest : List ℕ) → text ≡ 48 ∷ rest → IsNumberThen text 0 rest
+zero_in_front text rest is =
+    let digit : AllDigits 10 (48 ∷ []) = (omega arith, tt) in
+    record {
+      digits = 48 ∷ [];
+      split = is;
+      is_number = digits_number (48 ∷ []) digit (omega arith) (λ _. refl);
+      is_found = digits_read (48 ∷ []) digit (omega arith) (omega arith);
+    }
+
+-- the same at a place of the line, as the code looks at its bytes
+pub zero_at : (line bytes : List ℕ) (place : ℕ) → bytes ≡ line → place < length bytes → get_or bytes place 0 ≡ 48 → IsNumberThen (drop place line) 0 (drop (place + 1) line)
+zero_at line bytes place same inside zero =
+    subst (λ t. IsNumberThen (drop place t) 0 (drop (place + 1) t)) same (zero_in_front (drop place bytes) (drop (place + 1) bytes) (drop_more bytes place 0 inside ∙ ap (λ b. b ∷ drop (place + 1) bytes) zero))
 
 -- nothing is left behind the last byte
 pub nothing_left : (line : List ℕ) (place : ℕ) → (place == length line) ≡ true → drop place line ≡ []

@@ -2,7 +2,7 @@
 use Rattle.std.proofs.Common.{◌≡◌, ◌+◌, ◌<◌, ◌≤◌, ℕ, true, false, List, [], ◌∷◌, ◌++◌, length, ap, ◌∙◌, sym, arith, Result, Ok, Err, IsOk, IsErr, OnOk, OnErr, is_ok, if◌then◌else◌, append_assoc, append-nil, length-append, vec_len, vec_capacity}
 use Rattle.std.specs.declared.vec.Vec.{Vec}
 use Rattle.std.specs.declared.alloc.AllocError.{AllocError}
-use Rattle.bh_lines.specs.Puts.{Puts}
+use Rattle.bh_lines.specs.Puts.{Puts, PutsObject}
 
 -- the piece was put, or there was no room for it
 pub put-one : {A : Type 0} (r : Result (Unit {0}) AllocError) (a b : Vec ℕ A) (text : List ℕ)
@@ -73,15 +73,43 @@ pub next-not_put : {A : Type 0} (e : AllocError) (r : Result (Unit {0}) AllocErr
     → Leaves start now left m whole n → m ≡ k + j → Puts (Err e) now next one k → IsErr r → Puts r start next whole n
 next-not_put e r start now next left one whole m k j n leaves most put failed = leaves r next (put-none e r now next one left k m put (omega (arith, most)) failed)
 
+-- the pieces that were put are the object
+pub object-put : {A : Type 0} (r : Result (Unit {0}) AllocError) (a b : Vec ℕ A) (text same : List ℕ) (m n : ℕ)
+    → Puts r a b text m → text ≡ same → m ≤ n → PutsObject r a b same n
+object-put (Ok x) a b text same m n one is within = record {
+  kept = one.kept;
+  items = one.items ∙ ap (λ bs. a.items ++ bs) is;
+  size = omega (arith, one.size, ap length is, within);
+  full = tt;
+}
+object-put (Err e) a b text same m n one is within = record { kept = one.kept; items = tt; size = tt; full = omega (arith, one.full, within) }
+
+-- a first piece of the object could not be put
+pub object-none : {A : Type 0} (e : AllocError) (r : Result (Unit {0}) AllocError) (a b : Vec ℕ A) (first all : List ℕ) (m n : ℕ)
+    → Puts (Err e) a b first m → m ≤ n → IsErr r → PutsObject r a b all n
+object-none e (Ok x) a b first all m n one within failed = let none : false ≡ true = failed in cc
+object-none e (Err d) a b first all m n one within failed = record { kept = one.kept; items = tt; size = tt; full = omega (arith, one.full, within) }
+
+-- the same object, which may take more
+pub object-same : {A : Type 0} (r : Result (Unit {0}) AllocError) (a b : Vec ℕ A) (text same : List ℕ) (m n : ℕ)
+    → PutsObject r a b text m → text ≡ same → m ≤ n → PutsObject r a b same n
+object-same (Ok x) a b text same m n one is within = record {
+  kept = one.kept;
+  items = one.items ∙ ap (λ bs. a.items ++ bs) is;
+  size = omega (arith, one.size, ap length is, within);
+  full = tt;
+}
+object-same (Err e) a b text same m n one is within = record { kept = one.kept; items = tt; size = tt; full = omega (arith, one.full, within) }
+
 -- as the code ends the line
-pub line-put : {A : Type 0} (ended put : Result (Unit {0}) AllocError) (a b c : Vec ℕ A) (text line : List ℕ) (m : ℕ) → Puts put a b text m
+pub line-put : {A : Type 0} (ended put : Result (Unit {0}) AllocError) (a b c : Vec ℕ A) (text line : List ℕ) (m : ℕ) → PutsObject put a b text m
     → OnOk ended (c.items ≡ b.items ++ 10 ∷ []) → OnOk ended (IsOk put) → text ++ 10 ∷ [] ≡ line → OnOk ended (c.items ≡ a.items ++ line)
 line-put (Ok y) (Ok x) a b c text line m one new ok is = new ∙ ap (λ bs. bs ++ 10 ∷ []) one.items ∙ append_assoc a.items text (10 ∷ []) ∙ ap (λ bs. a.items ++ bs) is
 line-put (Ok y) (Err e) a b c text line m one new ok is = let none : false ≡ true = ok in cc
 line-put (Err e) put a b c text line m one new ok is = tt
 
 -- where all was put, the text stands there whole
-pub put-whole : {A : Type 0} (put : Result (Unit {0}) AllocError) (a b : Vec ℕ A) (text : List ℕ) (m : ℕ) (x : Unit {0}) → Puts put a b text m → put ≡ Ok x
+pub put-whole : {A : Type 0} (put : Result (Unit {0}) AllocError) (a b : Vec ℕ A) (text : List ℕ) (m : ℕ) (x : Unit {0}) → PutsObject put a b text m → put ≡ Ok x
     → (b.items ++ 10 ∷ [] ≡ a.items ++ (text ++ 10 ∷ [])) × (length (text ++ 10 ∷ []) ≤ m + 1)
 put-whole (Ok y) a b text m x one is = (ap (λ bs. bs ++ 10 ∷ []) one.items ∙ append_assoc a.items text (10 ∷ []), omega (arith, one.size, length-append text (10 ∷ [])))
 put-whole (Err e) a b text m x one is = cc

@@ -5,13 +5,13 @@ use Rattle.serde_json.specs.Written.{compact_text}
 use Rattle.bh_base.specs.declared.reply.Cause.{Cause}
 use Rattle.bh_base.specs.declared.reply.FallbackFault.{FallbackFault}
 use Rattle.bh_base.specs.declared.reply.Metrics.{Metrics}
-use Rattle.bh_lines.specs.ReplyLine.{cause_word, fallback_word, circuit_word, assigned_data, error_answer_data, fallback_value_data, events_data, metrics_data, value_data, json_line}
+use Rattle.bh_lines.specs.ReplyLine.{cause_word, fallback_word, circuit_word, assigned_data, error_answer_data, fallback_value_data, events_data, metrics_data, value_data}
 use Rattle.bh_lines.specs.FaultLine.{error_data}
 use Rattle.bh_lines.specs.ToldLine.{registered_data}
 
-pub error-line : (why : List ℕ) → ((codes "{\"error\":\"" ++ escape why) ++ codes "\"}") ++ 10 ∷ [] ≡ json_line (error_data why)
+pub error-text : (why : List ℕ) → (codes "{\"error\":\"" ++ escape why) ++ codes "\"}" ≡ compact_text (error_data why)
 unfolding escape_byte
-error-line why = simp append_assoc
+error-text why = simp append_assoc
 
 pub own_run-text : (ticket : ℕ) (arg : List ℕ)
     → (codes "{\"arg\":\"" ++ escape arg) ++ ((codes "\",\"reply\":\"assigned\",\"ticket\":" ++ decimal ticket) ++ codes "}") ≡ compact_text (assigned_data ticket None arg)
@@ -24,15 +24,15 @@ pub run-text : (ticket : ℕ) (name arg : List ℕ)
 unfolding escape_byte
 run-text ticket name arg = simp append_assoc
 
-pub value-text : (body : List ℕ) → codes "{\"body\":\"" ++ (escape body ++ codes "\",\"reply\":\"value\"}") ≡ compact_text (value_data body)
+pub value-text : (body : List ℕ) → (codes "{\"body\":\"" ++ escape body) ++ codes "\",\"reply\":\"value\"}" ≡ compact_text (value_data body)
 unfolding escape_byte
 value-text body = simp append_assoc
 
 pub fallback_value-text : (cause : Cause) (body back : List ℕ) → back ≡ codes "\",\"cause\":" ++ (quoted (cause_word cause) ++ codes ",\"reply\":\"fallback-value\"}")
-    → codes "{\"body\":\"" ++ (escape body ++ back) ≡ compact_text (fallback_value_data cause body)
+    → (codes "{\"body\":\"" ++ escape body) ++ back ≡ compact_text (fallback_value_data cause body)
 unfolding escape_byte
 fallback_value-text cause body back is =
-    ap (λ bs. codes "{\"body\":\"" ++ (escape body ++ bs)) is
+    append_assoc (codes "{\"body\":\"") (escape body) back ∙ ap (λ bs. codes "{\"body\":\"" ++ (escape body ++ bs)) is
     ∙ ap (λ bs. codes "{\"body\":\"" ++ bs) (sym (append_assoc (escape body) (34 ∷ []) (codes ",\"cause\":" ++ (quoted (cause_word cause) ++ codes ",\"reply\":\"fallback-value\"}"))))
 
 pub no_value-text : (cause : Cause) (fallback : FallbackFault) (front back : List ℕ)

@@ -1,12 +1,16 @@
-pub mod Lines
-pub mod Taken
-pub mod Names
-pub mod StepLine
-pub mod ScriptLine
-pub mod ReplyLine
-pub mod Puts
-pub mod FaultLine
-pub mod ToldLine
-pub mod Flat
-pub mod Plain
-pub mod Front
+-- Bytes cut into lines:
+pub mod Lines  -- the lines of a text of bytes
+pub mod Taken  -- what is taken of the bytes that have come
+pub mod Front  -- the plain line in front of some bytes, where it stands
+-- What a line asks for:
+pub mod Names  -- the names of groups and of their commands
+pub mod StepLine  -- the step that an object says, or the fault
+pub mod ScriptLine  -- what a line of a script asks for, or its fault
+pub mod Flat  -- the data of an object whose members hold no others
+pub mod Plain  -- what stands in front of a text, and the tokens that it is
+-- The lines that answer:
+pub mod ReplyLine  -- the lines of replies
+pub mod Puts  -- what is put behind bytes
+pub mod Sent  -- what is sent to a writer of JSON
+pub mod FaultLine  -- the lines of faults
+pub mod ToldLine  -- the lines of what a line of a script is told

@@ -13,6 +13,13 @@ pub record Puts {A : Type 0} (result : Result (Unit {0}) AllocError) (old new : 
   pub spare : OnOk result (vec_capacity old + vec_len new ≤ vec_capacity new + vec_len old + most)
   pub full : OnErr result (vec_capacity old < vec_len old + most)
 
+-- the same of an object to which no piece is put: how much room it left is not told
+pub record PutsObject {A : Type 0} (result : Result (Unit {0}) AllocError) (old new : Vec ℕ A) (text : List ℕ) (most : ℕ) : Type 0 where
+  pub kept : (more : List ℕ) × (new.items ≡ old.items ++ more)
+  pub items : OnOk result (new.items ≡ old.items ++ text)
+  pub size : OnOk result (length text ≤ most)
+  pub full : OnErr result (vec_capacity old < vec_len old + most)
+
 -- a count behind its front, with a comma before it where something stands before, unless the count is 0
 abbrev pub count_text : Bool → List ℕ → ℕ → List ℕ
 count_text later front n = if n == 0 then [] else comma_if later ++ (front ++ decimal n)

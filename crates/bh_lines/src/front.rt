@@ -1,11 +1,10 @@
-//! The line in front of the bytes that have come, where it stands: nothing is copied.
+//! The plain line in front of the bytes that have come, where it stands: nothing is copied.
 
-ghost use Rattle.std.specs.Prelude.{◌≡◌, ◌≤◌, ◌+◌, false, length, take, drop};
-ghost use Rattle.bh_lines.specs.Lines.{has_line, less_return};
-ghost use Rattle.bh_lines.specs.Front.{IsFront, IsEnd, IsTextOf};
+ghost use Rattle.std.specs.Prelude.{◌≡◌, ◌≤◌, ◌+◌, length, take, drop};
+ghost use Rattle.bh_lines.specs.Lines.{less_return};
+ghost use Rattle.bh_lines.specs.Front.{IsFront, IsTextOf};
 
 use crate::lines::LINE_LIMIT;
-use crate::port_error::PortError;
 use memchr::memchr;
 use std::str;
 
@@ -17,52 +16,30 @@ pub struct FrontLine<'a> {
     pub taken: usize,
 }
 
-/// The line in front, or nothing where none has ended yet.
+/// The line in front, where it is plain: ended by a line feed, of at most `LINE_LIMIT` bytes, and UTF-8.
 ///
-/// `Line` comes where the line in front is of over `LINE_LIMIT` bytes, ended or not, or is not UTF-8.
-pub fn front_line(bytes: &[u8]) -> Result<Option<FrontLine<'_>>, PortError>
+/// Nothing comes where no line has ended yet, and where the line in front is refused; `next_line` tells which.
+pub fn front_line(bytes: &[u8]) -> Option<FrontLine<'_>>
     ensures { IsFront bytes.now result }
 {
-    let Some(end) = memchr(b'\n', bytes) else {
-        return if bytes.len() > LINE_LIMIT {
-            Err(PortError::Line)
-        } else {
-            Ok(None)
-        };
-    };
+    let end = memchr(b'\n', bytes)?;
     if end > LINE_LIMIT {
-        return Err(PortError::Line);
+        return None;
     }
     let text = line_text(&bytes[..end])?;
-    Ok(Some(FrontLine {
+    Some(FrontLine {
         text,
         taken: end + 1,
-    }))
+    })
 }
 
-/// The line that stands at the end of the input with no line feed behind it, less a carriage return at its end, if any
-/// byte is left then. No line has ended before it.
-///
-/// `Line` comes where it is not UTF-8.
-pub fn end_line(bytes: &[u8]) -> Result<Option<&str>, PortError>
-    requires { has_line bytes.now ≡ false }
-    ensures { IsEnd bytes.now result }
-{
-    let text = line_text(bytes)?;
-    if text.is_empty() {
-        Ok(None)
-    } else {
-        Ok(Some(text))
-    }
-}
-
-/// The text of a line, less the carriage return that may end it. `Line` comes where it is not UTF-8.
-fn line_text(bytes: &[u8]) -> Result<&str, PortError>
+/// The text of a line, less the carriage return that may end it, where it is UTF-8.
+fn line_text(bytes: &[u8]) -> Option<&str>
     ensures { IsTextOf (less_return bytes.now) result }
 {
     match str::from_utf8(without_return(bytes)) {
-        Ok(text) => Ok(text),
-        Err(_) => Err(PortError::Line),
+        Ok(text) => Some(text),
+        Err(_) => None,
     }
 }
 

@@ -14,9 +14,10 @@ pub mod script_line;
 pub mod step_line;
 mod stops;
 pub mod told;
+mod writing;
 
 pub use fault::{Fault, put_fault};
-pub use front::{FrontLine, end_line, front_line};
+pub use front::{FrontLine, front_line};
 pub use lines::{last_line, next_line};
 pub use port_error::PortError;
 pub use replies::{json_line, put_error, put_reply};

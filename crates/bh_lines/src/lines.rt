@@ -1,4 +1,4 @@
-//! The lines of the bytes that have come.
+//! The lines of the bytes that have come, whatever they are: nearly all are plain, and `front_line` tells of these.
 //!
 //! A codec is made for each line, and only where one is known to stand in front: so the bytes in hand are all that
 //! is kept, and it does not matter in which pieces they came.

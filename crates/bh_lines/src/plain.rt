@@ -1,9 +1,10 @@
 //! Plain lines: one object of a few members, taken straight from the bytes of the line.
 //!
 //! Plain are texts without escapes, whole numbers of 64 bits, truth values and null, with no white space between them but
-//! spaces. A line of any other form is not refused here: nothing is said of it.
+//! one space at a time. A line of any other form is not refused here: nothing is said of it, and it is left before much work
+//! goes into it.
 
-ghost use Rattle.std.specs.Prelude.{◌≡◌, ◌+◌, ◌<◌, ◌≤◌, [], ◌∷◌, length, drop, true, Some, IfSome};
+ghost use Rattle.std.specs.Prelude.{◌≡◌, ◌+◌, ◌<◌, ◌≤◌, [], ◌∷◌, ◌++◌, length, drop, true, Some, IfSome};
 ghost use Rattle.json.specs.Word.{ends_word};
 ghost use Rattle.json.specs.Lex.{between, lex, tokens};
 ghost use Rattle.serde_json.specs.Read.{read};
@@ -59,7 +60,7 @@ fn plain_member(line: &str, place: usize) -> Option<PlainMember<'_>>
     let (name, behind_name) = plain_key(line, place)?;
     let (value, behind_value) = plain_scalar(line, behind_name)?;
     let member = FlatMember { name, value };
-    let end = past_spaces(line, behind_value);
+    let end = past_space(line, behind_value);
     if is_at(line, end, b',') {
         return Some(PlainMember {
             member,
@@ -82,12 +83,12 @@ fn plain_member(line: &str, place: usize) -> Option<PlainMember<'_>>
 fn plain_key(line: &str, place: usize) -> Option<(&str, usize)>
     ensures { IfSome result (λ found. IsKeyThen (drop place line.now) found.0.now (drop found.1 line.now)) }
 {
-    let (name, behind) = plain_text(line, past_spaces(line, place))?;
-    let colon = past_spaces(line, behind);
+    let (name, behind) = plain_text(line, past_space(line, place))?;
+    let colon = past_space(line, behind);
     if !is_at(line, colon, b':') {
         return None;
     }
-    Some((name, past_spaces(line, colon + 1)))
+    Some((name, past_space(line, colon + 1)))
 }
 
 /// The scalar at the place, and the place behind it.
@@ -108,50 +109,25 @@ fn plain_scalar(line: &str, place: usize) -> Option<(Scalar<'_>, usize)>
 fn plain_word(line: &str, place: usize) -> Option<(Scalar<'_>, usize)>
     ensures { IfSome result (λ found. IsScalarThen (drop place line.now) found.0 (drop found.1 line.now)) }
 {
-    if is_true_at(line, place) {
+    if is_word_at(line, place, "true") {
         return Some((Scalar::Truth(true), place + 4));
     }
-    if is_false_at(line, place) {
+    if is_word_at(line, place, "false") {
         return Some((Scalar::Truth(false), place + 5));
     }
-    if !is_null_at(line, place) {
+    if !is_word_at(line, place, "null") {
         return None;
     }
     Some((Scalar::Null, place + 4))
 }
 
-/// Whether `true` stands at the place.
-fn is_true_at(line: &str, place: usize) -> bool
-    ensures stands { result ≡ true → drop place line.now ≡ 116 ∷ 114 ∷ 117 ∷ 101 ∷ drop (place + 4) line.now }
-    ensures within { result ≡ true → place + 4 ≤ length line.now }
+/// Whether the word stands at the place.
+fn is_word_at(line: &str, place: usize, word: &str) -> bool
+    ensures stands { result ≡ true → drop place line.now ≡ word.now ++ drop (place + length word.now) line.now }
+    ensures within { result ≡ true → place + length word.now ≤ length line.now }
 {
-    is_at(line, place, b't')
-        && is_at(line, place + 1, b'r')
-        && is_at(line, place + 2, b'u')
-        && is_at(line, place + 3, b'e')
-}
-
-/// Whether `false` stands at the place.
-fn is_false_at(line: &str, place: usize) -> bool
-    ensures stands { result ≡ true → drop place line.now ≡ 102 ∷ 97 ∷ 108 ∷ 115 ∷ 101 ∷ drop (place + 5) line.now }
-    ensures within { result ≡ true → place + 5 ≤ length line.now }
-{
-    is_at(line, place, b'f')
-        && is_at(line, place + 1, b'a')
-        && is_at(line, place + 2, b'l')
-        && is_at(line, place + 3, b's')
-        && is_at(line, place + 4, b'e')
-}
-
-/// Whether `null` stands at the place.
-fn is_null_at(line: &str, place: usize) -> bool
-    ensures stands { result ≡ true → drop place line.now ≡ 110 ∷ 117 ∷ 108 ∷ 108 ∷ drop (place + 4) line.now }
-    ensures within { result ≡ true → place + 4 ≤ length line.now }
-{
-    is_at(line, place, b'n')
-        && is_at(line, place + 1, b'u')
-        && is_at(line, place + 2, b'l')
-        && is_at(line, place + 3, b'l')
+    let (bytes, word) = (line.as_bytes(), word.as_bytes());
+    place <= bytes.len() && bytes[place..].starts_with(word)
 }
 
 /// The number at the place, and the place behind it.
@@ -160,6 +136,10 @@ fn plain_number(line: &str, place: usize) -> Option<(u64, usize)>
     ensures { IfSome result (λ found. IsNumberThen (drop place line.now) found.0 (drop found.1 line.now)) }
 {
     let bytes = line.as_bytes();
+    // No other digit stands behind a zero in front, so a number that is looked at has no more than twenty.
+    if place < bytes.len() && bytes[place] == b'0' {
+        return Some((0, place + 1));
+    }
     let mut number = 0u64;
     let mut end = place;
     while end < bytes.len() && bytes[end].is_ascii_digit() {
@@ -169,7 +149,7 @@ fn plain_number(line: &str, place: usize) -> Option<(u64, usize)>
         number = number * 10 + (bytes[end] - b'0') as u64;
         end += 1;
     }
-    if end == place || (bytes[place] == b'0') & (end - place > 1) {
+    if end == place {
         return None;
     }
     Some((number, end))
@@ -190,31 +170,17 @@ fn plain_text(line: &str, place: usize) -> Option<(&str, usize)>
     Some((&line[place + 1..end], end + 1))
 }
 
-/// The place behind the spaces that stand at this one.
+/// The place behind the space that stands at this one, if one does: a second space in a row is not plain.
 #[inline(always)]
-fn past_spaces(line: &str, place: usize) -> usize
+fn past_space(line: &str, place: usize) -> usize
     ensures same { lex between (drop result line.now) ≡ lex between (drop place line.now) }
     ensures word { ends_word (drop result line.now) ≡ true → ends_word (drop place line.now) ≡ true }
 {
     if is_at(line, place, b' ') {
-        past_more_spaces(line, place)
+        place + 1
     } else {
         place
     }
-}
-
-/// The same, where there is a space.
-#[inline(never)]
-#[cold]
-fn past_more_spaces(line: &str, place: usize) -> usize
-    ensures same { lex between (drop result line.now) ≡ lex between (drop place line.now) }
-    ensures word { ends_word (drop result line.now) ≡ true → ends_word (drop place line.now) ≡ true }
-{
-    let mut next = place;
-    while is_at(line, next, b' ') {
-        next += 1;
-    }
-    next
 }
 
 /// Whether this byte stands at the place.

@@ -6,11 +6,12 @@ ghost use Rattle.serde_json.specs.Written.{comma_if, has_float, compact_text};
 ghost use Rattle.json.specs.Print.{escape, quoted};
 ghost use Rattle.bh_lines.specs.ReplyLine.{cause_word, fallback_word, circuit_word, events_data, fallback_due_data, assigned_data, expired_data, run_fallback_data, closed_data, value_data, fallback_value_data, error_answer_data, metrics_data, answer_data, reply_data, reply_line, json_line};
 ghost use Rattle.bh_lines.specs.FaultLine.{error_data};
-ghost use Rattle.bh_lines.specs.Puts.{Puts, count_text, counts_text, counts_most};
+ghost use Rattle.bh_lines.specs.Puts.{Puts, PutsObject, count_text, counts_text, counts_most};
 
 use crate::pieces::{
-    put_around_number, put_around_string, put_text, put_with_number, put_with_string,
+    is_plain, put_around_number, put_around_string, put_text, put_with_number, put_with_string,
 };
+use crate::writing::{Member, write_object};
 use bh_base::{Answer, Cause, CircuitState, Counts, FallbackFault, Metrics, Reply, Text};
 use serde_json::Value;
 use std::alloc::{AllocError, Global};
@@ -22,8 +23,18 @@ pub fn put_error(alloc: Global, bytes: &mut Vec<u8>, why: &str) -> Result<(), Al
     ensures err { OnErr result (bytes.new.items ≡ bytes.old.items) }
 {
     let start = bytes.len();
-    let put = put_around_string(bytes, r#"{"error":""#, why, r#""}"#);
+    let put = put_error_object(bytes, why);
     end_line(bytes, start, put)
+}
+
+/// The object that says why nothing was done.
+fn put_error_object(bytes: &mut Vec<u8>, why: &str) -> Result<(), AllocError>
+    ensures { PutsObject result bytes.old bytes.new (compact_text (error_data why.now)) (100 + 6 * length why.now) }
+{
+    if !is_plain(why) {
+        return write_object(bytes, &[Member::Text("error", why)]);
+    }
+    put_around_string(bytes, r#"{"error":""#, why, r#""}"#)
 }
 
 /// Puts the line of a reply, with its line feed, behind the bytes. It fails only for want of memory, and leaves the bytes
@@ -83,7 +94,7 @@ pub(crate) fn put_reply_object(
     reply: &Reply,
     command: Option<&Text<32>>,
 ) -> Result<(), AllocError>
-    ensures { Puts result bytes.old bytes.new (compact_text (reply_data (option_copied command.entry) reply.now)) 2047 }
+    ensures { PutsObject result bytes.old bytes.new (compact_text (reply_data (option_copied command.entry) reply.now)) 2047 }
 {
     match reply {
         Reply::Queued(serial) => put_numbered(bytes, r#"{"reply":"queued","ticket":"#, *serial),
@@ -148,7 +159,7 @@ fn put_assigned(
     command: Option<&Text<32>>,
     arg: &Text<64>,
 ) -> Result<(), AllocError>
-    ensures { Puts result bytes.old bytes.new (compact_text (assigned_data ticket (option_copied command.entry) arg.now)) 1000 }
+    ensures { PutsObject result bytes.old bytes.new (compact_text (assigned_data ticket (option_copied command.entry) arg.now)) 1000 }
 {
     match command {
         None => put_own_run(bytes, ticket, arg.as_str()),
@@ -158,39 +169,129 @@ fn put_assigned(
 
 /// A run of the group's own command, whose name does not stand in it.
 fn put_own_run(bytes: &mut Vec<u8>, ticket: u64, arg: &str) -> Result<(), AllocError>
-    ensures { Puts result bytes.old bytes.new (compact_text (assigned_data ticket None arg.now)) (100 + 6 * length arg.now) }
+    ensures { PutsObject result bytes.old bytes.new (compact_text (assigned_data ticket None arg.now)) (100 + 6 * length arg.now) }
 {
+    if !is_plain(arg) {
+        return write_own_run(bytes, ticket, arg);
+    }
     put_with_string(bytes, r#"{"arg":""#, arg)?;
     put_numbered(bytes, r#"","reply":"assigned","ticket":"#, ticket)
 }
 
 /// A run of the further command of the name.
 fn put_run(bytes: &mut Vec<u8>, ticket: u64, name: &str, arg: &str) -> Result<(), AllocError>
-    ensures { Puts result bytes.old bytes.new (compact_text (assigned_data ticket (Some name.now) arg.now)) (100 + 6 * length arg.now + 6 * length name.now) }
+    ensures { PutsObject result bytes.old bytes.new (compact_text (assigned_data ticket (Some name.now) arg.now)) (100 + 6 * length arg.now + 6 * length name.now) }
 {
+    if !(is_plain(arg) && is_plain(name)) {
+        return write_run(bytes, ticket, name, arg);
+    }
     put_with_string(bytes, r#"{"arg":""#, arg)?;
     put_with_string(bytes, r#"","command":""#, name)?;
     put_numbered(bytes, r#"","reply":"assigned","ticket":"#, ticket)
 }
 
+/// The same, where the argument needs an escape.
+#[cold]
+#[inline(never)]
+fn write_own_run(bytes: &mut Vec<u8>, ticket: u64, arg: &str) -> Result<(), AllocError>
+    ensures { PutsObject result bytes.old bytes.new (compact_text (assigned_data ticket None arg.now)) (100 + 6 * length arg.now) }
+{
+    let members = [
+        Member::Text("arg", arg),
+        Member::Text("reply", "assigned"),
+        Member::Number("ticket", ticket),
+    ];
+    write_object(bytes, &members)
+}
+
+/// The same of a further command, where the argument or the name needs one.
+#[cold]
+#[inline(never)]
+fn write_run<'a>(
+    bytes: &mut Vec<u8>,
+    ticket: u64,
+    name: &'a str,
+    arg: &'a str,
+) -> Result<(), AllocError>
+    ensures { PutsObject result bytes.old bytes.new (compact_text (assigned_data ticket (Some name.now) arg.now)) (100 + 6 * length arg.now + 6 * length name.now) }
+{
+    let members = [
+        Member::Text("arg", arg),
+        Member::Text("command", name),
+        Member::Text("reply", "assigned"),
+        Member::Number("ticket", ticket),
+    ];
+    write_object(bytes, &members)
+}
+
 /// The answer to a request.
 #[tactic(auto, unfolding(json::specs::Print::escape_byte))]
 fn put_answer(bytes: &mut Vec<u8>, answer: &Answer) -> Result<(), AllocError>
-    ensures { Puts result bytes.old bytes.new (compact_text (answer_data answer.now)) 2000 }
+    ensures { PutsObject result bytes.old bytes.new (compact_text (answer_data answer.now)) 2000 }
 {
     match answer {
-        Answer::Value(body) => put_body(bytes, body, r#"","reply":"value"}"#),
-        Answer::FallbackValue { cause, body } => put_body(bytes, body, fallback_value_back(*cause)),
+        Answer::Value(body) => put_value(bytes, body.as_str()),
+        Answer::FallbackValue { cause, body } => put_fallback_value(bytes, *cause, body.as_str()),
         Answer::Error { cause, fallback } => put_no_value(bytes, *cause, *fallback),
         Answer::BadRequest => put_text(bytes, r#"{"reply":"bad-request"}"#),
     }
 }
 
-/// An answer that has a body.
-fn put_body(bytes: &mut Vec<u8>, body: &Text<256>, back: &str) -> Result<(), AllocError>
-    ensures { Puts result bytes.old bytes.new (codes "{\"body\":\"" ++ (escape body.now ++ back.now)) (1545 + length back.now) }
+/// The value of a run.
+fn put_value(bytes: &mut Vec<u8>, body: &str) -> Result<(), AllocError>
+    ensures { PutsObject result bytes.old bytes.new (compact_text (value_data body.now)) (100 + 6 * length body.now) }
 {
-    put_around_string(bytes, r#"{"body":""#, body.as_str(), back)
+    if !is_plain(body) {
+        return write_value(bytes, body);
+    }
+    put_around_string(bytes, r#"{"body":""#, body, r#"","reply":"value"}"#)
+}
+
+/// The same, where the value needs an escape.
+#[cold]
+#[inline(never)]
+fn write_value(bytes: &mut Vec<u8>, body: &str) -> Result<(), AllocError>
+    ensures { PutsObject result bytes.old bytes.new (compact_text (value_data body.now)) (100 + 6 * length body.now) }
+{
+    let members = [Member::Text("body", body), Member::Text("reply", "value")];
+    write_object(bytes, &members)
+}
+
+/// The value of a fallback.
+fn put_fallback_value(bytes: &mut Vec<u8>, cause: Cause, body: &str) -> Result<(), AllocError>
+    ensures { PutsObject result bytes.old bytes.new (compact_text (fallback_value_data cause body.now)) (200 + 6 * length body.now) }
+{
+    if !is_plain(body) {
+        return write_fallback_value(bytes, cause, body);
+    }
+    put_around_string(bytes, r#"{"body":""#, body, fallback_value_back(cause))
+}
+
+/// The same, where the value needs an escape.
+#[cold]
+#[inline(never)]
+fn write_fallback_value(bytes: &mut Vec<u8>, cause: Cause, body: &str) -> Result<(), AllocError>
+    ensures { PutsObject result bytes.old bytes.new (compact_text (fallback_value_data cause body.now)) (200 + 6 * length body.now) }
+{
+    let members = [
+        Member::Text("body", body),
+        Member::Text("cause", cause_word(cause)),
+        Member::Text("reply", "fallback-value"),
+    ];
+    write_object(bytes, &members)
+}
+
+/// The word of a cause of a fallback.
+fn cause_word(cause: Cause) -> &'static str
+    ensures { result.now ≡ cause_word cause }
+{
+    match cause {
+        Cause::ShortCircuited => "short-circuited",
+        Cause::PoolRejected => "thread-pool-rejected",
+        Cause::SemaphoreRejected => "semaphore-rejected",
+        Cause::Failure => "failure",
+        Cause::Timeout => "timeout",
+    }
 }
 
 /// A request with no value.

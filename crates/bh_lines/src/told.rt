@@ -1,12 +1,13 @@
 //! What a line of a script is told, printed as a line of compact JSON with its members in the order of their names.
 
-ghost use Rattle.std.specs.Prelude.{◌≡◌, ◌+◌, ◌≤◌, ◌++◌, ◌∷◌, [], length, OnErr, OnOk, vec_capacity, vec_len};
+ghost use Rattle.std.specs.Prelude.{◌≡◌, ◌+◌, ◌*◌, ◌≤◌, ◌++◌, ◌∷◌, [], length, OnErr, OnOk, vec_capacity, vec_len};
 ghost use Rattle.serde_json.specs.Written.{compact_text};
-ghost use Rattle.bh_lines.specs.Puts.{Puts};
-ghost use Rattle.bh_lines.specs.ToldLine.{told_data, told_line};
+ghost use Rattle.bh_lines.specs.Puts.{PutsObject};
+ghost use Rattle.bh_lines.specs.ToldLine.{registered_data, told_data, told_line};
 
-use crate::pieces::{put_around_string, put_text};
+use crate::pieces::{is_plain, put_around_string, put_text};
 use crate::replies::{end_line, put_reply_object};
+use crate::writing::{Member, write_object};
 use bh_base::{Reply, Text};
 use std::alloc::{AllocError, Global};
 
@@ -52,17 +53,35 @@ pub fn put_told_within(alloc: Global, bytes: &mut Vec<u8>, told: &Told)
 /// bytes more; some of the object may be there then.
 #[tactic(auto, unfolding(json::specs::Print::escape_byte))]
 fn put_object(bytes: &mut Vec<u8>, told: &Told) -> Result<(), AllocError>
-    ensures { Puts result bytes.old bytes.new (compact_text (told_data told.now)) 2047 }
+    ensures { PutsObject result bytes.old bytes.new (compact_text (told_data told.now)) 2047 }
 {
     match told {
         Told::Reply { reply, command } => put_reply_object(bytes, reply, command.as_ref()),
-        Told::Registered(name) => put_around_string(
-            bytes,
-            r#"{"group":""#,
-            name.as_str(),
-            r#"","reply":"registered"}"#,
-        ),
+        Told::Registered(name) => put_registered(bytes, name.as_str()),
         Told::Held => put_text(bytes, r#"{"reply":"held"}"#),
         Told::Retired => put_text(bytes, r#"{"reply":"retired"}"#),
     }
+}
+
+/// The object that tells of a new group of the name.
+fn put_registered(bytes: &mut Vec<u8>, name: &str) -> Result<(), AllocError>
+    ensures { PutsObject result bytes.old bytes.new (compact_text (registered_data name.now)) (100 + 6 * length name.now) }
+{
+    if !is_plain(name) {
+        return write_registered(bytes, name);
+    }
+    put_around_string(bytes, r#"{"group":""#, name, r#"","reply":"registered"}"#)
+}
+
+/// The same, where the name needs an escape.
+#[cold]
+#[inline(never)]
+fn write_registered(bytes: &mut Vec<u8>, name: &str) -> Result<(), AllocError>
+    ensures { PutsObject result bytes.old bytes.new (compact_text (registered_data name.now)) (100 + 6 * length name.now) }
+{
+    let members = [
+        Member::Text("group", name),
+        Member::Text("reply", "registered"),
+    ];
+    write_object(bytes, &members)
 }

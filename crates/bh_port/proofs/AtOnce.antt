@@ -1,5 +1,5 @@
 -- What was answered from nothing on is then written at once, or a front of it.
-use Rattle.std.proofs.Common.{◌≡◌, ℕ, List, [], drop, ◌++◌, Option, Some, Result, Ok, Err, IfErr, IfOk, sym, subst}
+use Rattle.std.proofs.Common.{◌≡◌, ℕ, List, [], ◌++◌, Option, Some, Result, Ok, Err, IfErr, OnOk, sym, subst}
 use Rattle.std.specs.Io.KnownBytes.{Appends}
 use Rattle.bh_port.specs.GroupsView.{GroupsView}
 use Rattle.bh_lines.specs.declared.port_error.PortError.{PortError}
@@ -47,32 +47,29 @@ at_once-ended_unwritten r k start items bytes w0 w1 service before c none same o
     (subst (λ (ys : List ℕ). ScriptOutcome (Some ys) (Some items) service before c r) none outcome) kind
     (subst (λ (ys : List ℕ). WritesFront w0 w1 ys) same front))
 
--- a run stopped over bytes that were lent as `lent`
-lent-stopped : (w0 w1 : Option (List ℕ)) (service : SettingsView) (was : GroupsView) (lent old : List ℕ) (e : PortError) → lent ≡ old
-    → ((before : Course) (more : List ℕ) → GroupsShow service was before → ScriptOutcome w0 w1 service before (cut (lent ++ more)) (Err e))
-    → (before : Course) (more : List ℕ) → GroupsShow service was before → ScriptOutcome w0 w1 service before (cut (old ++ more)) (Err e)
-lent-stopped w0 w1 service was lent old e same stopped before more agrees =
-    subst (λ (ys : List ℕ). ScriptOutcome w0 w1 service before (cut (ys ++ more)) (Err e)) same (stopped before more agrees)
-
 -- the answers before a line that is refused were written
-pub at_once-stopped : (e : PortError) (start items bytes : List ℕ) (w0 w1 : Option (List ℕ)) (service : SettingsView) (was : GroupsView) (lent old : List ℕ) → lent ≡ old
-    → start ≡ [] → bytes ≡ items → StopsFrom start items service was lent e → IsMemoryOrLine e → Appends w0 w1 bytes
+at_once-stopped : (e : PortError) (start items bytes : List ℕ) (w0 w1 : Option (List ℕ)) (service : SettingsView) (was : GroupsView) (old : List ℕ)
+    → start ≡ [] → bytes ≡ items → StopsFrom start items service was old e → IsMemoryOrLine e → Appends w0 w1 bytes
     → (before : Course) (more : List ℕ) → GroupsShow service was before → ScriptOutcome w0 w1 service before (cut (old ++ more)) (Err e)
-at_once-stopped e start items bytes w0 w1 service was lent old lends none same stops kind wrote =
-    lent-stopped w0 w1 service was lent old e lends
-    (λ before more agrees. at_once-ended (Err e) start items bytes w0 w1 service before (cut (lent ++ more)) none same (stops before more agrees) kind wrote)
+at_once-stopped e start items bytes w0 w1 service was old none same stops kind wrote before more agrees =
+    at_once-ended (Err e) start items bytes w0 w1 service before (cut (old ++ more)) none same (stops before more agrees) kind wrote
+
+-- the same of a run that may go on
+pub at_once-outcome : (r : Result (Unit {0}) PortError) (start items bytes : List ℕ) (w0 w1 : Option (List ℕ)) (service : SettingsView) (was : GroupsView) (old : List ℕ)
+    → start ≡ [] → bytes ≡ items → IfErr r (StopsFrom start items service was old) → IfErr r IsMemoryOrLine → Appends w0 w1 bytes
+    → IfErr r (λ e. (before : Course) (more : List ℕ) → GroupsShow service was before → ScriptOutcome w0 w1 service before (cut (old ++ more)) (Err e))
+at_once-outcome (Ok x) start items bytes w0 w1 service was old none same stops kind wrote = tt
+at_once-outcome (Err e) start items bytes w0 w1 service was old none same stops kind wrote = at_once-stopped e start items bytes w0 w1 service was old none same stops kind wrote
 
 -- a front of the answers was written, whether the run could go on or not
-pub at_once-unwritten : (r : Result ℕ PortError) (k : PortError) (start items bytes : List ℕ) (w0 w1 : Option (List ℕ)) (service : SettingsView) (was now : GroupsView) (lent old : List ℕ) → lent ≡ old
-    → start ≡ [] → bytes ≡ items → IfOk r (λ taken. AnswersFrom start items service was now lent (drop taken lent)) → IfErr r (StopsFrom start items service was lent) → IfErr r IsMemoryOrLine
+pub at_once-unwritten : (r : Result (Unit {0}) PortError) (k : PortError) (start items bytes : List ℕ) (w0 w1 : Option (List ℕ)) (service : SettingsView) (was now : GroupsView) (old new : List ℕ)
+    → start ≡ [] → bytes ≡ items → OnOk r (AnswersFrom start items service was now old new) → IfErr r (StopsFrom start items service was old) → IfErr r IsMemoryOrLine
     → k ≡ Write → WritesFront w0 w1 bytes
     → (before : Course) (more : List ℕ) → GroupsShow service was before → ScriptOutcome w0 w1 service before (cut (old ++ more)) (Err k)
-at_once-unwritten (Ok taken) k start items bytes w0 w1 service was now lent old lends none same answers stops kind is_write front =
-    lent-stopped w0 w1 service was lent old k lends
-    (λ before more agrees. subst (λ (j : PortError). ScriptOutcome w0 w1 service before (cut (lent ++ more)) (Err j)) (sym is_write)
-    (unwritten-answered items w0 w1 service before now lent (drop taken lent) more
-    (subst (λ (ys : List ℕ). ScriptAnswered (Some ys) (Some items) service before now lent (drop taken lent)) none (answers before agrees))
-    (subst (λ (ys : List ℕ). WritesFront w0 w1 ys) same front)))
-at_once-unwritten (Err e) k start items bytes w0 w1 service was now lent old lends none same answers stops kind is_write front =
-    lent-stopped w0 w1 service was lent old k lends
-    (λ before more agrees. at_once-ended_unwritten (Err e) k start items bytes w0 w1 service before (cut (lent ++ more)) none same (stops before more agrees) kind is_write front)
+at_once-unwritten (Ok x) k start items bytes w0 w1 service was now old new none same answers stops kind is_write front before more agrees =
+    subst (λ (j : PortError). ScriptOutcome w0 w1 service before (cut (old ++ more)) (Err j)) (sym is_write)
+    (unwritten-answered items w0 w1 service before now old new more
+    (subst (λ (ys : List ℕ). ScriptAnswered (Some ys) (Some items) service before now old new) none (answers before agrees))
+    (subst (λ (ys : List ℕ). WritesFront w0 w1 ys) same front))
+at_once-unwritten (Err e) k start items bytes w0 w1 service was now old new none same answers stops kind is_write front before more agrees =
+    at_once-ended_unwritten (Err e) k start items bytes w0 w1 service before (cut (old ++ more)) none same (stops before more agrees) kind is_write front

@@ -1,5 +1,5 @@
 -- Where the further commands of each group stand in their list, found from the end of the list on.
-use Rattle.std.proofs.Common.{◌≡◌, ◌≢◌, ◌+◌, ◌*◌, ◌<◌, ◌≤◌, ◌⊎◌, inl, inr, ℕ, zero, suc, Bool, true, false, cond, List, [], ◌∷◌, length, drop, set, replicate, Option, Some, refl, ◌∙◌, sym, ap, arith, rules}
+use Rattle.std.proofs.Common.{◌≡◌, ◌≢◌, ◌+◌, ◌*◌, ◌<◌, ◌≤◌, ◌⊎◌, inl, inr, ℕ, zero, suc, Bool, true, false, cond, List, [], ◌∷◌, length, drop, set, replicate, Some, refl, ◌∙◌, sym, ap, arith, rules}
 use Rattle.std.specs.Prelude.{◌==◌, ◌&&◌, find, slice_get}
 use Rattle.std.proofs.lemmas.List.{get_or-replicate, length-replicate}
 use Rattle.std.proofs.lemmas.Option.{get_or_from_slice_get, slice_get_past, slice_get_within}

@@ -1,17 +1,17 @@
 -- A run of a script, from the reader's first byte to its last.
-use Rattle.std.proofs.Common.{◌≡◌, ℕ, false, List, [], ◌++◌, Option, Some, None, Result, Ok, Err, IfSome, refl, sym, ◌∙◌, subst, ap, append-nil, append_assoc}
+use Rattle.std.proofs.Common.{◌≡◌, ℕ, false, List, [], ◌++◌, Option, Some, None, Result, Err, IfSome, refl, sym, ◌∙◌, subst, ap, append-nil, append_assoc}
 use Rattle.std.proofs.KnownBytes.{Appends-trans}
-use Rattle.std.specs.Io.KnownBytes.{Keeps, Appends, Consumes, IsAtEnd}
+use Rattle.std.specs.Io.KnownBytes.{Keeps, Consumes, IsAtEnd}
 use Rattle.bh_port.specs.GroupsView.{GroupsView}
 use Rattle.bh_lines.specs.declared.port_error.PortError.{PortError}
 use Rattle.bh_lines.specs.declared.port_error.PortError.TheVariants.{Read, Write, Line, Memory}
-use Rattle.bh_lines.specs.Lines.{Cut, cut, stops, has_line}
+use Rattle.bh_lines.specs.Lines.{cut, stops, has_line}
 use Rattle.bh_streams.specs.Watched.{WritesFront}
 use Rattle.bh_port.specs.Text.{text}
 use Rattle.bh_port.specs.Course.{Course, new_course}
 use Rattle.bh_port.specs.Script.{GroupsShow, ScriptAnswered, ScriptHasAnswered, ScriptOutcome, IsMemoryOrRead}
-use Rattle.bh_streams.proofs.Fronts.{front-after, whole-front}
-use Rattle.bh_port.proofs.Answering.{answered-none}
+use Rattle.bh_streams.proofs.Fronts.{whole-front}
+use Rattle.bh_port.proofs.Answering.{answered-none, outcome-after}
 use Rattle.bh_props.specs.SettingsView.{SettingsView}
 
 -- what was written for `all` while `left` and the buffer are left of it
@@ -83,14 +83,6 @@ all-stops : (all left : List ℕ) (w0 w1 : Option (List ℕ)) (service : Setting
     → stops (cut all) ≡ stops (cut (buffer ++ left))
 all-stops all left w0 w1 service groups buffer p = ap (λ ys. stops (cut ys)) p.all_is ∙ p.answered.stops_is left
 
-outcome-after : (a b c : Option (List ℕ)) (service : SettingsView) (out : List ℕ) (first later : Course) (all rest : Cut) (r : Result (Unit {0}) PortError)
-    → Appends a b out → text service first all ≡ out ++ text service later rest → stops all ≡ stops rest → ScriptOutcome b c service later rest r → ScriptOutcome a c service first all r
-outcome-after a b c service out first later all rest (Ok x) h e s o = (subst (λ (ys : List ℕ). Appends a c ys) (sym e) (Appends-trans a b c _ _ h o.0), s ∙ o.1)
-outcome-after a b c service out first later all rest (Err Line) h e s o = (subst (λ (ys : List ℕ). Appends a c ys) (sym e) (Appends-trans a b c _ _ h o.0), s ∙ o.1)
-outcome-after a b c service out first later all rest (Err Memory) h e s o = subst (λ (ys : List ℕ). WritesFront a c ys) (sym e) (front-after a b c _ _ h o)
-outcome-after a b c service out first later all rest (Err Read) h e s o = subst (λ (ys : List ℕ). WritesFront a c ys) (sym e) (front-after a b c _ _ h o)
-outcome-after a b c service out first later all rest (Err Write) h e s o = subst (λ (ys : List ℕ). WritesFront a c ys) (sym e) (front-after a b c _ _ h o)
-
 -- the run stops whatever bytes follow
 pub progress-stops : (all now w0 w1 w2 : Option (List ℕ)) (service : SettingsView) (groups : GroupsView) (buffer : List ℕ) (r : Result (Unit {0}) PortError)
     → Progress all now w0 w1 service groups buffer → ((before : Course) (more : List ℕ) → GroupsShow service groups before → ScriptOutcome w1 w2 service before (cut (buffer ++ more)) r)
@@ -101,14 +93,14 @@ progress-stops (Some all) (Some left) w0 w1 w2 service groups buffer r p o =
     let done = p.answered in
     outcome-after w0 w1 w2 service done.out (new_course service) done.later _ _ r done.wrote (all-text all left w0 w1 service groups buffer p) (all-stops all left w0 w1 service groups buffer p) (o done.later left done.agrees)
 
--- the run stops where the input ends, over the bytes of the buffer as they were lent
-pub progress-ends : (all now w0 w1 w2 : Option (List ℕ)) (service : SettingsView) (groups : GroupsView) (lent buffer : List ℕ) (r : Result (Unit {0}) PortError)
-    → Progress all now w0 w1 service groups buffer → IsAtEnd now → lent ≡ buffer → ((before : Course) → GroupsShow service groups before → ScriptOutcome w1 w2 service before (cut lent) r)
+-- the run stops where the input ends
+pub progress-ends : (all now w0 w1 w2 : Option (List ℕ)) (service : SettingsView) (groups : GroupsView) (buffer : List ℕ) (r : Result (Unit {0}) PortError)
+    → Progress all now w0 w1 service groups buffer → IsAtEnd now → ((before : Course) → GroupsShow service groups before → ScriptOutcome w1 w2 service before (cut buffer) r)
     → IfSome all (λ input. ScriptOutcome w0 w2 service (new_course service) (cut input) r)
-progress-ends None now w0 w1 w2 service groups lent buffer r p e lends o = tt
-progress-ends (Some all) None w0 w1 w2 service groups lent buffer r p e lends o = absurd p
-progress-ends (Some all) (Some left) w0 w1 w2 service groups lent buffer r p e lends o =
-    let same : lent ≡ buffer ++ left = lends ∙ sym (append-nil buffer) ∙ ap (λ ys. buffer ++ ys) (sym e) in
+progress-ends None now w0 w1 w2 service groups buffer r p e o = tt
+progress-ends (Some all) None w0 w1 w2 service groups buffer r p e o = absurd p
+progress-ends (Some all) (Some left) w0 w1 w2 service groups buffer r p e o =
+    let same : buffer ≡ buffer ++ left = sym (append-nil buffer) ∙ ap (λ ys. buffer ++ ys) (sym e) in
     let done = p.answered in
     outcome-after w0 w1 w2 service done.out (new_course service) done.later _ _ r done.wrote (all-text all left w0 w1 service groups buffer p) (all-stops all left w0 w1 service groups buffer p)
     (subst (λ (ys : List ℕ). ScriptOutcome w1 w2 service done.later (cut ys) r) same (o done.later done.agrees))

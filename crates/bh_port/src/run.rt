@@ -1,6 +1,6 @@
 //! A run of a script: lines are answered as they come, each by the line of what it is told or of its fault.
 
-ghost use Rattle.std.specs.Prelude.{◌≡◌, ◌⊎◌, ◌++◌, ◌≤◌, ℕ, List, drop, false, length, Some, Err, OnOk, OnErr, IfErr, IfOk};
+ghost use Rattle.std.specs.Prelude.{◌≡◌, ◌⊎◌, ◌++◌, ◌<◌, ℕ, List, true, false, length, Some, Err, OnOk, OnErr, IfErr, IfOk};
 ghost use Rattle.bh_props.specs.Shown.{settings_view};
 ghost use Rattle.bh_lines.specs.Lines.{cut, has_line};
 ghost use Rattle.bh_lines.specs.Taken.{IsMemoryOrLine};
@@ -16,7 +16,9 @@ use crate::act::{LineAct, line_act};
 use crate::groups::Groups;
 use crate::places::CommandPlaces;
 use bh_base::Reply;
-use bh_lines::{Fault, PortError, end_line, front_line, put_fault, put_reply, put_told};
+use bh_lines::{
+    Fault, PortError, front_line, last_line, next_line, put_fault, put_reply, put_told,
+};
 use bh_props::Settings;
 use bh_streams::{WatchedWriter, write};
 use bytes::BytesMut;
@@ -59,11 +61,9 @@ impl Run {
             ScriptOutcome (bytes_held W.contents writer.old) (bytes_held W.contents writer.new) (settings_view settings.now) before (cut (buffer.old.items ++ more)) (Err e)) }
     {
         self.out.clear();
-        let answered = self.answer_lines(settings, places, buffer.as_slice());
+        let answered = self.answer_lines(settings, places, buffer);
         write(writer, self.out.as_slice())?;
-        let taken = answered?;
-        buffer.advance(taken);
-        Ok(())
+        answered
     }
 
     /// Answers the line at the end of the input that no line feed ended, if any, and writes the answer.
@@ -71,17 +71,17 @@ impl Run {
         &mut self,
         settings: &Settings,
         places: &CommandPlaces,
-        rest: &[u8],
+        rest: &mut BytesMut,
         writer: &mut WatchedWriter<'_, W>,
     ) -> Result<(), PortError>
         requires places { AreCommandPlaces (settings_view settings.now).commands places.now }
-        requires last { has_line rest.now ≡ false }
+        requires last { has_line rest.old.items ≡ false }
         ensures no_read { IfErr result IsNotRead }
         ensures same_writer { (writer_of writer.new).ghost_name ≡ (writer_of writer.old).ghost_name }
         ensures refused { result ≡ Err PortError.Write → OneRefused writer.old writer.new }
         ensures not_refused { (result ≡ Err PortError.Write) ⊎ NoneRefused writer.old writer.new }
         ensures outcome { (before : Course) → GroupsShow (settings_view settings.now) self.old.groups before →
-            ScriptOutcome (bytes_held W.contents writer.old) (bytes_held W.contents writer.new) (settings_view settings.now) before (cut rest.now) result }
+            ScriptOutcome (bytes_held W.contents writer.old) (bytes_held W.contents writer.new) (settings_view settings.now) before (cut rest.old.items) result }
     {
         self.out.clear();
         let answered = self.answer_last(settings, places, rest);
@@ -89,29 +89,76 @@ impl Run {
         answered
     }
 
-    /// Answers each line of the bytes that has ended, behind what is to be written, and tells how many of the bytes these
-    /// lines take.
+    /// Answers each line of the buffer that has ended, behind what is to be written. The buffer then begins behind the last of
+    /// them.
     fn answer_lines(
         &mut self,
         settings: &Settings,
         places: &CommandPlaces,
-        bytes: &[u8],
-    ) -> Result<usize, PortError>
+        buffer: &mut BytesMut,
+    ) -> Result<(), PortError>
         requires { AreCommandPlaces (settings_view settings.now).commands places.now }
-        ensures within { IfOk result (λ taken. taken ≤ length bytes.now) }
-        ensures answered { IfOk result (λ taken. (before : Course) → GroupsShow (settings_view settings.now) self.old.groups before →
-            ScriptAnswered (Some self.old.out.items) (Some self.new.out.items) (settings_view settings.now) before self.new.groups bytes.now (drop taken bytes.now)) }
-        ensures none_left { IfOk result (λ taken. has_line (drop taken bytes.now) ≡ false) }
+        ensures answered { OnOk result ((before : Course) → GroupsShow (settings_view settings.now) self.old.groups before →
+            ScriptAnswered (Some self.old.out.items) (Some self.new.out.items) (settings_view settings.now) before self.new.groups buffer.old.items buffer.new.items) }
+        ensures none_left { OnOk result (has_line buffer.new.items ≡ false) }
         ensures kinds { IfErr result IsMemoryOrLine }
         ensures stopped { IfErr result (λ e. (before : Course) (more : List ℕ) → GroupsShow (settings_view settings.now) self.old.groups before →
-            ScriptOutcome (Some self.old.out.items) (Some self.new.out.items) (settings_view settings.now) before (cut (bytes.now ++ more)) (Err e)) }
+            ScriptOutcome (Some self.old.out.items) (Some self.new.out.items) (settings_view settings.now) before (cut (buffer.old.items ++ more)) (Err e)) }
     {
-        let mut taken = 0;
-        'lines: while let Some(line) = front_line(&bytes[taken..])? {
-            self.answer_line(settings, places, line.text)?;
-            taken += line.taken;
-        }
-        Ok(taken)
+        while self.answer_next(settings, places, buffer)? {}
+        Ok(())
+    }
+
+    /// Answers the line in front, behind what is to be written, and says whether one had ended. The buffer then begins behind
+    /// it.
+    #[inline(always)]
+    fn answer_next(
+        &mut self,
+        settings: &Settings,
+        places: &CommandPlaces,
+        buffer: &mut BytesMut,
+    ) -> Result<bool, PortError>
+        requires { AreCommandPlaces (settings_view settings.now).commands places.now }
+        ensures answered { OnOk result ((before : Course) → GroupsShow (settings_view settings.now) self.old.groups before →
+            ScriptAnswered (Some self.old.out.items) (Some self.new.out.items) (settings_view settings.now) before self.new.groups buffer.old.items buffer.new.items) }
+        ensures shorter { IfOk result (λ ended. ended ≡ true → length buffer.new.items < length buffer.old.items) }
+        ensures none_left { IfOk result (λ ended. ended ≡ false → has_line buffer.new.items ≡ false) }
+        ensures kinds { IfErr result IsMemoryOrLine }
+        ensures stopped { IfErr result (λ e. (before : Course) (more : List ℕ) → GroupsShow (settings_view settings.now) self.old.groups before →
+            ScriptOutcome (Some self.old.out.items) (Some self.new.out.items) (settings_view settings.now) before (cut (buffer.old.items ++ more)) (Err e)) }
+    {
+        let Some(line) = front_line(buffer.as_slice()) else {
+            return self.answer_cut(settings, places, buffer);
+        };
+        self.answer_line(settings, places, line.text)?;
+        let taken = line.taken;
+        buffer.advance(taken);
+        Ok(true)
+    }
+
+    /// The same where no plain line stands in front.
+    #[cold]
+    #[inline(never)]
+    fn answer_cut(
+        &mut self,
+        settings: &Settings,
+        places: &CommandPlaces,
+        buffer: &mut BytesMut,
+    ) -> Result<bool, PortError>
+        requires { AreCommandPlaces (settings_view settings.now).commands places.now }
+        ensures answered { OnOk result ((before : Course) → GroupsShow (settings_view settings.now) self.old.groups before →
+            ScriptAnswered (Some self.old.out.items) (Some self.new.out.items) (settings_view settings.now) before self.new.groups buffer.old.items buffer.new.items) }
+        ensures shorter { IfOk result (λ ended. ended ≡ true → length buffer.new.items < length buffer.old.items) }
+        ensures none_left { IfOk result (λ ended. ended ≡ false → has_line buffer.new.items ≡ false) }
+        ensures kinds { IfErr result IsMemoryOrLine }
+        ensures stopped { IfErr result (λ e. (before : Course) (more : List ℕ) → GroupsShow (settings_view settings.now) self.old.groups before →
+            ScriptOutcome (Some self.old.out.items) (Some self.new.out.items) (settings_view settings.now) before (cut (buffer.old.items ++ more)) (Err e)) }
+    {
+        let Some(line) = next_line(buffer)? else {
+            return Ok(false);
+        };
+        self.answer_line(settings, places, line.as_str())?;
+        Ok(true)
     }
 
     /// Answers the line at the end of the input that no line feed ended, if any.
@@ -119,18 +166,18 @@ impl Run {
         &mut self,
         settings: &Settings,
         places: &CommandPlaces,
-        rest: &[u8],
+        rest: &mut BytesMut,
     ) -> Result<(), PortError>
         requires places { AreCommandPlaces (settings_view settings.now).commands places.now }
-        requires last { has_line rest.now ≡ false }
+        requires last { has_line rest.old.items ≡ false }
         ensures kinds { IfErr result IsMemoryOrLine }
         ensures outcome { (before : Course) → GroupsShow (settings_view settings.now) self.old.groups before →
-            ScriptOutcome (Some self.old.out.items) (Some self.new.out.items) (settings_view settings.now) before (cut rest.now) result }
+            ScriptOutcome (Some self.old.out.items) (Some self.new.out.items) (settings_view settings.now) before (cut rest.old.items) result }
     {
-        let Some(line) = end_line(rest)? else {
+        let Some(line) = last_line(rest)? else {
             return Ok(());
         };
-        self.answer_line(settings, places, line)?;
+        self.answer_line(settings, places, line.as_str())?;
         Ok(())
     }
 

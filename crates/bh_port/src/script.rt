@@ -78,7 +78,7 @@ pub fn script<R: Read, W: Write>(
     for _ in 0..MOST_READS {
         run.write_answers(settings, &places, &mut buffer, writer)?;
         if !fill(reader, &mut piece, &mut buffer)? {
-            return run.write_last(settings, &places, buffer.as_slice(), writer);
+            return run.write_last(settings, &places, &mut buffer, writer);
         }
     }
     Err(PortError::Read)

@@ -23,9 +23,13 @@ pub record Row : Type 0 where
 abbrev pub a_row : Place → List ℕ → Kind → PropertyValue → Row
 a_row place name kind built_in = record { place = place; name = name; kind = kind; built_in = built_in }
 
--- the row that the code gives
-abbrev pub row_of_code : RowOfCode → Row
-row_of_code r = record { place = r.place; name = r.name.now; kind = r.kind; built_in = r.built_in }
+-- the columns beside the name
+abbrev pub columns : Place → Kind → PropertyValue → RowOfCode
+columns place kind built_in = record { place = place; kind = kind; built_in = built_in }
+
+-- the row of a name and of the columns that the code gives beside it
+abbrev pub row_of_code : List ℕ → RowOfCode → Row
+row_of_code name r = record { place = r.place; name = name; kind = r.kind; built_in = r.built_in }
 
 -- a number of 32 bits
 abbrev pub whole : Kind

@@ -18,13 +18,13 @@ use std::alloc::{AllocError, Global};
 use toml::{Table, Value};
 
 /// From each further command's name to its group's place, from 0, and its number there.
-pub(crate) type Commands = IndexMap<Text<32>, (u32, u8)>;
+pub type Commands = IndexMap<Text<32>, (u32, u8)>;
 
 /// The most further commands of a group.
 const MOST_FURTHER: u8 = 15;
 
 /// The further commands in the order of their names' bytes, or why they are refused.
-pub(crate) fn further_commands(
+pub fn further_commands(
     alloc: Global,
     root: &Value,
     names: &Names,

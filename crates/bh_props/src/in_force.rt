@@ -15,9 +15,9 @@ use toml::Value;
 
 /// What a file has for all names, found once.
 #[derive(Clone, Copy)]
-pub(crate) struct Sections<'a> {
+pub struct Sections<'a> {
     /// The whole file.
-    pub(crate) root: &'a Value,
+    pub root: &'a Value,
     /// What stands under `service.slots`.
     slots: Option<&'a Value>,
     /// What stands under `hystrix.command`.
@@ -30,18 +30,18 @@ pub(crate) struct Sections<'a> {
 
 /// What a file has for a group or a further command.
 #[derive(Clone, Copy)]
-pub(crate) struct Given<'a> {
+pub struct Given<'a> {
     /// What it has for all names.
-    pub(crate) sections: Sections<'a>,
+    pub sections: Sections<'a>,
     /// The name of the group or the command.
-    pub(crate) name: &'a str,
+    pub name: &'a str,
     /// What stands under `hystrix.command` and the name.
     command: Option<&'a Value>,
 }
 
 impl<'a> Sections<'a> {
     /// What the file has for all names.
-    pub(crate) fn of(root: &'a Value) -> Sections<'a>
+    pub fn of(root: &'a Value) -> Sections<'a>
         ensures found { AreFound result }
         ensures root { result.root.now ≡ root.now }
     {
@@ -56,7 +56,7 @@ impl<'a> Sections<'a> {
     }
 
     /// What the file has for the name.
-    pub(crate) fn named(&self, name: &'a str) -> Given<'a>
+    pub fn named(&self, name: &'a str) -> Given<'a>
         requires { AreFound self.now }
         ensures found { IsFound result }
         ensures root { result.sections.root.now ≡ self.now.root.now }
@@ -72,7 +72,7 @@ impl<'a> Sections<'a> {
 
 impl Given<'_> {
     /// The value in force of a property, or why the file's value is refused.
-    pub(crate) fn in_force(&self, property: Property) -> Result<PropertyValue, Fault>
+    pub fn in_force(&self, property: Property) -> Result<PropertyValue, Fault>
         requires { IsFound self.now }
         ensures { result ≡ in_force property self.now.name.now (view self.now.sections.root.now) }
     {
@@ -83,12 +83,20 @@ impl Given<'_> {
         }
     }
 
+    /// The value that the file has for a property under the name itself.
+    pub fn own(&self, property: Property) -> Option<&Value>
+        requires { IsFound self.now }
+        ensures { seen result ≡ look_up (path_of property self.now.name.now) (view self.now.sections.root.now) }
+    {
+        value_under(&self.sections, property, self.name, self.command)
+    }
+
     /// The value that the file has for a property: the name's own, else the default one.
-    fn value(&self, property: Property) -> Option<&Value>
+    pub fn value(&self, property: Property) -> Option<&Value>
         requires { IsFound self.now }
         ensures { seen result ≡ given property self.now.name.now (view self.now.sections.root.now) }
     {
-        match value_under(&self.sections, property, self.name, self.command) {
+        match self.own(property) {
             Some(value) => Some(value),
             None => value_under(
                 &self.sections,
@@ -112,7 +120,7 @@ fn value_under<'a>(
     requires command { seen command ≡ look_up (keys_of (codes "hystrix.command") ++ key.now ∷ []) (view sections.now.root.now) }
     ensures { seen result ≡ look_up (path_of property key.now) (view sections.now.root.now) }
 {
-    let keys = property.keys();
+    let keys = property.name().keys;
     match property.row().place {
         Place::Service => look_up_keys(sections.root, keys),
         Place::ServiceGroup => under(sections.slots, key),

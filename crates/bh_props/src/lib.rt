@@ -18,9 +18,13 @@ mod settings_file;
 mod subject;
 mod value;
 
+pub use commands::{Commands, further_commands};
 pub use error::SettingsError;
-pub use names::is_name;
-pub use property::Property;
-pub use reading::read;
+pub use in_force::{Given, Sections};
+pub use look_up::look_up as value_at;
+pub use names::{Names, group_names, is_name};
+pub use property::{DottedName, Place, Property, Row};
+pub use reading::{read, read_tree};
 pub use settings::Settings;
 pub use settings_file::settings_in;
+pub use value::{Fault, Kind, PropertyValue};

@@ -7,7 +7,7 @@ ghost use Rattle.bh_props.specs.Tree.{keys_of, look_up};
 use toml::Value;
 
 /// The value under a dotted name; none where a part of the name is missing or not in a table.
-pub(crate) fn look_up<'a>(value: &'a Value, name: &str) -> Option<&'a Value>
+pub fn look_up<'a>(value: &'a Value, name: &str) -> Option<&'a Value>
     ensures { option_map (λ v. view v.now) result ≡ look_up (keys_of name.now) (view value.now) }
 {
     match name.split_once('.') {

@@ -16,16 +16,16 @@ use toml::Value;
 
 /// The names of the groups, found by their texts.
 #[derive(Drop)]
-pub(crate) struct Names {
+pub struct Names {
     /// The names in listed order.
-    pub(crate) texts: IndexSet<Text<32>>,
+    pub texts: IndexSet<Text<32>>,
     /// Each is of at most 32 bytes.
-    pub(crate) ghost short: { All (λ name. length name ≤ 32) texts.keys } by { Prim.hlevel props },
+    pub ghost short: { All (λ name. length name ≤ 32) texts.keys } by { Prim.hlevel props },
 }
 
 impl Names {
     /// The place of the group of the name, from 0.
-    pub(crate) fn place_of(&self, name: &str) -> Option<usize>
+    pub fn place_of(&self, name: &str) -> Option<usize>
         ensures value { result ≡ position (λ group. bytes_eq group name.now) self.now.texts.keys }
         ensures within { IfSome result (λ place. place < length self.now.texts.keys) }
     {
@@ -36,7 +36,7 @@ impl Names {
     }
 
     /// Whether a group has the name.
-    pub(crate) fn is_listed(&self, name: &str) -> bool
+    pub fn is_listed(&self, name: &str) -> bool
         ensures { result ≡ list_any (λ group. bytes_eq group name.now) self.now.texts.keys }
     {
         match Text::new(name) {
@@ -47,7 +47,7 @@ impl Names {
 }
 
 /// The names of the groups in listed order, or why they are refused.
-pub(crate) fn group_names(alloc: Global, root: &Value) -> Result<Names, SettingsError>
+pub fn group_names(alloc: Global, root: &Value) -> Result<Names, SettingsError>
     ensures ok { IfOk result (λ names. names_of (view root.now) ≡ Ok names.texts.keys) }
     ensures refused { IfErr result (λ e. e ≢ SettingsError.Memory → names_of (view root.now) ≡ Err e) }
 {

@@ -6,7 +6,6 @@ ghost use Rattle.std.specs.Fmt.{WritesOnOk};
 ghost use Rattle.bh_base.specs.Commands.{command_count};
 ghost use Rattle.bh_props.specs.Commands.{commands_in};
 ghost use Rattle.bh_props.specs.ByGroup.{AreByGroup};
-ghost use Rattle.bh_props.specs.Table.{row};
 ghost use Rattle.bh_props.specs.Printed.{word_of, value_of, property_line, lines_of, subject_lines, further_lines, number_or};
 ghost use Rattle.bh_props.specs.Shown.{settings_view};
 
@@ -162,7 +161,7 @@ fn write_lines<W: fmt::Write>(
     for property in properties {
         let value = property.value_in(props, command, audit_steps);
         f.write_str(name)?;
-        write_between_spaces(f, property.dotted_name())?;
+        write_between_spaces(f, property.name().text)?;
         write_end(f, value)?;
     }
     Ok(())
@@ -201,35 +200,6 @@ fn write_value<W: fmt::Write>(f: &mut fmt::Formatter<W>, value: PropertyValue) -
 }
 
 impl Property {
-    /// The property's dotted name.
-    fn dotted_name(self) -> &'static str
-        ensures { result.now ≡ (row self).name }
-    {
-        match self {
-            Property::AuditSteps => "service.auditSteps",
-            Property::Slots => "service.slots",
-            Property::Strategy => "execution.isolation.strategy",
-            Property::Timeout => "execution.isolation.thread.timeoutInMilliseconds",
-            Property::TimeoutOn => "execution.timeout.enabled",
-            Property::Semaphore => "execution.isolation.semaphore.maxConcurrentRequests",
-            Property::FallbackPermits => "fallback.isolation.semaphore.maxConcurrentRequests",
-            Property::FallbackOn => "fallback.enabled",
-            Property::CircuitOn => "circuitBreaker.enabled",
-            Property::Volume => "circuitBreaker.requestVolumeThreshold",
-            Property::SleepWindow => "circuitBreaker.sleepWindowInMilliseconds",
-            Property::ErrorPercent => "circuitBreaker.errorThresholdPercentage",
-            Property::ForceOpen => "circuitBreaker.forceOpen",
-            Property::ForceClosed => "circuitBreaker.forceClosed",
-            Property::Window => "metrics.rollingStats.timeInMilliseconds",
-            Property::Buckets => "metrics.rollingStats.numBuckets",
-            Property::HealthInterval => "metrics.healthSnapshot.intervalInMilliseconds",
-            Property::CacheOn => "requestCache.enabled",
-            Property::CoreSize => "coreSize",
-            Property::MaxQueue => "maxQueueSize",
-            Property::QueueThreshold => "queueSizeRejectionThreshold",
-        }
-    }
-
     /// The value of this property, of a group and a command with these properties in a service with this limit of
     /// audited steps.
     pub(crate) fn value_in(

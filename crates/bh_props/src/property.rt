@@ -2,11 +2,21 @@
 
 ghost use Rattle.std.specs.Prelude.{◌≡◌, Some, map};
 ghost use Rattle.bh_props.specs.Tree.{keys_of};
-ghost use Rattle.bh_props.specs.Table.{row, row_of_code, a_row, whole};
+ghost use Rattle.bh_props.specs.Table.{row, row_of_code, columns, whole};
 
 use crate::value::{Kind, MOST, PropertyValue};
 use bh_base::Strategy;
 use std::fmt;
+
+/// The name of these parts.
+macro_rules! dotted {
+    ($first:ident $(. $key:ident)*) => {
+        DottedName {
+            text: concat!(stringify!($first) $(, ".", stringify!($key))*),
+            keys: &[stringify!($first) $(, stringify!($key))*],
+        }
+    };
+}
 
 /// A property, in the order of the table. Shown, it is its dotted name.
 #[derive(Clone, Copy, Debug, PartialEq, Eq)]
@@ -57,7 +67,7 @@ pub enum Property {
 
 /// Where a property stands; KEY is the name of a group or of a further command, or `default`.
 #[derive(Clone, Copy, Debug, PartialEq, Eq)]
-pub(crate) enum Place {
+pub enum Place {
     /// At its name, once for the whole service.
     Service,
     /// At its name, then KEY.
@@ -68,17 +78,24 @@ pub(crate) enum Place {
     ThreadPool,
 }
 
-/// What the table says of a property.
+/// A dotted name.
 #[derive(Clone, Copy)]
-pub(crate) struct Row {
+pub struct DottedName {
+    /// The whole name.
+    pub text: &'static str,
+    /// Its parts.
+    pub keys: &'static [&'static str],
+}
+
+/// What the table says of a property beside its name.
+#[derive(Clone, Copy)]
+pub struct Row {
     /// Where it stands.
-    pub(crate) place: Place,
-    /// Its dotted name there.
-    pub(crate) name: &'static str,
+    pub place: Place,
     /// What it may be.
-    pub(crate) kind: Kind,
+    pub kind: Kind,
     /// What it is where the file does not say.
-    pub(crate) built_in: PropertyValue,
+    pub built_in: PropertyValue,
 }
 
 /// The most slots of a group.
@@ -86,7 +103,7 @@ const MOST_SLOTS: u64 = 4096;
 
 impl Property {
     /// The properties in the order of the table.
-    pub(crate) const ALL: [Property; 21] = [
+    pub const ALL: [Property; 21] = [
         Property::AuditSteps,
         Property::Slots,
         Property::Strategy,
@@ -110,155 +127,134 @@ impl Property {
         Property::QueueThreshold,
     ];
 
-    /// The property's row of the table.
-    pub(crate) fn row(self) -> Row
-        ensures { row_of_code result ≡ row self }
+    /// The property's name, where the file has it.
+    pub fn name(self) -> DottedName
+        ensures text { result.text.now ≡ (row self).name }
+        ensures keys { map (λ s. s.now) result.keys.now ≡ keys_of (row self).name }
     {
         match self {
-            Property::AuditSteps => audit_steps("service.auditSteps"),
-            Property::Slots => number("service.slots", 1, MOST_SLOTS, 64).at(Place::ServiceGroup),
-            Property::Strategy => strategy("execution.isolation.strategy", Strategy::Thread),
-            Property::Timeout => whole("execution.isolation.thread.timeoutInMilliseconds", 1000),
-            Property::TimeoutOn => truth("execution.timeout.enabled", true),
-            Property::Semaphore => whole("execution.isolation.semaphore.maxConcurrentRequests", 10),
-            Property::FallbackPermits => whole(
-                "fallback.isolation.semaphore.maxConcurrentRequests",
-                10,
+            Property::AuditSteps => dotted!(service.auditSteps),
+            Property::Slots => dotted!(service.slots),
+            Property::Strategy => dotted!(execution.isolation.strategy),
+            Property::Timeout => dotted!(execution.isolation.thread.timeoutInMilliseconds),
+            Property::TimeoutOn => dotted!(execution.timeout.enabled),
+            Property::Semaphore => dotted!(execution.isolation.semaphore.maxConcurrentRequests),
+            Property::FallbackPermits => dotted!(
+                fallback.isolation.semaphore.maxConcurrentRequests
             ),
-            Property::FallbackOn => truth("fallback.enabled", true),
-            Property::CircuitOn => truth("circuitBreaker.enabled", true),
-            Property::Volume => whole("circuitBreaker.requestVolumeThreshold", 20),
-            Property::SleepWindow => whole("circuitBreaker.sleepWindowInMilliseconds", 5000),
-            Property::ErrorPercent => whole("circuitBreaker.errorThresholdPercentage", 50),
-            Property::ForceOpen => truth("circuitBreaker.forceOpen", false),
-            Property::ForceClosed => truth("circuitBreaker.forceClosed", false),
-            Property::Window => number(
-                "metrics.rollingStats.timeInMilliseconds",
-                1,
-                3_600_000,
-                10_000,
-            ),
-            Property::Buckets => number("metrics.rollingStats.numBuckets", 1, 60, 10),
-            Property::HealthInterval => whole("metrics.healthSnapshot.intervalInMilliseconds", 500),
-            Property::CacheOn => truth("requestCache.enabled", true),
-            Property::CoreSize => number("coreSize", 1, 64, 10).at(Place::ThreadPool),
-            Property::MaxQueue => queue_size("maxQueueSize").at(Place::ThreadPool),
-            Property::QueueThreshold => whole("queueSizeRejectionThreshold", 5).at(
-                Place::ThreadPool,
-            ),
+            Property::FallbackOn => dotted!(fallback.enabled),
+            Property::CircuitOn => dotted!(circuitBreaker.enabled),
+            Property::Volume => dotted!(circuitBreaker.requestVolumeThreshold),
+            Property::SleepWindow => dotted!(circuitBreaker.sleepWindowInMilliseconds),
+            Property::ErrorPercent => dotted!(circuitBreaker.errorThresholdPercentage),
+            Property::ForceOpen => dotted!(circuitBreaker.forceOpen),
+            Property::ForceClosed => dotted!(circuitBreaker.forceClosed),
+            Property::Window => dotted!(metrics.rollingStats.timeInMilliseconds),
+            Property::Buckets => dotted!(metrics.rollingStats.numBuckets),
+            Property::HealthInterval => dotted!(metrics.healthSnapshot.intervalInMilliseconds),
+            Property::CacheOn => dotted!(requestCache.enabled),
+            Property::CoreSize => dotted!(coreSize),
+            Property::MaxQueue => dotted!(maxQueueSize),
+            Property::QueueThreshold => dotted!(queueSizeRejectionThreshold),
         }
     }
-    /// The parts of the property's dotted name.
-    pub(crate) fn keys(self) -> &'static [&'static str]
-        ensures { map (λ s. s.now) result.now ≡ keys_of (row self).name }
+
+    /// The rest of the property's row of the table.
+    pub fn row(self) -> Row
+        ensures { row_of_code (row self).name result ≡ row self }
     {
         match self {
-            Property::AuditSteps => &["service", "auditSteps"],
-            Property::Slots => &["service", "slots"],
-            Property::Strategy => &["execution", "isolation", "strategy"],
-            Property::Timeout => &["execution", "isolation", "thread", "timeoutInMilliseconds"],
-            Property::TimeoutOn => &["execution", "timeout", "enabled"],
-            Property::Semaphore => &[
-                "execution",
-                "isolation",
-                "semaphore",
-                "maxConcurrentRequests",
-            ],
-            Property::FallbackPermits => &[
-                "fallback",
-                "isolation",
-                "semaphore",
-                "maxConcurrentRequests",
-            ],
-            Property::FallbackOn => &["fallback", "enabled"],
-            Property::CircuitOn => &["circuitBreaker", "enabled"],
-            Property::Volume => &["circuitBreaker", "requestVolumeThreshold"],
-            Property::SleepWindow => &["circuitBreaker", "sleepWindowInMilliseconds"],
-            Property::ErrorPercent => &["circuitBreaker", "errorThresholdPercentage"],
-            Property::ForceOpen => &["circuitBreaker", "forceOpen"],
-            Property::ForceClosed => &["circuitBreaker", "forceClosed"],
-            Property::Window => &["metrics", "rollingStats", "timeInMilliseconds"],
-            Property::Buckets => &["metrics", "rollingStats", "numBuckets"],
-            Property::HealthInterval => &["metrics", "healthSnapshot", "intervalInMilliseconds"],
-            Property::CacheOn => &["requestCache", "enabled"],
-            Property::CoreSize => &["coreSize"],
-            Property::MaxQueue => &["maxQueueSize"],
-            Property::QueueThreshold => &["queueSizeRejectionThreshold"],
+            Property::AuditSteps => audit_steps(),
+            Property::Slots => number(1, MOST_SLOTS, 64).at(Place::ServiceGroup),
+            Property::Strategy => strategy(Strategy::Thread),
+            Property::Timeout => whole(1000),
+            Property::TimeoutOn => truth(true),
+            Property::Semaphore => whole(10),
+            Property::FallbackPermits => whole(10),
+            Property::FallbackOn => truth(true),
+            Property::CircuitOn => truth(true),
+            Property::Volume => whole(20),
+            Property::SleepWindow => whole(5000),
+            Property::ErrorPercent => whole(50),
+            Property::ForceOpen => truth(false),
+            Property::ForceClosed => truth(false),
+            Property::Window => number(1, 3_600_000, 10_000),
+            Property::Buckets => number(1, 60, 10),
+            Property::HealthInterval => whole(500),
+            Property::CacheOn => truth(true),
+            Property::CoreSize => number(1, 64, 10).at(Place::ThreadPool),
+            Property::MaxQueue => queue_size().at(Place::ThreadPool),
+            Property::QueueThreshold => whole(5).at(Place::ThreadPool),
         }
     }
 }
 
 impl Row {
-    /// The same property at another place than under `hystrix.command`.
+    /// The same at another place than under `hystrix.command`.
     fn at(self, place: Place) -> Row
-        ensures { row_of_code result ≡ record (row_of_code self) { place = place } }
+        ensures { result ≡ columns place self.kind self.built_in }
     {
         Row { place, ..self }
     }
 }
 
 /// A number from the least to the most.
-fn number(name: &'static str, least: u64, most: u64, built_in: u64) -> Row
-    ensures { row_of_code result ≡ a_row Place.Command name.now (Kind.Number least most) (PropertyValue.Number built_in) }
+fn number(least: u64, most: u64, built_in: u64) -> Row
+    ensures { result ≡ columns Place.Command (Kind.Number least most) (PropertyValue.Number built_in) }
 {
     Row {
         place: Place::Command,
-        name,
         kind: Kind::Number { least, most },
         built_in: PropertyValue::Number(built_in),
     }
 }
 
 /// A number of 32 bits.
-fn whole(name: &'static str, built_in: u64) -> Row
-    ensures { row_of_code result ≡ a_row Place.Command name.now whole (PropertyValue.Number built_in) }
+fn whole(built_in: u64) -> Row
+    ensures { result ≡ columns Place.Command whole (PropertyValue.Number built_in) }
 {
-    number(name, 0, MOST, built_in)
+    number(0, MOST, built_in)
 }
 
 /// `true` or `false`.
-fn truth(name: &'static str, built_in: bool) -> Row
-    ensures { row_of_code result ≡ a_row Place.Command name.now Kind.Truth (PropertyValue.Truth built_in) }
+fn truth(built_in: bool) -> Row
+    ensures { result ≡ columns Place.Command Kind.Truth (PropertyValue.Truth built_in) }
 {
     Row {
         place: Place::Command,
-        name,
         kind: Kind::Truth,
         built_in: PropertyValue::Truth(built_in),
     }
 }
 
 /// `THREAD` or `SEMAPHORE`.
-fn strategy(name: &'static str, built_in: Strategy) -> Row
-    ensures { row_of_code result ≡ a_row Place.Command name.now Kind.Strategy (PropertyValue.Strategy built_in) }
+fn strategy(built_in: Strategy) -> Row
+    ensures { result ≡ columns Place.Command Kind.Strategy (PropertyValue.Strategy built_in) }
 {
     Row {
         place: Place::Command,
-        name,
         kind: Kind::Strategy,
         built_in: PropertyValue::Strategy(built_in),
     }
 }
 
 /// The size of a queue; there is none where the file does not say.
-fn queue_size(name: &'static str) -> Row
-    ensures { row_of_code result ≡ a_row Place.Command name.now Kind.QueueSize PropertyValue.NoQueue }
+fn queue_size() -> Row
+    ensures { result ≡ columns Place.Command Kind.QueueSize PropertyValue.NoQueue }
 {
     Row {
         place: Place::Command,
-        name,
         kind: Kind::QueueSize,
         built_in: PropertyValue::NoQueue,
     }
 }
 
 /// The limit of audited steps of the whole service, which may be left out.
-fn audit_steps(name: &'static str) -> Row
-    ensures { row_of_code result ≡ a_row Place.Service name.now (Kind.Number 1 1000000) PropertyValue.Absent }
+fn audit_steps() -> Row
+    ensures { result ≡ columns Place.Service (Kind.Number 1 1000000) PropertyValue.Absent }
 {
     Row {
         place: Place::Service,
-        name,
         kind: Kind::Number {
             least: 1,
             most: 1_000_000,
@@ -271,6 +267,6 @@ impl fmt::Display for Property {
     ghost output = { λ p. Some (row p).name };
 
     fn fmt<W: fmt::Write>(&self, f: &mut fmt::Formatter<W>) -> fmt::Result {
-        f.write_str(self.row().name)
+        f.write_str(self.name().text)
     }
 }

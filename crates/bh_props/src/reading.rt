@@ -34,8 +34,8 @@ pub fn read(alloc: Global, text: &str) -> Result<Settings, SettingsError>
     }
 }
 
-/// The settings of a parsed file.
-fn read_tree(alloc: Global, root: &Value) -> Result<Settings, SettingsError>
+/// The settings of a parsed file, or the first refusal, as `read` gives them.
+pub fn read_tree(alloc: Global, root: &Value) -> Result<Settings, SettingsError>
     ensures ok { IfOk result (λ s. settings_of_named (view root.now) (names_of (view root.now)) ≡ Ok (settings_view s)) }
     ensures refused { IfErr result (λ e. e ≢ SettingsError.Memory
         → settings_of_named (view root.now) (names_of (view root.now)) ≡ Err e) }

@@ -9,7 +9,7 @@ use toml::Value;
 
 /// What a property may be.
 #[derive(Clone, Copy, Debug, PartialEq, Eq)]
-pub(crate) enum Kind {
+pub enum Kind {
     /// A whole number from the least to the most.
     Number { least: u64, most: u64 },
     /// A whole number from -1 to 4,294,967,295, where -1 and 0 are no queue.
@@ -22,7 +22,7 @@ pub(crate) enum Kind {
 
 /// What a property is.
 #[derive(Clone, Copy, Debug, PartialEq, Eq)]
-pub(crate) enum PropertyValue {
+pub enum PropertyValue {
     /// A whole number.
     Number(u64),
     /// `true` or `false`.
@@ -37,7 +37,7 @@ pub(crate) enum PropertyValue {
 
 /// Why a value of a file is not one of its property's kind.
 #[derive(Clone, Copy, Debug, PartialEq, Eq)]
-pub(crate) enum Fault {
+pub enum Fault {
     /// It is of another TOML type.
     WrongType,
     /// It is of the type, and none of the values allowed.

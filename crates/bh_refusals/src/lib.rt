@@ -1,7 +1,9 @@
-//! Tests of what a refused allocation leaves, for every call of the libraries that takes memory. They stand apart from
-//! the other tests, as the crate's tests are run under an allocator that refuses (`bench/refused.sh`).
+//! Tests of what a refused allocation leaves, for every call of the libraries without threads that takes memory. They
+//! stand apart from the other tests, as they are run under an allocator that refuses (`bench/refused.sh`).
 #![tactic(auto)]
 
+#[cfg(test)]
+mod counting;
 #[cfg(test)]
 mod groups;
 #[cfg(test)]
@@ -9,8 +11,8 @@ mod lines;
 #[cfg(test)]
 mod parts;
 #[cfg(test)]
-mod refusing;
+mod places;
 #[cfg(test)]
-mod services;
+mod refusing;
 #[cfg(test)]
 mod worked;

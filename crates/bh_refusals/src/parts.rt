@@ -3,9 +3,10 @@
 ghost use Rattle.std.specs.Prelude.{◌≡◌, ◌<◌, length};
 ghost use Rattle.bh_slot_arena.specs.Slots.{lists_in};
 
-use crate::refusing::{MANY, assert_told, give_up, refuse};
+use crate::refusing::{assert_told, give_up};
 use bh_base::EventKind;
 use bh_rolling::Ring;
+use bh_scripts::refusing::{MANY, refuse};
 use bh_slot_arena::{Arena, SlotsError};
 use std::process::Abort;
 

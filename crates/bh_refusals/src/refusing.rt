@@ -1,48 +1,21 @@
-//! Allocations that are refused on order.
-//!
-//! A test cannot refuse memory by itself. `bench/refuse.c` can: loaded before the C library, it takes a request for more
-//! bytes than any machine has as an order to refuse an allocation that follows. Where it is not loaded, such a request
-//! is refused like any other, nothing follows from it, and a test shows that its call succeeds at once.
+//! What is asserted of a call one of whose allocations was to be refused.
 
-use std::alloc::Global;
+use bh_scripts::refusing::{MANY, none_refused};
 use std::process::Abort;
-
-/// A request for so many bytes and N more is an order to refuse the Nth allocation behind it.
-const ORDER: usize = 1 << 62;
-
-/// No call of a test makes as many allocations.
-pub(crate) const MANY: usize = 10_000;
-
-/// Whether so many bytes are given. They are given back at once.
-fn is_given(alloc: Global, bytes: usize) -> bool {
-    Vec::<u8>::with_capacity(alloc, bytes).is_ok()
-}
-
-/// Orders that the nth allocation from here on be refused.
-pub(crate) fn refuse(alloc: Global, nth: usize) {
-    let _refused = is_given(alloc, ORDER.saturating_add(nth));
-}
-
-/// Whether orders are followed at all.
-fn follows_orders(alloc: Global) -> bool {
-    refuse(alloc, 1);
-    !is_given(alloc, 1)
-}
-
-/// Whether the order for the nth allocation still stands. It is carried out then.
-fn still_stands(alloc: Global, nth: usize) -> bool {
-    (0..nth).any(|_| !is_given(alloc, 1))
-}
-
-/// Whether no allocation was refused in a call whose nth was to be.
-pub(crate) fn none_refused(alloc: Global, nth: usize) -> bool {
-    still_stands(alloc, nth) || !follows_orders(alloc)
-}
 
 /// Asserts that a call whose nth allocation was to be refused succeeded exactly where no allocation was refused in it:
 /// that no refusal is passed over, and no want of memory made up.
 pub(crate) fn assert_told<R: Abort + AllocGlobal>(rt: &R, nth: usize, success: bool) {
     assert_eq!(rt; success, none_refused(rt.alloc(), nth), "allocation {nth}");
+}
+
+/// Asserts that a call whose nth allocation was to be refused told want of memory only where an allocation was refused in
+/// it, and answers whether none was: a refusal may be passed over where no answer needs what was asked for, as guesses at
+/// the slots of tickets.
+pub(crate) fn assert_true_want<R: Abort + AllocGlobal>(rt: &R, nth: usize, success: bool) -> bool {
+    let none_refused = none_refused(rt.alloc(), nth);
+    assert!(rt; success || !none_refused, "allocation {nth}");
+    none_refused
 }
 
 /// Ends a test whose call did not succeed in that many turns.

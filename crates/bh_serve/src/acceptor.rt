@@ -1,7 +1,7 @@
 //! The acceptor of a service: it accepts connections, and knows which are open.
 
 use crate::accepting::{AcceptFault, if_passing};
-use crate::connection::{ConnectionFault, FaultCounts};
+use crate::ending::{Due, Ending};
 use crate::serve::ServeError;
 use std::alloc::{AllocError, Global};
 use std::net::{Net, OpenListener, Shutdown, SocketAddr, TcpStream};
@@ -27,27 +27,8 @@ pub struct Limits {
     pub connections: u32,
     /// Whether further connections are served until the service is told to stop.
     pub keep_serving: bool,
-    /// How many seconds a connection may neither send nor read; 0 for any time.
+    /// How many seconds a connection may neither send nor read, and may take to send a line; 0 for any time.
     pub idle_seconds: u32,
-}
-
-/// Why a service ends before all its connections have.
-#[derive(Clone, Copy)]
-pub(crate) enum End {
-    /// It was told to stop.
-    Told,
-    /// A fault.
-    Fault(ServeError),
-}
-
-/// What a service has to see to.
-pub(crate) enum Event {
-    /// A connection ended by a fault, which is to be told.
-    Fault(ConnectionFault),
-    /// The service is to end.
-    End(End),
-    /// The threads of all connections have ended.
-    Over,
 }
 
 /// Lets connections in until so many have come, the service is told to stop, or a fault ends it.
@@ -73,9 +54,7 @@ struct Inside {
     running: u32,
     /// Whether a thread waits for a connection.
     accepting: bool,
-    end: Option<End>,
-    /// The faults of connections that were not told yet.
-    faults: FaultCounts,
+    ending: Ending,
     /// The connection of each thread, by its number.
     open: Vec<Option<Arc<TcpStream, Global>>>,
 }
@@ -83,12 +62,12 @@ struct Inside {
 impl Inside {
     /// Whether no further connection is let in.
     fn is_over(&self) -> bool {
-        self.end.is_some() || self.left == Some(0)
+        self.ending.is_over() || self.left == Some(0)
     }
 
-    /// Whether there is something to see to in a service that has ended, or has not.
-    fn has_event(&self, ended: bool) -> bool {
-        self.running == 0 || self.faults.is_some() || (self.end.is_some() && !ended)
+    /// Whether there is something to do, or nothing to come, where so much of the ending has been seen to.
+    fn has_news(&self, seen: &Ending) -> bool {
+        self.running == 0 || self.ending.due(seen).is_some()
     }
 
     /// Counts a connection that is let in.
@@ -116,8 +95,7 @@ impl Acceptor {
                 left,
                 running: 0,
                 accepting: false,
-                end: None,
-                faults: FaultCounts::none(),
+                ending: Ending::new(),
                 open,
             }),
             changed: Condvar::new(),
@@ -130,9 +108,10 @@ impl Acceptor {
     /// that waits for a connection there is woken by one.
     ///
     /// Calls that wait are answered as stopped. What a connection had sent is answered, and then it is closed; one
-    /// that has not ended within a second is cut off.
+    /// that has not ended within a second is cut off. So it is too where a fault has ended the service before.
     pub fn tell<R: Net + Wait + Clock>(&self, rt: &R, address: SocketAddr) {
-        self.end(rt, End::Told);
+        self.inside.lock(rt).ending.tell();
+        self.changed.notify_all();
         for _ in rt.forever() {
             if !self.inside.lock(rt).accepting {
                 break;
@@ -142,9 +121,9 @@ impl Acceptor {
         }
     }
 
-    /// Whether the service ends because it was told to.
+    /// Whether the service was told to stop.
     pub fn was_told<R: Wait>(&self, rt: &R) -> bool {
-        matches!(self.inside.lock(rt).end, Some(End::Told))
+        self.inside.lock(rt).ending.was_told()
     }
 
     /// How many connections may be open at a time.
@@ -152,12 +131,12 @@ impl Acceptor {
         self.threads
     }
 
-    /// How long a connection may neither send nor read, where there is a limit.
-    pub(crate) fn idle(&self) -> Option<Duration> {
+    /// How long a connection may neither send nor read, in microseconds, where there is a limit.
+    pub(crate) fn idle(&self) -> Option<u64> {
         if self.idle_seconds == 0 {
             return None;
         }
-        Some(Duration::from_secs(u64::from(self.idle_seconds)))
+        Some(u64::from(self.idle_seconds) * 1_000_000)
     }
 
     /// Lets nobody accept a connection as long as the guard is kept.
@@ -165,37 +144,19 @@ impl Acceptor {
         self.turn.lock(rt)
     }
 
-    /// Ends the service, unless it has been ended.
-    pub(crate) fn end<R: Wait>(&self, rt: &R, end: End) {
-        let mut inside = self.inside.lock(rt);
-        if inside.end.is_none() {
-            inside.end = Some(end);
-            self.changed.notify_all();
-        }
-    }
-
-    /// Waits for what is next to see to. Where the service has ended, that is not told again.
-    pub(crate) fn next_event<R: Wait>(&self, rt: &R, ended: bool) -> Event {
-        let mut inside = self.changed.wait_while(
-            rt,
-            self.inside.lock(rt),
-            |inside| !inside.has_event(ended),
-        );
-        let inside = &mut *inside;
-        if let Some(fault) = inside.faults.take() {
-            return Event::Fault(fault);
-        }
-        match inside.end {
-            Some(end) if !ended => Event::End(end),
-            _ => Event::Over,
-        }
-    }
-
-    /// Notes the fault of a connection, which is told when its turn comes: whoever notes it waits for nobody.
-    pub(crate) fn note<R: Wait>(&self, rt: &R, fault: ConnectionFault) {
-        let mut inside = self.inside.lock(rt);
-        inside.faults.add(fault);
+    /// Ends the service by a fault, unless it has been ended.
+    pub(crate) fn fail<R: Wait>(&self, rt: &R, error: ServeError) {
+        self.inside.lock(rt).ending.fail(error);
         self.changed.notify_all();
+    }
+
+    /// Waits for what is to be done next because the service ends, where so much of its ending has been seen to. None once
+    /// the threads of all connections have ended and nothing is to be done.
+    pub(crate) fn next_due<R: Wait>(&self, rt: &R, seen: &Ending) -> Option<Due> {
+        let inside = self
+            .changed
+            .wait_while(rt, self.inside.lock(rt), |inside| !inside.has_news(seen));
+        inside.ending.due(seen)
     }
 
     /// One more thread for connections is about to be started.
@@ -273,19 +234,17 @@ impl Acceptor {
         rt: &R,
         number: usize,
         stream: &Arc<TcpStream, Global>,
-    ) -> bool {
+    ) -> Result<bool, AllocError> {
+        let stream = Arc::try_clone(stream)?;
         let mut inside = self.inside.lock(rt);
-        if matches!(inside.end, Some(End::Told)) {
-            return false;
-        }
         let inside = &mut *inside;
-        match (inside.open.get_mut(number), Arc::try_clone(stream)) {
-            (Some(place), Ok(stream)) => {
-                *place = Some(stream);
-                true
-            }
-            _ => false,
+        if inside.ending.was_told() {
+            return Ok(false);
         }
+        if let Some(place) = inside.open.get_mut(number) {
+            *place = Some(stream);
+        }
+        Ok(true)
     }
 
     /// The thread has no connection any more.

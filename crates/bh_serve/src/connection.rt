@@ -1,11 +1,15 @@
 //! One connection: what it reads and writes, and why it ends.
 
-ghost use Rattle.std.specs.Prelude.{◌≡◌, IfSome, if◌then◌else◌};
+ghost use Rattle.std.specs.Prelude.{◌≡◌, IfSome, IsErr};
 ghost use Rattle.std.specs.Io.{ReadsAtMost, WritesAtMost};
+ghost use Rattle.bh_serve.specs.Idle.{fault_of};
 
+use crate::idle_clock::IdleClock;
 use bh_lines::PortError;
 use std::io::{ErrorKind, Read, Write};
 use std::net::TcpStream;
+use std::rt::Clock;
+use std::time::{Duration, Instant};
 use std::{io, thread};
 use thiserror::Error;
 
@@ -18,127 +22,122 @@ pub enum ConnectionFault {
     /// It neither sent nor read for as long as a connection may.
     #[error("fault: idle")]
     Idle,
+    /// It sent, but no whole line, for as long as a connection may.
+    #[error("fault: slow")]
+    Slow,
     /// Its conversation could not go on.
     #[error("{0}")]
     Port(PortError),
 }
 
-/// What ended a conversation, of which is known whether a read or a write waited in vain.
-pub(crate) fn fault_of(error: PortError, waited_in_vain: bool) -> ConnectionFault
-    ensures { result ≡ (if waited_in_vain then ConnectionFault.Idle else ConnectionFault.Port error) }
+/// What ended a conversation that could not go on: that a read or a write waited in vain, where one did.
+pub(crate) fn fault_of(error: PortError, in_vain: Option<ConnectionFault>) -> ConnectionFault
+    ensures { result ≡ fault_of error in_vain }
 {
-    if waited_in_vain {
-        ConnectionFault::Idle
-    } else {
-        ConnectionFault::Port(error)
+    match in_vain {
+        Some(fault) => fault,
+        None => ConnectionFault::Port(error),
     }
 }
 
-/// How many connections ended by each fault. It takes no memory, however many they are.
+/// What a client sends. A read waits as long as the clock of the connection leaves, and notes why it ended where it waited in
+/// vain.
 #[derive(Drop)]
-pub(crate) struct FaultCounts {
-    idle: u64,
-    read: u64,
-    write: u64,
-    line: u64,
-    memory: u64,
-}
-
-impl FaultCounts {
-    /// No fault.
-    pub(crate) fn none() -> FaultCounts {
-        FaultCounts {
-            idle: 0,
-            read: 0,
-            write: 0,
-            line: 0,
-            memory: 0,
-        }
-    }
-
-    /// Whether there is a fault.
-    pub(crate) fn is_some(&self) -> bool {
-        self.idle > 0 || self.read > 0 || self.write > 0 || self.line > 0 || self.memory > 0
-    }
-
-    /// Counts one more.
-    pub(crate) fn add(&mut self, fault: ConnectionFault) {
-        let count = self.count_of(fault);
-        *count = count.saturating_add(1);
-    }
-
-    /// Takes one of the faults.
-    pub(crate) fn take(&mut self) -> Option<ConnectionFault> {
-        let fault = self.first()?;
-        let count = self.count_of(fault);
-        *count = count.saturating_sub(1);
-        Some(fault)
-    }
-
-    /// One of the faults.
-    fn first(&self) -> Option<ConnectionFault> {
-        let counted = [
-            (self.idle, ConnectionFault::Idle),
-            (self.read, ConnectionFault::Port(PortError::Read)),
-            (self.write, ConnectionFault::Port(PortError::Write)),
-            (self.line, ConnectionFault::Port(PortError::Line)),
-            (self.memory, ConnectionFault::Port(PortError::Memory)),
-        ];
-        for (count, fault) in &counted {
-            if *count > 0 {
-                return Some(*fault);
-            }
-        }
-        None
-    }
-
-    /// The count of a fault.
-    fn count_of(&mut self, fault: ConnectionFault) -> &mut u64 {
-        match fault {
-            ConnectionFault::Idle => &mut self.idle,
-            ConnectionFault::Port(PortError::Read) => &mut self.read,
-            ConnectionFault::Port(PortError::Write) => &mut self.write,
-            ConnectionFault::Port(PortError::Line) => &mut self.line,
-            ConnectionFault::Port(PortError::Memory) => &mut self.memory,
-        }
-    }
-}
-
-/// One direction of a connection: its reads or its writes. The connection does not wait, but within a read or a write that
-/// found nothing to read or no room. It notes where one of these waited in vain, for as long as the stream lets it.
-#[derive(Drop)]
-pub(crate) struct Direction<'e> {
+pub(crate) struct Incoming<'e, R> {
+    rt: &'e R,
     stream: &'e TcpStream,
-    waited_in_vain: bool,
+    clock: IdleClock,
+    fault: Option<ConnectionFault>,
 }
 
-impl<'e> Direction<'e> {
-    /// A direction of a connection that does not wait, of which nothing was tried yet.
-    pub(crate) fn new(stream: &'e TcpStream) -> Direction<'e> {
-        Direction {
+impl<'e, R: Clock> Incoming<'e, R> {
+    /// What comes over a connection that does not wait, of which nothing was read yet.
+    pub(crate) fn new(rt: &'e R, stream: &'e TcpStream, limit: Option<u64>) -> Incoming<'e, R> {
+        Incoming {
+            rt,
             stream,
-            waited_in_vain: false,
+            clock: IdleClock::new(limit),
+            fault: None,
         }
     }
 
-    /// Whether a read or a write waited in vain.
-    pub(crate) fn waited_in_vain(&self) -> bool {
-        self.waited_in_vain
+    /// Why a read waited in vain, where one did.
+    pub(crate) fn fault(&self) -> Option<ConnectionFault> {
+        self.fault
     }
 
-    /// Reads once something has come, or ends as the time-out of the connection says.
+    /// Reads once something has come, and notes how long that took.
     fn await_bytes(&mut self, buf: &mut [u8]) -> io::Result<usize>
         ensures { ReadsAtMost result buf.new }
     {
-        let mut stream = self.stream;
-        stream.set_nonblocking(false)?;
-        let outcome = stream.read(buf);
-        stream.set_nonblocking(true)?;
-        self.note(&outcome);
-        outcome
+        let Some(left) = self.clock.left() else {
+            return wait_and_read(self.stream, buf);
+        };
+        if left == 0 {
+            return self.give_up();
+        }
+        self.stream
+            .set_read_timeout(Some(Duration::from_micros(left)))?;
+        let begun = Instant::now(self.rt)?;
+        let outcome = wait_and_read(self.stream, buf);
+        let waited = begun.elapsed(self.rt)?;
+        match outcome {
+            Ok(count) => {
+                self.clock.note(&buf[..count], micros(waited));
+                Ok(count)
+            }
+            Err(error) if is_in_vain(&error) => self.give_up(),
+            Err(error) => Err(error),
+        }
     }
 
-    /// Writes once there is room, or ends as the time-out of the connection says.
+    /// Ends the reading of a client that kept the service waiting too long.
+    fn give_up(&mut self) -> io::Result<usize>
+        ensures { IsErr result }
+    {
+        self.fault = Some(self.clock.fault());
+        Err(io::Error::from(ErrorKind::TimedOut))
+    }
+}
+
+impl<R: Clock> Read for Incoming<'_, R> {
+    /// A client that goes on at once is read from with no sleep: a thread that sleeps has to be woken, which takes longer
+    /// than some looks, between which other threads run.
+    fn read(&mut self, buf: &mut [u8]) -> io::Result<usize> {
+        match look(self.stream, buf) {
+            Some(Ok(count)) => {
+                self.clock.note(&buf[..count], 0);
+                Ok(count)
+            }
+            Some(outcome) => outcome,
+            None => self.await_bytes(buf),
+        }
+    }
+}
+
+/// What is sent to a client. A write that finds no room waits for it as long as the stream lets it, and notes where that was
+/// in vain.
+#[derive(Drop)]
+pub(crate) struct Outgoing<'e> {
+    stream: &'e TcpStream,
+    fault: Option<ConnectionFault>,
+}
+
+impl<'e> Outgoing<'e> {
+    /// What goes over a connection that does not wait, of which nothing was written yet.
+    pub(crate) fn new(stream: &'e TcpStream) -> Outgoing<'e> {
+        Outgoing {
+            stream,
+            fault: None,
+        }
+    }
+
+    /// Why a write waited in vain, where one did.
+    pub(crate) fn fault(&self) -> Option<ConnectionFault> {
+        self.fault
+    }
+
+    /// Writes once there is room.
     fn await_room(&mut self, buf: &[u8]) -> io::Result<usize>
         ensures { WritesAtMost result buf.now }
     {
@@ -146,33 +145,16 @@ impl<'e> Direction<'e> {
         stream.set_nonblocking(false)?;
         let outcome = stream.write(buf);
         stream.set_nonblocking(true)?;
-        self.note(&outcome);
+        if let Err(error) = &outcome
+            && is_in_vain(error)
+        {
+            self.fault = Some(ConnectionFault::Idle);
+        }
         outcome
     }
-
-    /// Notes how a read or a write ended.
-    fn note(&mut self, outcome: &io::Result<usize>) {
-        if let Err(error) = outcome {
-            self.waited_in_vain |= matches!(
-                error.kind(),
-                ErrorKind::WouldBlock | ErrorKind::TimedOut
-            );
-        }
-    }
 }
 
-impl Read for Direction<'_> {
-    /// A client that goes on at once is read from with no sleep: a thread that sleeps has to be woken, which takes longer
-    /// than some looks, between which other threads run.
-    fn read(&mut self, buf: &mut [u8]) -> io::Result<usize> {
-        match look(self.stream, buf) {
-            Some(outcome) => outcome,
-            None => self.await_bytes(buf),
-        }
-    }
-}
-
-impl Write for Direction<'_> {
+impl Write for Outgoing<'_> {
     fn write(&mut self, buf: &[u8]) -> io::Result<usize> {
         let mut stream = self.stream;
         match stream.write(buf) {
@@ -184,6 +166,26 @@ impl Write for Direction<'_> {
     fn flush(&mut self) -> io::Result<()> {
         Ok(())
     }
+}
+
+/// Whether a read or a write waited as long as the stream let it.
+fn is_in_vain(error: &io::Error) -> bool {
+    matches!(error.kind(), ErrorKind::WouldBlock | ErrorKind::TimedOut)
+}
+
+/// The microseconds of a time.
+fn micros(time: Duration) -> u64 {
+    u64::try_from(time.as_micros()).unwrap_or(u64::MAX)
+}
+
+/// Reads once something has come, or ends as the time-out of the connection says.
+fn wait_and_read(mut stream: &TcpStream, buf: &mut [u8]) -> io::Result<usize>
+    ensures { ReadsAtMost result buf.new }
+{
+    stream.set_nonblocking(false)?;
+    let outcome = stream.read(buf);
+    stream.set_nonblocking(true)?;
+    outcome
 }
 
 /// Reads what has come, or comes while other threads run for a moment; None where nothing comes.

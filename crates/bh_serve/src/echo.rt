@@ -6,7 +6,7 @@ ghost use Rattle.bh_serve.specs.Echo.{run_end, fallback_end, echoed};
 use bh_base::{Cause, FallbackEnd, GroupId, RunEnd, Text};
 use bh_workers::Dependency;
 use std::rt::Clock;
-use std::thread;
+use std::sync::{Condvar, Mutex, Wait};
 use std::time::Duration;
 
 /// The dependency of every group and command: a run gives its argument back.
@@ -17,21 +17,43 @@ use std::time::Duration;
 /// | `fail twice` | fails | fails |
 /// | `fail bare` | fails | there is none |
 /// | `bad` | a bad request | is not asked for |
-/// | `sleep N`, N of one to four decimal digits | waits N milliseconds, then gives the argument | gives `fallback` |
+/// | `sleep N`, N of one to four decimal digits | waits N milliseconds, or until it is woken, then gives the argument | gives `fallback` |
 /// | any other | gives the argument | gives `fallback` |
 #[derive(Drop)]
 pub struct Echo<'e, R> {
     rt: &'e R,
+    woken: Mutex<bool>,
+    changed: Condvar,
 }
 
-impl<'e, R: Clock> Echo<'e, R> {
+impl<'e, R: Wait + Clock> Echo<'e, R> {
     /// An echo that sleeps by the clock of the machine.
     pub fn new(rt: &'e R) -> Echo<'e, R> {
-        Echo { rt }
+        Echo {
+            rt,
+            woken: Mutex::new(false),
+            changed: Condvar::new(),
+        }
+    }
+
+    /// Ends each sleep that goes on, and lets none begin any more.
+    pub fn wake(&self) {
+        *self.woken.lock(self.rt) = true;
+        self.changed.notify_all();
+    }
+
+    /// Waits so many milliseconds, or until it is woken.
+    fn sleep(&self, millis: u64) {
+        let _ = self.changed.wait_timeout_while(
+            self.rt,
+            self.woken.lock(self.rt),
+            Duration::from_millis(millis),
+            |woken| !*woken,
+        );
     }
 }
 
-impl<'e, R: Clock> Dependency for Echo<'e, R> {
+impl<'e, R: Wait + Clock> Dependency for Echo<'e, R> {
     ghost use Rattle.std.specs.Prelude.{◌≡◌};
     ghost use Rattle.bh_serve.specs.Echo.{run_end, fallback_end};
 
@@ -42,7 +64,7 @@ impl<'e, R: Clock> Dependency for Echo<'e, R> {
     fn run(&self, _group: GroupId, _command: u8, arg: &Text<64>) -> RunEnd {
         let arg = arg.as_str();
         if let Some(millis) = sleep_of(arg) {
-            thread::sleep(self.rt, Duration::from_millis(millis));
+            self.sleep(millis);
         }
         run_end(arg)
     }

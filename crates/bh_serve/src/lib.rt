@@ -7,9 +7,14 @@ pub mod clock;
 pub mod connection;
 pub mod control;
 pub mod echo;
+pub mod ending;
+pub mod idle_clock;
 pub mod names;
+pub mod report;
+pub mod reporter;
 pub mod serve;
 mod threads;
 
 pub use acceptor::{Acceptor, Limits};
+pub use reporter::Reports;
 pub use serve::{serve_on, serve_through};

@@ -1,30 +1,26 @@
 //! Connections to a service, each with a thread and a conversation of its own.
 
 ghost use Rattle.std.specs.Prelude.{◌≡◌, ◌⊎◌, IfOk, false};
-ghost use Rattle.bh_serve.specs.Ending.{status_of};
 
-use crate::acceptor::{Acceptor, End, Limits};
+use crate::acceptor::{Acceptor, Limits};
 use crate::clock::MachineClock;
 use crate::echo::Echo;
+use crate::ending::Ending;
 use crate::names::GroupNames;
+use crate::report::Report;
+use crate::reporter::Reports;
 use crate::threads::Server;
 use bh_audit::{Book, Shared};
 use bh_port::script::open;
 use bh_props::Settings;
 use std::alloc::{AllocError, AllocFailed, Global};
-use std::io;
 use std::io::Write;
 use std::net::{OpenListener, TcpListener, TcpStream};
 use std::rt::Clock;
 use std::sync::{Mutex, Wait};
 use std::thread::Threads;
+use std::{io, thread};
 use thiserror::Error;
-
-/// The status where the connections were served.
-const SERVED: u8 = 0;
-
-/// The status where a fault ended the service.
-const FAULT: u8 = 3;
 
 /// Why a service ended before its connections had.
 #[derive(Clone, Copy, Debug, PartialEq, Eq, Error)]
@@ -58,7 +54,8 @@ impl<T: Drop> From<AllocFailed<T>> for ServeError {
 /// Serves so many connections of the listener with the groups of the settings, all new, over the echo dependency,
 /// and answers the exit status. It returns once the last connection has ended, and the service is stopped then.
 ///
-/// It is `serve_through` an acceptor for so many connections, which may do nothing for any time, and announces nothing.
+/// It is `serve_through` an acceptor for so many connections, which may do nothing for any time, and announces nothing. It
+/// waits for its texts to be written, as long as that takes.
 ///
 /// - 0: the connections were served.
 /// - 3: a `ServeError`, of which a line on `errors` says which.
@@ -77,7 +74,27 @@ pub fn serve_on<R: Threads + Wait + Clock + Sync, E: Write + Send>(
         keep_serving: false,
         idle_seconds: 0,
     };
-    match Acceptor::new(alloc, limits) {
+    let reports = Reports::new();
+    let (status, ()) = thread::join(
+        rt,
+        || serve_quietly(rt, alloc, limits, listener, settings, &reports),
+        || reports.write_to(rt, errors),
+    );
+    status
+}
+
+/// Serves the connections with no word on where it listens, and says no more then.
+fn serve_quietly<R: Threads + Wait + Clock + Sync>(
+    rt: &R,
+    alloc: Global,
+    limits: Limits,
+    listener: &TcpListener,
+    settings: &Settings,
+    reports: &Reports,
+) -> u8
+    ensures { (result ≡ 0) ⊎ (result ≡ 3) }
+{
+    let status = match Acceptor::new(alloc, limits) {
         Ok(acceptor) => serve_through(
             rt,
             alloc,
@@ -85,30 +102,32 @@ pub fn serve_on<R: Threads + Wait + Clock + Sync, E: Write + Send>(
             listener,
             settings,
             &mut io::sink(),
-            errors,
+            reports,
         ),
-        Err(_) => refuse(rt, ServeError::Memory, errors),
-    }
+        Err(_) => refuse(rt, ServeError::Memory, reports),
+    };
+    reports.close(rt);
+    status
 }
 
 /// Serves the connections that the acceptor lets in, with the groups of the settings, all new, over the echo dependency,
 /// and answers the exit status. It returns once all its threads have ended.
 ///
 /// Workers, timer and a thread for each connection that may be open at a time are started first; where they are more
-/// than a thousand, a line on `errors` says how many. Then the line `listening` with the listener's port goes to
-/// `output`, and connections are accepted. Each has a conversation of its own, and moments are milliseconds since the
-/// call. A fault of one connection, a `ConnectionFault`, ends that connection alone and leaves a line on `errors`.
+/// than a thousand, a text says how many. Then the line `listening` with the listener's port goes to `output`, and
+/// connections are accepted. Each has a conversation of its own, and moments are milliseconds since the call. A fault of
+/// one connection, a `ConnectionFault`, ends that connection alone and is a text. Whoever calls has another thread write
+/// the texts (`Reports::write_to`); the service never waits for that.
 ///
 /// Where a fault ends the service, calls that wait are answered as stopped, and the connections that are open are
-/// answered until they end. Where the acceptor was told to stop, they are closed, as `Acceptor::tell` says.
+/// answered until they end. Once the acceptor is told to stop, they are closed, as `Acceptor::tell` says.
 ///
 /// - 0: the connections were served, or the acceptor was told to stop.
-/// - 3: a `ServeError`, of which a line on `errors` said which as it came.
+/// - 3: a `ServeError`, of which a text said which as it came.
 pub fn serve_through<
     R: Threads + Wait + Clock + Sync,
     L: OpenListener<Stream = TcpStream> + Sync,
     O: Write,
-    E: Write + Send,
 >(
     rt: &R,
     alloc: Global,
@@ -116,50 +135,36 @@ pub fn serve_through<
     listener: &L,
     settings: &Settings,
     output: &mut O,
-    errors: &Mutex<E>,
+    reports: &Reports,
 ) -> u8
     ensures { (result ≡ 0) ⊎ (result ≡ 3) }
 {
-    match serve(rt, alloc, acceptor, listener, settings, output, errors) {
-        Ok(end) => status_of(end),
-        Err(AllocError) => refuse(rt, ServeError::Memory, errors),
-    }
-}
-
-/// The exit status of a service that ended so.
-fn status_of(end: Option<End>) -> u8
-    ensures { result ≡ status_of end }
-{
-    match end {
-        Some(End::Fault(_)) => FAULT,
-        Some(End::Told) | None => SERVED,
+    match serve(rt, alloc, acceptor, listener, settings, output, reports) {
+        Ok(ending) => ending.status(),
+        Err(AllocError) => refuse(rt, ServeError::Memory, reports),
     }
 }
 
 /// Says why the service did not begin, and answers the exit status.
-fn refuse<R: Wait, E: Write>(rt: &R, error: ServeError, errors: &Mutex<E>) -> u8
-    ensures { result ≡ 3 }
+fn refuse<R: Wait>(rt: &R, error: ServeError, reports: &Reports) -> u8
+    ensures { (result ≡ 0) ⊎ (result ≡ 3) }
 {
-    let mut errors = errors.lock(rt);
-    let _ = writeln!(&mut *errors, "{error}");
-    FAULT
+    reports.put(rt, Report::Service(error));
+    let mut ending = Ending::new();
+    ending.fail(error);
+    ending.status()
 }
 
 /// The same, with what ended the service that has begun.
-fn serve<
-    R: Threads + Wait + Clock + Sync,
-    L: OpenListener<Stream = TcpStream> + Sync,
-    O: Write,
-    E: Write + Send,
->(
+fn serve<R: Threads + Wait + Clock + Sync, L: OpenListener<Stream = TcpStream> + Sync, O: Write>(
     rt: &R,
     alloc: Global,
     acceptor: &Acceptor,
     listener: &L,
     settings: &Settings,
     output: &mut O,
-    errors: &Mutex<E>,
-) -> Result<Option<End>, AllocError> {
+    reports: &Reports,
+) -> Result<Ending, AllocError> {
     let names = GroupNames::of(alloc, settings)?;
     let shared = service(alloc, settings)?;
     let echo = Echo::new(rt);
@@ -173,7 +178,7 @@ fn serve<
         clock: &clock,
         acceptor,
         listener,
-        errors,
+        reports,
     };
     Ok(server.run(output))
 }

@@ -1,11 +1,14 @@
 //! The threads of a service: workers, a timer, and one for each connection that may be open at a time.
 
-use crate::acceptor::{Acceptor, End, Event};
+use crate::acceptor::Acceptor;
 use crate::clock::{MachineClock, Ticks};
-use crate::connection::{ConnectionFault, Direction, fault_of};
+use crate::connection::{ConnectionFault, Incoming, Outgoing, fault_of};
 use crate::control::ServiceControl;
 use crate::echo::Echo;
+use crate::ending::{Due, Ending};
 use crate::names::GroupNames;
+use crate::report::Report;
+use crate::reporter::Reports;
 use crate::serve::ServeError;
 use bh_audit::{Pass, Shared};
 use bh_base::GroupId;
@@ -14,20 +17,20 @@ use bh_lines::PortError;
 use bh_streams::{WatchedReader, WatchedWriter};
 use bh_workers::{timer_loop, worker_loop};
 use std::alloc::Global;
-use std::fmt::Display;
 use std::io::Write;
 use std::net::{OpenListener, TcpStream};
 use std::rt::Clock;
-use std::sync::{Arc, Mutex, Wait};
+use std::sync::{Arc, Wait};
 use std::thread;
 use std::thread::{JoinHandle, Scope, Threads};
+use std::time::Duration;
 
 /// From more threads than this on, it is said how many there will be.
 const MANY_THREADS: u64 = 1000;
 
 /// A service that runs: what each of its threads has at hand.
 #[derive(Drop)]
-pub struct Server<'e, R, L, E> {
+pub struct Server<'e, R, L> {
     pub rt: &'e R,
     pub alloc: Global,
     pub shared: &'e Shared,
@@ -36,22 +39,16 @@ pub struct Server<'e, R, L, E> {
     pub clock: &'e MachineClock<'e, R>,
     pub acceptor: &'e Acceptor,
     pub listener: &'e L,
-    pub errors: &'e Mutex<E>,
+    pub reports: &'e Reports,
 }
 
-impl<'e, R: Wait, L, E: Write> Server<'e, R, L, E> {
+impl<'e, R: Wait, L> Server<'e, R, L> {
     /// A pass of the group for a thread of the service, without room for receipts. No group of it is ever retired.
     fn pass(&self, group: GroupId) -> Result<Pass, ServeError> {
         let Ok(pass) = self.shared.pass(self.rt, self.alloc, group, 0) else {
             return Err(ServeError::Memory);
         };
         Ok(pass)
-    }
-
-    /// Writes a line to the errors. Only the thread that runs the service does, so that no other waits for it.
-    fn report<T: Display>(&self, text: &T) {
-        let mut errors = self.errors.lock(self.rt);
-        let _ = writeln!(&mut *errors, "{text}");
     }
 
     /// How many workers the groups want in all.
@@ -68,57 +65,53 @@ impl<'e, R: Wait, L, E: Write> Server<'e, R, L, E> {
         let connections = u64::from(self.acceptor.threads());
         let threads = self.workers().saturating_add(connections).saturating_add(1);
         if threads > MANY_THREADS {
-            let mut errors = self.errors.lock(self.rt);
-            let _ = writeln!(&mut *errors, "threads: {threads}");
+            self.reports.put(self.rt, Report::Threads(threads));
         }
     }
 }
 
-impl<
+impl<'e, R: Threads + Wait + Clock + Sync, L: OpenListener<Stream = TcpStream> + Sync> Server<
     'e,
-    R: Threads + Wait + Clock + Sync,
-    L: OpenListener<Stream = TcpStream> + Sync,
-    E: Write + Send,
-> Server<'e, R, L, E> {
-    /// Runs the service until its connections have ended, it is told to stop, or a fault ends it, and answers which of
-    /// the last two it was. All its threads have ended then.
-    pub fn run<O: Write>(&self, output: &mut O) -> Option<End> {
+    R,
+    L,
+> {
+    /// Runs the service until its connections have ended, and answers what ended it before, if anything did. All its threads
+    /// have ended then.
+    pub fn run<O: Write>(&self, output: &mut O) -> Ending {
         thread::scope(thread::scope_env(), self.rt, |scope| {
             let mut threads = Vec::new(self.alloc);
             self.open(scope, &mut threads, output);
-            let end = self.see_to_events();
+            let ending = self.see_to_ending();
             self.shared.stop(self.rt);
             for thread in threads {
                 thread.join(self.rt);
             }
-            end
+            ending
         })
     }
 
-    /// Tells faults as they come, until the threads of all connections have ended, and answers what ended the service
-    /// before.
-    fn see_to_events(&self) -> Option<End> {
-        let mut ended = None;
+    /// Does what is to be done because the service ends, until the threads of all connections have ended, and answers what
+    /// ended it.
+    fn see_to_ending(&self) -> Ending {
+        let mut seen = Ending::new();
         for _ in self.rt.forever() {
-            match self.acceptor.next_event(self.rt, ended.is_some()) {
-                Event::Fault(fault) => self.report(&fault),
-                Event::End(end) => {
-                    self.stop(end);
-                    ended = Some(end);
+            let Some(due) = self.acceptor.next_due(self.rt, &seen) else {
+                break;
+            };
+            self.shared.stop(self.rt);
+            match due {
+                Due::Fault(error) => {
+                    self.reports.put(self.rt, Report::Service(error));
+                    seen.fail(error);
                 }
-                Event::Over => break,
+                Due::Close => {
+                    self.echo.wake();
+                    self.acceptor.close(self.rt);
+                    seen.tell();
+                }
             }
         }
-        ended
-    }
-
-    /// Stops the service: tells the fault, or closes the connections where it was told to stop.
-    fn stop(&self, end: End) {
-        self.shared.stop(self.rt);
-        match end {
-            End::Fault(error) => self.report(&error),
-            End::Told => self.acceptor.close(self.rt),
-        }
+        seen
     }
 
     /// Starts the threads and says so; no connection is accepted meanwhile.
@@ -131,7 +124,7 @@ impl<
         let _held = self.acceptor.hold(self.rt);
         self.report_threads();
         if let Err(error) = self.start(scope, threads, output) {
-            self.acceptor.end(self.rt, End::Fault(error));
+            self.acceptor.fail(self.rt, error);
         }
     }
 
@@ -248,7 +241,7 @@ impl<
                 break;
             };
             if let Err(fault) = self.serve_connection(number, stream) {
-                self.acceptor.note(self.rt, fault);
+                self.reports.put(self.rt, Report::Connection(fault));
             }
         }
         self.acceptor.thread_ends(self.rt);
@@ -259,7 +252,7 @@ impl<
         match self.acceptor.let_in(self.rt, self.listener) {
             Ok(stream) => stream,
             Err(_) => {
-                self.acceptor.end(self.rt, End::Fault(ServeError::Network));
+                self.acceptor.fail(self.rt, ServeError::Network);
                 None
             }
         }
@@ -270,8 +263,10 @@ impl<
         let Ok(stream) = Arc::new(self.alloc, stream) else {
             return Err(ConnectionFault::Port(PortError::Memory));
         };
-        if !self.acceptor.enter(self.rt, number, &stream) {
-            return Ok(());
+        match self.acceptor.enter(self.rt, number, &stream) {
+            Ok(true) => {}
+            Ok(false) => return Ok(()),
+            Err(_) => return Err(ConnectionFault::Port(PortError::Memory)),
         }
         let served = self.converse(&stream);
         self.acceptor.leave(self.rt, number);
@@ -282,26 +277,26 @@ impl<
     fn converse(&self, stream: &TcpStream) -> Result<(), ConnectionFault> {
         let _ = stream.set_nodelay(true);
         let idle = self.acceptor.idle();
-        if stream.set_read_timeout(idle).is_err()
-            || stream.set_write_timeout(idle).is_err()
+        if stream
+            .set_write_timeout(idle.map(Duration::from_micros))
+            .is_err()
             || stream.set_nonblocking(true).is_err()
         {
             return Err(ConnectionFault::Port(PortError::Read));
         }
-        let (mut input, mut output) = (Direction::new(stream), Direction::new(stream));
-        let answered = self.answer(&mut input, &mut output);
-        let waited_in_vain = input.waited_in_vain() || output.waited_in_vain();
-        match answered {
+        let mut input = Incoming::new(self.rt, stream, idle);
+        let mut output = Outgoing::new(stream);
+        match self.answer(&mut input, &mut output) {
             Ok(()) => Ok(()),
-            Err(error) => Err(fault_of(error, waited_in_vain)),
+            Err(error) => Err(fault_of(error, input.fault().or(output.fault()))),
         }
     }
 
     /// Answers the control lines of the input to the output.
     fn answer(
         &self,
-        input: &mut Direction<'_>,
-        output: &mut Direction<'_>,
+        input: &mut Incoming<'_, R>,
+        output: &mut Outgoing<'_>,
     ) -> Result<(), PortError> {
         let mut control = ServiceControl::new(
             self.rt,

@@ -194,15 +194,15 @@ module _ (a b : Slots) (s : GroupSlots) (x : ℕ) (v : Ticket) (arena : IsArena 
         let at_end : slots_on b 0 s.lists.running ≡ without x (slots_on a 0 s.lists.running) ++ x ∷ [] =
         ap (λ (z : Slots). slots_on z 0 s.lists.running) is ∙ placed_on (is_named (Some v)) s.lists x (Some v) (with_moved 0 x (list_for s.lists v.state) (with_payload x v a)) s.lists.running ∙ ap (λ l. slots_on (with_moved 0 x l (with_payload x v a)) 0 s.lists.running) k ∙ list_to (with_payload x v a) 0 x s.lists.running arena.wide (omega (arith, group.there, group.numbered.running, group.numbered.settled)) in
         let now = turned.starts (λ e. not_free s.lists v.state group.numbered e) k in
-        subst (λ n. AreInTurn b s.lists n in_turn) (sym now.0) (subst (AreInTurn b s.lists (if turned.alone then v.serial else max s.last_started v.serial)) (sym now.1)
-        (turns_more a b s.lists x v.serial s.last_started s.in_turn turned.alone at_end (λ y nq. payload_other a b x (list_for s.lists v.state) v touched y nq) (ap serial_in (payload_slot a b x (list_for s.lists v.state) v touched)) turned.none group.turns))
+        subst (λ n. AreInTurn b s.lists n in_turn) (sym now.0) (subst (AreInTurn b s.lists (if turned.alone then v.serial else max s.order.last_started v.serial)) (sym now.1)
+        (turns_more a b s.lists x v.serial s.order.last_started s.order.in_turn turned.alone at_end (λ y nq. payload_other a b x (list_for s.lists v.state) v touched y nq) (ap serial_in (payload_slot a b x (list_for s.lists v.state) v touched)) turned.none group.turns))
     | inr nk ↦
         let was = turned.other nk in
-        subst (λ n. AreInTurn b s.lists n in_turn) (sym was.0) (subst (AreInTurn b s.lists s.last_started) (sym was.1)
-        (turns_less a b s.lists x s.last_started s.in_turn (touched.left s.lists.running (λ k. nk (sym k))) (λ y nq. payload_other a b x (list_for s.lists v.state) v touched y nq) group.turns))
+        subst (λ n. AreInTurn b s.lists n in_turn) (sym was.0) (subst (AreInTurn b s.lists s.order.last_started) (sym was.1)
+        (turns_less a b s.lists x s.order.last_started s.order.in_turn (touched.left s.lists.running (λ k. nk (sym k))) (λ y nq. payload_other a b x (list_for s.lists v.state) v touched y nq) group.turns))
   ]
 
-  module _ (r : GroupSlots) (last : ℕ) (in_turn : Bool) (turns : AreInTurn b s.lists last in_turn) (made : r ≡ record (with_submit v (counted_in v s)) { slots = record s.slots { taken = s.slots.taken + 1 }; next = s.next + 1; last_started = last; in_turn = in_turn }) where
+  module _ (r : GroupSlots) (last : ℕ) (in_turn : Bool) (turns : AreInTurn b s.lists last in_turn) (made : r ≡ record (with_submit v (counted_in v s)) { slots = record s.slots { taken = s.slots.taken + 1 }; next = s.next + 1; order = record (with_submit v s).order { last_started = last; in_turn = in_turn } }) where
     needed : (y : ℕ) (u : Ticket) → ticket_at b s.lists y ≡ Some u → is_kept u ≡ false → is_noted s.needless y ≡ true
     needed y u e k = elim (cases_eq y x) [
       | inl q ↦
@@ -230,7 +230,7 @@ module _ (a b : Slots) (s : GroupSlots) (x : ℕ) (v : Ticket) (arena : IsArena 
       | inr ne ↦ omega (arith, since_more s.commands v (omega (arith, group.commands, can.command)) u.command, group.since y u (sym (else_same y ne) ∙ e) opens)
     ]
 
-    whole : IsGroupSlots b (record (with_submit v (counted_in v s)) { slots = record s.slots { taken = s.slots.taken + 1 }; next = s.next + 1; last_started = last; in_turn = in_turn })
+    whole : IsGroupSlots b (record (with_submit v (counted_in v s)) { slots = record s.slots { taken = s.slots.taken + 1 }; next = s.next + 1; order = record (with_submit v s).order { last_started = last; in_turn = in_turn } })
     whole = record {
       numbered = group.numbered;
       there = omega (arith, group.there, touched.count);
@@ -247,7 +247,7 @@ module _ (a b : Slots) (s : GroupSlots) (x : ℕ) (v : Ticket) (arena : IsArena 
       known = known;
       since = since;
       turns = turns;
-      times = times_more a b s.lists x v s.latest s.in_time else_same now_here (λ y u e. subst (λ n. u.serial < n) (sym can.serial) (group.arranged.below y u e)) group.times;
+      times = times_more a b s.lists x v s.order.latest s.order.in_time else_same now_here (λ y u e. subst (λ n. u.serial < n) (sym can.serial) (group.arranged.below y u e)) group.times;
       needed = needed;
     }
 
@@ -277,7 +277,7 @@ to_list a s to r group is = subst (λ l. l < length (lists_in a 0)) (sym is) (ea
 
 -- as the code reads it
 pub add_from : (a b : Slots) (s : GroupSlots) (x to : ℕ) (v : Ticket) → IsArena a 0 → IsGroupSlots a s → slice_get (reverse (slots_on a 0 s.lists.free)) 0 ≡ Some x → CanAdd s v → IsArena a 1 → IsArena a 2 → to ≡ list_for s.lists v.state
-    → b ≡ with_placed_where (is_named (Some v)) s.lists x (Some v) (with_moved 0 x to (with_payload x v a)) → (r : GroupSlots) (last : ℕ) (in_turn : Bool) → r ≡ record (with_submit v (counted_in v s)) { slots = record s.slots { taken = s.slots.taken + 1 }; next = s.next + 1; last_started = last; in_turn = in_turn }
+    → b ≡ with_placed_where (is_named (Some v)) s.lists x (Some v) (with_moved 0 x to (with_payload x v a)) → (r : GroupSlots) (last : ℕ) (in_turn : Bool) → r ≡ record (with_submit v (counted_in v s)) { slots = record s.slots { taken = s.slots.taken + 1 }; next = s.next + 1; order = record (with_submit v s).order { last_started = last; in_turn = in_turn } }
     → IsTurned a s v.serial s.lists.free to last in_turn → IsAdded a s v b r
 add_from a b s x to v arena group back can serials names is moved r last in_turn made turned =
     let placed = moved ∙ ap (λ l. with_placed_where (is_named (Some v)) s.lists x (Some v) (with_moved 0 x l (with_payload x v a))) is in

@@ -43,7 +43,7 @@ module _ (a : Slots) (s : GroupSlots) (x : ℕ) (change : TicketChange) (can : C
     -- a slot whose payload is changed, and that is on the list for the new state, has the changed ticket
     pub change_from : (b : Slots) → IsArena a 0 → IsGroupSlots a s → (from to : ℕ) → from ≡ list_for s.lists was.state → to ≡ list_for s.lists read_now.state
         → (from ≡ to → b ≡ with_payload x now a) → (from ≢ to → b ≡ with_moved 0 x to (with_payload x now a))
-        → (r : GroupSlots) (needless : Noted) (last : ℕ) (in_turn : Bool) → r ≡ record (counted_in read_now (counted_out was s)) { needless = needless; last_started = last; in_turn = in_turn }
+        → (r : GroupSlots) (needless : Noted) (last : ℕ) (in_turn : Bool) → r ≡ record (counted_in read_now (counted_out was s)) { needless = needless; order = record s.order { last_started = last; in_turn = in_turn } }
         → IsTurned a s read_now.serial from to last in_turn
         → ((is_kept read_now ≡ false) × IsNoted x s.needless needless) ⊎ ((is_kept read_now ≡ true) × (needless ≡ s.needless))
         → (t : Ticket) → ticket_at a s.lists x ≡ Some t → IsPut a s x (changed_by change t) b r
@@ -56,6 +56,6 @@ module _ (a : Slots) (s : GroupSlots) (x : ℕ) (change : TicketChange) (can : C
         read from to f (g ∙ ap (λ (u : Ticket). list_for s.lists u.state) read_is)
         (λ q. same q ∙ ap (λ (u : Ticket). with_payload x u a) now_is)
         (λ q. moved q ∙ ap (λ (u : Ticket). with_moved 0 x to (with_payload x u a)) now_is)
-        r needless last in_turn (made ∙ ap (λ (u : Ticket). record (counted_in u (counted_out was s)) { needless = needless; last_started = last; in_turn = in_turn }) read_is)
+        r needless last in_turn (made ∙ ap (λ (u : Ticket). record (counted_in u (counted_out was s)) { needless = needless; order = record s.order { last_started = last; in_turn = in_turn } }) read_is)
         (subst (λ (u : Ticket). IsTurned a s u.serial from to last in_turn) read_is turned)
         (subst (λ (u : Ticket). ((is_kept u ≡ false) × IsNoted x s.needless needless) ⊎ ((is_kept u ≡ true) × (needless ≡ s.needless))) read_is noting))

@@ -17,13 +17,13 @@ use Rattle.bh_tickets.specs.GroupSlots.{AreInTurn, with_start}
 pub record IsTurned (a : Slots) (s : GroupSlots) (serial from to last : ℕ) (in_turn : Bool) : Type 0 where
   pub alone : Bool
   pub none : alone ≡ true → slots_on a 0 s.lists.running ≡ []
-  pub stays : from ≡ to → (last ≡ s.last_started) × (in_turn ≡ s.in_turn)
-  pub other : to ≢ s.lists.running → (last ≡ s.last_started) × (in_turn ≡ s.in_turn)
-  pub starts : from ≢ to → to ≡ s.lists.running → (last ≡ (if alone then serial else max s.last_started serial)) × (in_turn ≡ (alone || (s.in_turn && nat_lt s.last_started serial)))
+  pub stays : from ≡ to → (last ≡ s.order.last_started) × (in_turn ≡ s.order.in_turn)
+  pub other : to ≢ s.lists.running → (last ≡ s.order.last_started) × (in_turn ≡ s.order.in_turn)
+  pub starts : from ≢ to → to ≡ s.lists.running → (last ≡ (if alone then serial else max s.order.last_started serial)) × (in_turn ≡ (alone || (s.order.in_turn && nat_lt s.order.last_started serial)))
 
 -- as the code notes it
-pub turned : (a : Slots) (s g u : GroupSlots) (serial from to size : ℕ) → g.lists ≡ s.lists → g.last_started ≡ s.last_started → g.in_turn ≡ s.in_turn → size ≡ length (slots_on a 0 g.lists.running)
-    → (from ≡ to → u ≡ g) → (to ≢ g.lists.running → u ≡ g) → (from ≢ to → to ≡ g.lists.running → u ≡ with_start serial (nat_eq size 0) g) → IsTurned a s serial from to u.last_started u.in_turn
+pub turned : (a : Slots) (s g u : GroupSlots) (serial from to size : ℕ) → g.lists ≡ s.lists → g.order.last_started ≡ s.order.last_started → g.order.in_turn ≡ s.order.in_turn → size ≡ length (slots_on a 0 g.lists.running)
+    → (from ≡ to → u ≡ g) → (to ≢ g.lists.running → u ≡ g) → (from ≢ to → to ≡ g.lists.running → u ≡ with_start serial (nat_eq size 0) g) → IsTurned a s serial from to u.order.last_started u.order.in_turn
 turned a s g u serial from to size lists last in_turn sized stays other starts = record {
   alone = nat_eq size 0;
   none = λ e. nil_from_length (slots_on a 0 s.lists.running) (sym (sized ∙ ap (λ (z : GroupLists). length (slots_on a 0 z.running)) lists) ∙ eqb-true size 0 e);
@@ -31,13 +31,13 @@ turned a s g u serial from to size lists last in_turn sized stays other starts =
   other = λ ne. same (other (λ e. ne (e ∙ ap (λ (z : GroupLists). z.running) lists)));
   starts = λ ne e.
       let is : u ≡ with_start serial (nat_eq size 0) g = starts ne (e ∙ sym (ap (λ (z : GroupLists). z.running) lists)) in (
-        ap (λ (z : GroupSlots). z.last_started) is ∙ ap (λ n. if nat_eq size 0 then serial else max n serial) last,
-        ap (λ (z : GroupSlots). z.in_turn) is ∙ (λ i. nat_eq size 0 || (in_turn i && nat_lt (last i) serial)),
+        ap (λ (z : GroupSlots). z.order.last_started) is ∙ ap (λ n. if nat_eq size 0 then serial else max n serial) last,
+        ap (λ (z : GroupSlots). z.order.in_turn) is ∙ (λ i. nat_eq size 0 || (in_turn i && nat_lt (last i) serial)),
       );
 }
   where
-    same : u ≡ g → (u.last_started ≡ s.last_started) × (u.in_turn ≡ s.in_turn)
-    same is = (ap (λ (z : GroupSlots). z.last_started) is ∙ last, ap (λ (z : GroupSlots). z.in_turn) is ∙ in_turn)
+    same : u ≡ g → (u.order.last_started ≡ s.order.last_started) × (u.order.in_turn ≡ s.order.in_turn)
+    same is = (ap (λ (z : GroupSlots). z.order.last_started) is ∙ last, ap (λ (z : GroupSlots). z.order.in_turn) is ∙ in_turn)
 
 -- a slot that is left on a list without another was on it, and is another
 pub left_on : (x y : ℕ) (xs : List ℕ) → has y (without x xs) ≡ true → (y ≡ x → ⊥) × (has y xs ≡ true)

@@ -1,34 +1,45 @@
-pub mod Changed
-pub mod ByCommand
-pub mod Since
-pub mod InTime
-pub mod InTurn
-pub mod Touched
-pub mod Chained
-pub mod Own
-pub mod Others
-pub mod Puts
-pub mod Adds
-pub mod Releases
-pub mod Whole
-pub mod Finds
-pub mod Times
-pub mod Along
-pub mod TimedAll
-pub mod SinceAll
-pub mod Rising
-pub mod ReleasedAll
-pub mod AddedLists
-pub mod AddedGroup
-pub mod Exists
-pub mod Uncached
-pub mod InPlace
-pub mod Vacant
-pub mod Shifted
-pub mod Taken
-pub mod Gathered
-pub mod Given
-pub mod NewGroup
-pub mod Rebuilt
-pub mod Ready
-pub mod SlotCounts
+-- One ticket changes: what stays, and what is counted:
+pub mod Changed  -- what a change leaves of a ticket
+pub mod ByCommand  -- the counts of a group's tickets by command
+pub mod Since  -- since when tickets of a command wait or run
+pub mod InTime  -- tickets of later serials were not submitted earlier
+pub mod InTurn  -- running tickets lie in the order of their serials
+-- One slot of a group changes: its lists, its chains, and the other groups:
+pub mod Touched  -- one slot gets another ticket, or goes to another list
+pub mod Chained  -- the chains of a group as one of its slots changes, and as other groups do
+pub mod Own  -- what a change of one slot does to its group's tickets
+pub mod Others  -- the other groups stay as they were
+-- The changes of one ticket:
+pub mod Puts  -- one ticket of a group changes
+pub mod Adds  -- a ticket comes
+pub mod Releases  -- a ticket goes that nobody needs
+pub mod InPlace  -- a ticket is changed in place
+pub mod Times  -- a ticket times out, where it is due
+-- All groups, of which one changes:
+pub mod Whole  -- one group of many changes, and what is read of its tickets
+-- Searches:
+pub mod Finds  -- which ticket a search finds
+pub mod Exists  -- the ticket of a name, and whether a group has a ticket of a kind
+-- Walks along the lists of a group:
+pub mod Along  -- a walk along a list that may take the slot at hand off it
+pub mod TimedAll  -- all of a group's tickets that are due time out
+pub mod SinceAll  -- a walk for tickets that are due finds since when tickets of the command wait or run
+pub mod Rising  -- lists whose tickets lie in the order of their submits
+pub mod ReleasedAll  -- all of a group's tickets go that nobody needs
+pub mod Uncached  -- the end of a request context
+-- A group is added: new lists and new slots:
+pub mod AddedLists  -- a family gets empty lists, and then one of them the new slots
+pub mod AddedGroup  -- a group is added
+pub mod NewGroup  -- lists are made for a group, or slots come to one that has no ticket
+-- Slots go from one group without tickets to another:
+pub mod Vacant  -- a group without tickets
+pub mod Shifted  -- slots come to a group without tickets, or go from it
+pub mod Taken  -- slots go from one group without tickets to another
+pub mod Gathered  -- what lies on several lists of a family goes to another
+pub mod Given  -- all slots of a group go to one without tickets
+-- Groups come and go: what becomes of all of them:
+pub mod NamesLeft  -- chains by cache name that no group has stay so as groups change
+pub mod Exchanged  -- a place gets other chains by cache name
+pub mod Rebuilt  -- slots go between the spare ones and a group: what becomes of all groups
+pub mod Ready  -- spare slots and places are made ready
+pub mod SlotCounts  -- how many slots all groups have, as contracts see them

@@ -167,8 +167,8 @@ module _ (a b : Slots) (h : GroupSlots) (same : IsSame h.lists a b) (arena : IsA
     counts = λ c lt. counts_alike (count_at a h.lists) (count_at b h.lists) c (counts_of h.commands c) count_alike (group.counts c lt);
     known = λ x t p. group.known x t (sym (at_same x) ∙ p);
     since = λ x t p opens. group.since x t (sym (at_same x) ∙ p) opens;
-    times = times_kept a b h.lists h.latest h.in_time (λ x u p. had a h.lists x u (sym (at_same x) ∙ p)) group.times;
-    turns = turns_kept a b h.lists h.last_started h.in_turn
+    times = times_kept a b h.lists h.order.latest h.order.in_time (λ x u p. had a h.lists x u (sym (at_same x) ∙ p)) group.times;
+    turns = turns_kept a b h.lists h.order.last_started h.order.in_turn
         (λ y i.
         let was : is_on a 0 h.lists.running y ≡ true = sym (on_same h.lists.running y own_running) ∙ i in
         (was, ap serial_in (same.payloads h.lists.running y own_running was)))

@@ -1,7 +1,7 @@
 -- One ticket of a group changes.
 use Rattle.std.proofs.Common.{◌≡◌, ℕ, zero, suc, ◌+◌, ◌-◌, ◌<◌, ◌≤◌, ◌⊎◌, inl, inr, Bool, true, false, [], ◌∷◌, ◌++◌, length, Some, None, refl, ◌∙◌, sym, ap, subst, arith}
 use Rattle.std.specs.Prelude.{◌||◌, ◌≢◌, max, eqb, slice_get, if◌then◌else◌}
-use Rattle.std.proofs.lemmas.Bool.{cases_eq, eq-eqb}
+use Rattle.std.proofs.lemmas.Bool.{cases_eq}
 use Rattle.std.proofs.lemmas.List.{length-set}
 use Rattle.bh_base.specs.declared.ticket.Ticket.{Ticket}
 use Rattle.bh_base.specs.declared.ticket.TicketState.{TicketState}
@@ -246,20 +246,20 @@ module _ (a b : Slots) (s : GroupSlots) (x : ℕ) (t v : Ticket) (arena : IsAren
   turns_now last in_turn turned = elim (cases_eq (list_for s.lists t.state) (list_for s.lists v.state)) [
     | inl e ↦
         let on : slots_on b 0 s.lists.running ≡ slots_on a 0 s.lists.running = ap (λ (z : Slots). slots_on z 0 s.lists.running) (same e) in
-        as_was last in_turn (turned.stays e) (turns_kept a b s.lists s.last_started s.in_turn (λ y i. (sym (ap (has y) on) ∙ i, serial_same y)) (λ order. subst (InOrder a.payloads) (sym on) order) group.turns)
+        as_was last in_turn (turned.stays e) (turns_kept a b s.lists s.order.last_started s.order.in_turn (λ y i. (sym (ap (has y) on) ∙ i, serial_same y)) (λ order. subst (InOrder a.payloads) (sym on) order) group.turns)
     | inr ne ↦ elim (cases_eq (list_for s.lists v.state) s.lists.running) [
       | inl k ↦
           let at_end : slots_on b 0 s.lists.running ≡ without x (slots_on a 0 s.lists.running) ++ x ∷ [] =
           ap (λ (z : Slots). slots_on z 0 s.lists.running) (moved ne) ∙ ap (λ l. slots_on (with_moved 0 x l (with_payload x v a)) 0 s.lists.running) k ∙ list_to (with_payload x v a) 0 x s.lists.running arena.wide (omega (arith, group.there, group.numbered.running, group.numbered.settled)) in
           let now = turned.starts ne k in
-          subst (λ n. AreInTurn b s.lists n in_turn) (sym now.0) (subst (AreInTurn b s.lists (if turned.alone then v.serial else max s.last_started v.serial)) (sym now.1)
-          (turns_more a b s.lists x v.serial s.last_started s.in_turn turned.alone at_end (λ y nq. payload_other a b x (list_for s.lists v.state) v touched y nq) (ap serial_in (payload_slot a b x (list_for s.lists v.state) v touched)) turned.none group.turns))
-      | inr nk ↦ as_was last in_turn (turned.other nk) (turns_less a b s.lists x s.last_started s.in_turn (touched.left s.lists.running (λ k. nk (sym k))) (λ y nq. payload_other a b x (list_for s.lists v.state) v touched y nq) group.turns)
+          subst (λ n. AreInTurn b s.lists n in_turn) (sym now.0) (subst (AreInTurn b s.lists (if turned.alone then v.serial else max s.order.last_started v.serial)) (sym now.1)
+          (turns_more a b s.lists x v.serial s.order.last_started s.order.in_turn turned.alone at_end (λ y nq. payload_other a b x (list_for s.lists v.state) v touched y nq) (ap serial_in (payload_slot a b x (list_for s.lists v.state) v touched)) turned.none group.turns))
+      | inr nk ↦ as_was last in_turn (turned.other nk) (turns_less a b s.lists x s.order.last_started s.order.in_turn (touched.left s.lists.running (λ k. nk (sym k))) (λ y nq. payload_other a b x (list_for s.lists v.state) v touched y nq) group.turns)
     ]
   ]
     where
-      as_was : (last : ℕ) (in_turn : Bool) → (last ≡ s.last_started) × (in_turn ≡ s.in_turn) → AreInTurn b s.lists s.last_started s.in_turn → AreInTurn b s.lists last in_turn
-      as_was last in_turn is turns = subst (λ n. AreInTurn b s.lists n in_turn) (sym is.0) (subst (AreInTurn b s.lists s.last_started) (sym is.1) turns)
+      as_was : (last : ℕ) (in_turn : Bool) → (last ≡ s.order.last_started) × (in_turn ≡ s.order.in_turn) → AreInTurn b s.lists s.order.last_started s.order.in_turn → AreInTurn b s.lists last in_turn
+      as_was last in_turn is turns = subst (λ n. AreInTurn b s.lists n in_turn) (sym is.0) (subst (AreInTurn b s.lists s.order.last_started) (sym is.1) turns)
 
   owned_slot : is_owned a s.lists x ≡ true
   owned_slot = or_right (is_on a 0 s.lists.free x) (is_live a s.lists x) (held_at a s.lists x t here).0
@@ -276,7 +276,7 @@ module _ (a b : Slots) (s : GroupSlots) (x : ℕ) (t v : Ticket) (arena : IsAren
       ∙ count_same (is_owned b s.lists) (is_owned a s.lists) (length a.payloads) (owned_same a b x (list_for s.lists v.state) v touched s.lists owned_slot owned_list)
       ∙ group.slots
 
-  module _ (r : GroupSlots) (now : Noted) (last : ℕ) (in_turn : Bool) (turns : AreInTurn b s.lists last in_turn) (is : r ≡ record (counted_in v (counted_out t s)) { needless = now; last_started = last; in_turn = in_turn })
+  module _ (r : GroupSlots) (now : Noted) (last : ℕ) (in_turn : Bool) (turns : AreInTurn b s.lists last in_turn) (is : r ≡ record (counted_in v (counted_out t s)) { needless = now; order = record s.order { last_started = last; in_turn = in_turn } })
       (noting : ((is_kept v ≡ false) × IsNoted x s.needless now) ⊎ ((is_kept v ≡ true) × (now ≡ s.needless))) where
     needed : (y : ℕ) (u : Ticket) → ticket_at b s.lists y ≡ Some u → is_kept u ≡ false → is_noted now y ≡ true
     needed y u e k = elim (cases_eq y x) [
@@ -292,7 +292,7 @@ module _ (a b : Slots) (s : GroupSlots) (x : ℕ) (t v : Ticket) (arena : IsAren
           ]
     ]
 
-    made : IsGroupSlots b (record (counted_in v (counted_out t s)) { needless = now; last_started = last; in_turn = in_turn })
+    made : IsGroupSlots b (record (counted_in v (counted_out t s)) { needless = now; order = record s.order { last_started = last; in_turn = in_turn } })
     made = record {
       numbered = group.numbered;
       there = omega (arith, group.there, touched.count);
@@ -307,7 +307,7 @@ module _ (a b : Slots) (s : GroupSlots) (x : ℕ) (t v : Ticket) (arena : IsAren
       known = known;
       since = since;
       turns = turns;
-      times = times_kept a b s.lists s.latest s.in_time was_there group.times;
+      times = times_kept a b s.lists s.order.latest s.order.in_time was_there group.times;
       needed = needed;
     }
 
@@ -338,7 +338,7 @@ was_is a g x t u e is = let k = held_at a g x t e in ap (λ b. if b then slice_g
 -- as the code reads it
 pub put_from : (a b : Slots) (s : GroupSlots) (x : ℕ) (t v : Ticket) → IsArena a 0 → IsGroupSlots a s → CanPut a s x v → Some t ≡ slice_get a.payloads x
     → (from to : ℕ) → from ≡ list_for s.lists t.state → to ≡ list_for s.lists v.state → (from ≡ to → b ≡ with_payload x v a) → (from ≢ to → b ≡ with_moved 0 x to (with_payload x v a))
-    → (r : GroupSlots) (now : Noted) (last : ℕ) (in_turn : Bool) → r ≡ record (counted_in v (counted_out t s)) { needless = now; last_started = last; in_turn = in_turn }
+    → (r : GroupSlots) (now : Noted) (last : ℕ) (in_turn : Bool) → r ≡ record (counted_in v (counted_out t s)) { needless = now; order = record s.order { last_started = last; in_turn = in_turn } }
     → IsTurned a s v.serial from to last in_turn → ((is_kept v ≡ false) × IsNoted x s.needless now) ⊎ ((is_kept v ≡ true) × (now ≡ s.needless)) → IsPut a s x v b r
 put_from a b s x t v arena group can is from to f g same moved r now last in_turn made turned noting =
     let k : Some can.was ≡ Some t = sym (can.here) ∙ was_is a s.lists x can.was t can.here (sym is) in

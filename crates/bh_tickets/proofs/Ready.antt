@@ -12,11 +12,14 @@ use Rattle.bh_cache.specs.Slots.{Slots, IsApart}
 use Rattle.bh_tickets.specs.declared.group_slots.GroupSlots.{GroupSlots}
 use Rattle.bh_tickets.specs.GroupSlots.{IsGroupSlots, no_slot_taken}
 use Rattle.bh_tickets.specs.Growth.{HasMoreLists, HasNewLists, IsGrown, IsReadyFor, lists_from}
-use Rattle.bh_tickets.specs.Same.{IsSame}
+use Rattle.bh_tickets.specs.declared.names.NameLists.{NameLists}
+use Rattle.bh_tickets.specs.Names.{AreApart, AreLeft}
+use Rattle.bh_tickets.specs.Same.{IsSame, KeepsOwn}
 use Rattle.bh_tickets.specs.Spare.{AreSpare, GetsPlace, HasRoomBeside, IsLeft, IsPlaced, IsVacant, KeepsGroups, StaysWhole, free_slots}
 use Rattle.bh_tickets.specs.TicketsView.{GroupTickets, TicketsView, no_tickets_in}
 use Rattle.bh_tickets.specs.Whole.{AreGroupSlots, IsWhole, group_of, groups_of, rooms, view_of, with_spare}
 use Rattle.bh_tickets.proofs.AddedGroup.{arena_more, get_append, map_same, same_more, view_more, whole_more}
+use Rattle.bh_tickets.proofs.NamesLeft.{HadLists, apart_lists, left_more, left_same, lists_of}
 use Rattle.bh_tickets.proofs.NewGroup.{apart_back, grown_free, grown_limit, grown_same, grown_size, grown_vacant, new_apart, new_none, new_vacant}
 use Rattle.bh_tickets.proofs.Others.{group_same, slots_same}
 use Rattle.bh_tickets.proofs.Rebuilt.{rooms_first, spare_apart, spare_max, spare_slots, spare_vacant}
@@ -37,28 +40,29 @@ none_there p e = cc
 -- what is kept twice is kept
 pub keeps_both : (a b c : Slots) (p q r : Option GroupSlots) → KeepsGroups a p b q → KeepsGroups b q c r → KeepsGroups a p c r
 keeps_both a b c p q r f g = record {
-  whole = λ ss w. g.whole ss (f.whole ss w);
-  view = λ ss w. g.view ss (f.whole ss w) ∙ f.view ss w;
+  whole = λ ss ns w. g.whole ss ns (f.whole ss ns w);
+  view = λ ss ns w. g.view ss ns (f.whole ss ns w) ∙ f.view ss ns w;
 }
 
 -- with some empty lists more, the spare slots and all groups are as they should be
-pub more_whole : (a b : Slots) (p : Option GroupSlots) (ss : List GroupSlots) → HasMoreLists a b → IsWhole a p ss → IsWhole b p ss
-more_whole a b p ss more whole = record {
+pub more_whole : (a b : Slots) (p : Option GroupSlots) (ss : List GroupSlots) (ns : List NameLists) → HasMoreLists a b → IsWhole a p ss ns → IsWhole b p ss ns
+more_whole a b p ss ns more whole = record {
   all = whole_more a b (with_spare p ss) whole.all more;
   slots = ap (λ (ps : List Ticket). length ps) more.lists.payloads ∙ whole.slots;
   free = whole.free;
   first = whole.first;
+  names = left_more more.first more.second more.third a b (with_spare p ss) ns more.lists whole.names;
 }
 
 pub more_keeps : (a b : Slots) (p : Option GroupSlots) → HasMoreLists a b → KeepsGroups a p b p
 more_keeps a b p more = record {
-  whole = λ ss w. more_whole a b p ss more w;
-  view = λ ss w. view_more a b ss (groups_in w) more;
+  whole = λ ss ns w. more_whole a b p ss ns more w;
+  view = λ ss ns w. view_more a b ss (groups_in w) more;
 }
 
-pub more_stays : (a b : Slots) (ss : List GroupSlots) → HasMoreLists a b → StaysWhole a ss b ss
-more_stays a b ss more = record {
-  whole = λ p w. more_whole a b (Some p) ss more w;
+pub more_stays : (a b : Slots) (ss : List GroupSlots) (ns : List NameLists) → HasMoreLists a b → StaysWhole a ss ns b ss ns
+more_stays a b ss ns more = record {
+  whole = λ p w. more_whole a b (Some p) ss ns more w;
   view = λ p w. view_more a b ss (groups_in w) more;
 }
 
@@ -92,33 +96,50 @@ module _ (c : ℕ) (some : 0 < c) (a b : Slots) (g : GroupLists) (more : HasNewL
     ];
   }
 
+  -- and chains that no group has are those of none still
+  pub left_added : (ns : List NameLists) → AreLeft a qs ns → AreLeft b (qs ++ no_slot_taken g 0 ∷ []) ns
+  left_added ns left = record {
+    each = now.each;
+    beside = λ i j n s e f. elim (get_append qs (no_slot_taken g 0) j s f) [
+      | inl k ↦ subst (λ (z : GroupSlots). AreApart z.lists.names z.lists.free2 n.names n.uncached) (sym k.1)
+          (λ l own other. let low : g.names ≤ l = own.0 in absurd (omega (arith, (left.each i n e).there, low, other.1, ap (λ (z : GroupLists). z.names) from)))
+      | inr k ↦ now.beside i j n s e k.1
+    ];
+    apart = left.apart;
+  }
+    where
+      now : AreLeft b qs ns
+      now = left_more 4 17 (c + 1) a b qs ns more left
+
 -- the spare slots get lists, while there is no group
 pub made_spare : (c : ℕ) → 0 < c → (a b : Slots) (g : GroupLists) (p : Option GroupSlots) → p ≡ None → HasNewLists 4 17 (c + 1) a b → g ≡ lists_from c (length (lists_in a 0)) (length (lists_in a 1)) (length (lists_in a 2)) → KeepsGroups a p b (Some (no_slot_taken g 0))
 made_spare c some a b g p none more from = record {
-  whole = λ ss w. made ss (w.first none) (subst (λ q. IsWhole a q ss) none w);
-  view = λ ss w. view_more a b ss (groups_in w) (record { first = 4; second = 17; third = c + 1; lists = more });
+  whole = λ ss ns w. made ss ns (w.first none) (subst (λ q. IsWhole a q ss ns) none w);
+  view = λ ss ns w. view_more a b ss (groups_in w) (record { first = 4; second = 17; third = c + 1; lists = more });
 }
   where
-    alone : IsWhole a None [] → IsWhole b (Some (no_slot_taken g 0)) []
-    alone w = record {
+    alone : (ns : List NameLists) → IsWhole a None [] ns → IsWhole b (Some (no_slot_taken g 0)) [] ns
+    alone ns w = record {
       all = whole_added c some a b g more from [] w.all;
       slots = ap (λ (ps : List Ticket). length ps) more.payloads ∙ w.slots;
       free = λ q e. let k : no_slot_taken g 0 ≡ q = some_same (no_slot_taken g 0) q e in subst (λ (z : GroupSlots). z ≡ no_slot_taken z.lists z.slots.max) k refl;
       first = λ e. refl;
+      names = left_added c some a b g more from [] w.all ns w.names;
     }
 
-    made : (ss : List GroupSlots) → ss ≡ [] → IsWhole a None ss → IsWhole b (Some (no_slot_taken g 0)) ss
-    made ss e w = subst (λ rs. IsWhole b (Some (no_slot_taken g 0)) rs) (sym e) (alone (subst (λ rs. IsWhole a None rs) e w))
+    made : (ss : List GroupSlots) (ns : List NameLists) → ss ≡ [] → IsWhole a None ss ns → IsWhole b (Some (no_slot_taken g 0)) ss ns
+    made ss ns e w = subst (λ rs. IsWhole b (Some (no_slot_taken g 0)) rs ns) (sym e) (alone ns (subst (λ rs. IsWhole a None rs ns) e w))
 
 -- ---- a place
 
--- one that a retired group left
-pub left_gets : (place : ℕ) (a : Slots) (ss : List GroupSlots) → IsLeft place ss → GetsPlace place a ss a ss
-left_gets place a ss left = record {
+-- one that a retired group left, which has so many chains
+pub left_gets : (chains place : ℕ) (a : Slots) (ss : List GroupSlots) (ns : List NameLists) (left : IsLeft place ss) → left.entry.lists.uncached ≡ left.entry.lists.names + chains → GetsPlace chains place a ss ns a ss ns
+left_gets chains place a ss ns left many = record {
   gets = λ p w. record {
     entry = left.entry;
     here = left.here;
     empty = left.empty;
+    many = many;
     whole = w;
     vacant = ap (λ (z : GroupTickets). z.room) (group_is a ss place left.entry left.here) ∙ left.empty;
     others = λ g ne. refl;
@@ -138,17 +159,19 @@ not_at_end (y ∷ ys) r zero ne = refl
 not_at_end (y ∷ ys) r (suc i) ne = not_at_end ys r i (λ e. ne (ap suc e))
 
 -- a new one behind the others
-pub new_gets : (c : ℕ) → 0 < c → (a b : Slots) (g : GroupLists) (ss : List GroupSlots) → HasNewLists 4 17 (c + 1) a b → g ≡ lists_from c (length (lists_in a 0)) (length (lists_in a 1)) (length (lists_in a 2)) → GetsPlace (length ss) a ss b (ss ++ no_slot_taken g 0 ∷ [])
-new_gets c some a b g ss more from = record {
+pub new_gets : (c : ℕ) → 0 < c → (a b : Slots) (g : GroupLists) (ss : List GroupSlots) (ns : List NameLists) → HasNewLists 4 17 (c + 1) a b → g ≡ lists_from c (length (lists_in a 0)) (length (lists_in a 1)) (length (lists_in a 2)) → GetsPlace c (length ss) a ss ns b (ss ++ no_slot_taken g 0 ∷ []) ns
+new_gets c some a b g ss ns more from = record {
   gets = λ p w. record {
     entry = no_slot_taken g 0;
     here = at_end ss (no_slot_taken g 0);
     empty = refl;
+    many = omega (arith, ap (λ (z : GroupLists). z.uncached) from, ap (λ (z : GroupLists). z.names) from);
     whole = record {
       all = whole_added c some a b g more from (p ∷ ss) w.all;
       slots = omega (arith, ap (λ (ps : List Ticket). length ps) more.payloads, w.slots, rooms_first p ss, rooms_first p (ss ++ no_slot_taken g 0 ∷ []), room_same);
       free = w.free;
       first = λ e. absurd (some_there p e);
+      names = left_added c some a b g more from (p ∷ ss) w.all ns w.names;
     };
     vacant = ap (λ (z : GroupTickets). z.room) (get_or_past (groups_of a ss) (length ss) (no_tickets_in 0) (omega (arith, length-map ss (group_of a))));
     others = λ j ne. slice_get-map (group_of b) (ss ++ no_slot_taken g 0 ∷ []) j ∙ ap (option_map (group_of b)) (not_at_end ss (no_slot_taken g 0) j ne) ∙ shown w j (slice_get ss j) refl ∙ sym (slice_get-map (group_of a) ss j);
@@ -160,7 +183,7 @@ new_gets c some a b g ss more from = record {
     room_same : rooms (ss ++ no_slot_taken g 0 ∷ []) ≡ rooms ss
     room_same = omega (arith, sum_by-append (λ (s : GroupSlots). s.slots.max) ss (no_slot_taken g 0 ∷ []), sum_by-cons (λ (s : GroupSlots). s.slots.max) (no_slot_taken g 0) [])
 
-    shown : {p : GroupSlots} → IsWhole a (Some p) ss → (j : ℕ) (k : Option GroupSlots) → slice_get ss j ≡ k → option_map (group_of b) k ≡ option_map (group_of a) k
+    shown : {p : GroupSlots} → IsWhole a (Some p) ss ns → (j : ℕ) (k : Option GroupSlots) → slice_get ss j ≡ k → option_map (group_of b) k ≡ option_map (group_of a) k
     shown w j None e = refl
     shown w j (Some s) e =
         let all = groups_in w in
@@ -171,28 +194,30 @@ new_gets c some a b g ss more from = record {
 -- so many slots more are within the limit where no spare one counts, and the spare ones lie on the lists
 pub record AreReady (slots : ℕ) (a : Slots) (g : GroupLists) (spare : Option GroupSlots) : Type 0 where
   pub groups : List GroupSlots
+  pub names : List NameLists
   pub part : GroupSlots
   pub is : spare ≡ Some part
-  pub whole : IsWhole a (Some part) groups
+  pub whole : IsWhole a (Some part) groups names
   pub lists : part.lists ≡ g
   pub within : rooms groups + slots ≤ a.limit
 
 pub ready : (slots : ℕ) (a b : Slots) (g : GroupLists) (p q : Option GroupSlots) → HasRoomBeside slots a p → KeepsGroups a p b q → AreSpare 0 g q → AreReady slots b g q
 ready slots a b g p q beside keeps are = record {
   groups = beside.groups;
+  names = beside.names;
   part = are.part;
   is = are.is;
-  whole = subst (λ r. IsWhole b r beside.groups) are.is (keeps.whole beside.groups beside.whole);
+  whole = subst (λ r. IsWhole b r beside.groups beside.names) are.is (keeps.whole beside.groups beside.names beside.whole);
   lists = are.lists;
-  within = omega (arith, beside.within, ap (λ (v : TicketsView). v.limit) (keeps.view beside.groups beside.whole));
+  within = omega (arith, beside.within, ap (λ (v : TicketsView). v.limit) (keeps.view beside.groups beside.names beside.whole));
 }
 
 module _ (slots : ℕ) (a : Slots) (g : GroupLists) (spare : Option GroupSlots) (ready : AreReady slots a g spare) where
   pub ready_vacant : IsVacant a g
-  ready_vacant = subst (IsVacant a) ready.lists (spare_vacant a ready.part ready.groups ready.whole)
+  ready_vacant = subst (IsVacant a) ready.lists (spare_vacant a ready.part ready.groups ready.names ready.whole)
 
   pub ready_max : ready.part.slots.max ≡ free_slots a g
-  ready_max = spare_max a ready.part ready.groups ready.whole ∙ ap (free_slots a) ready.lists
+  ready_max = spare_max a ready.part ready.groups ready.names ready.whole ∙ ap (free_slots a) ready.lists
 
   pub ready_free : g.free < length (lists_in a 0)
   ready_free = let k = ready_vacant in omega (arith, k.there, k.numbered.settled)
@@ -205,41 +230,49 @@ module _ (slots : ℕ) (a : Slots) (g : GroupLists) (spare : Option GroupSlots) 
         first = ready_free;
         second = k.chains.serials_there;
         third = k.chains.names_there;
-        within = omega (arith, ready.within, spare_slots a ready.part ready.groups ready.whole, ready_max, few);
+        within = omega (arith, ready.within, spare_slots a ready.part ready.groups ready.names ready.whole, ready_max, few);
       }
 
   module _ (b : Slots) (count : ℕ) (grown : IsGrown g count a b) (few : free_slots a g + count ≤ 4096) where
     more_spare : IsGroupSlots b (no_slot_taken g (free_slots b g))
     more_spare = vacant_group b g (grown_vacant count g a b grown ready_vacant) grown.arena (omega (arith, few, grown_free count g a b grown ready_vacant))
 
-    same_grown : (ss : List GroupSlots) → IsWhole a (Some ready.part) ss → (j : ℕ) (s : GroupSlots) → slice_get ss j ≡ Some s → IsSame s.lists a b
-    same_grown ss w j s e = grown_same count g a b grown ready_vacant s.lists w.all.arena (subst (λ z. IsApart z s.lists) ready.lists (spare_apart a ready.part ss w j s e))
+    same_grown : (ss : List GroupSlots) (ns : List NameLists) → IsWhole a (Some ready.part) ss ns → (j : ℕ) (s : GroupSlots) → slice_get ss j ≡ Some s → IsSame s.lists a b
+    same_grown ss ns w j s e = grown_same count g a b grown ready_vacant s.lists w.all.arena (subst (λ z. IsApart z s.lists) ready.lists (spare_apart a ready.part ss ns w j s e))
 
     -- with so many slots more among the spare ones, all groups are as they were
     pub grown_keeps : KeepsGroups a spare b (Some (no_slot_taken g (free_slots b g)))
     grown_keeps = record {
-      whole = λ ss w. now ss (subst (λ r. IsWhole a r ss) ready.is w);
-      view = λ ss w. shown ss (subst (λ r. IsWhole a r ss) ready.is w);
+      whole = λ ss ns w. now ss ns (subst (λ r. IsWhole a r ss ns) ready.is w);
+      view = λ ss ns w. shown ss ns (subst (λ r. IsWhole a r ss ns) ready.is w);
     }
       where
-        now : (ss : List GroupSlots) → IsWhole a (Some ready.part) ss → IsWhole b (Some (no_slot_taken g (free_slots b g))) ss
-        now ss w = record {
+        now : (ss : List GroupSlots) (ns : List NameLists) → IsWhole a (Some ready.part) ss ns → IsWhole b (Some (no_slot_taken g (free_slots b g))) ss ns
+        now ss ns w = record {
           all = record {
             arena = grown.arena;
             each = each;
             apart = apart;
           };
-          slots = omega (arith, grown_size count g a b grown ready_vacant, grown_free count g a b grown ready_vacant, spare_slots a ready.part ss w, ready_max, rooms_first (no_slot_taken g (free_slots b g)) ss);
+          slots = omega (arith, grown_size count g a b grown ready_vacant, grown_free count g a b grown ready_vacant, spare_slots a ready.part ss ns w, ready_max, rooms_first (no_slot_taken g (free_slots b g)) ss);
           free = λ q e. let k : no_slot_taken g (free_slots b g) ≡ q = some_same (no_slot_taken g (free_slots b g)) q e in subst (λ (z : GroupSlots). z ≡ no_slot_taken z.lists z.slots.max) k refl;
           first = λ e. absurd (some_there (no_slot_taken g (free_slots b g)) e);
+          names = left_same a b (ready.part ∷ ss) (no_slot_taken g (free_slots b g) ∷ ss) ns w.names keeps had;
         }
           where
+            keeps : (k : ℕ) (n : NameLists) → slice_get ns k ≡ Some n → KeepsOwn 2 n.names n.uncached a b
+            keeps k n e = (grown_same count g a b grown ready_vacant (lists_of n) w.all.arena (apart_lists g n (subst (λ (z : GroupLists). AreApart z.names z.free2 n.names n.uncached) ready.lists (w.names.beside k 0 n ready.part e refl)))).names
+
+            had : (j : ℕ) (s : GroupSlots) → slice_get (no_slot_taken g (free_slots b g) ∷ ss) j ≡ Some s → HadLists (ready.part ∷ ss) s
+            had zero s e = record { number = 0; was = ready.part; there = refl; lists = ap (λ (z : GroupSlots). z.lists) (sym (some_same (no_slot_taken g (free_slots b g)) s e)) ∙ sym ready.lists }
+            had (suc j) s e = record { number = suc j; was = s; there = e; lists = refl }
+
             each : (i : ℕ) (s : GroupSlots) → slice_get (no_slot_taken g (free_slots b g) ∷ ss) i ≡ Some s → IsGroupSlots b s
             each zero s e = subst (IsGroupSlots b) (some_same (no_slot_taken g (free_slots b g)) s e) more_spare
-            each (suc i) s e = slots_same a b s (same_grown ss w i s e) w.all.arena (w.all.each (suc i) s e)
+            each (suc i) s e = slots_same a b s (same_grown ss ns w i s e) w.all.arena (w.all.each (suc i) s e)
 
             beside : (i : ℕ) (s r : GroupSlots) → no_slot_taken g (free_slots b g) ≡ s → slice_get ss i ≡ Some r → IsApart s.lists r.lists
-            beside i s r k e = subst (λ (z : GroupLists). IsApart z r.lists) (ready.lists ∙ ap (λ (z : GroupSlots). z.lists) k) (spare_apart a ready.part ss w i r e)
+            beside i s r k e = subst (λ (z : GroupLists). IsApart z r.lists) (ready.lists ∙ ap (λ (z : GroupSlots). z.lists) k) (spare_apart a ready.part ss ns w i r e)
 
             apart : (i j : ℕ) (s r : GroupSlots) → slice_get (no_slot_taken g (free_slots b g) ∷ ss) i ≡ Some s → slice_get (no_slot_taken g (free_slots b g) ∷ ss) j ≡ Some r → i ≢ j → IsApart s.lists r.lists
             apart zero zero s r e f ne = absurd (ne refl)
@@ -247,24 +280,24 @@ module _ (slots : ℕ) (a : Slots) (g : GroupLists) (spare : Option GroupSlots) 
             apart (suc i) zero s r e f ne = apart_back r.lists s.lists (beside i r s (some_same (no_slot_taken g (free_slots b g)) r f) e)
             apart (suc i) (suc j) s r e f ne = w.all.apart (suc i) (suc j) s r e f ne
 
-        shown : (ss : List GroupSlots) → IsWhole a (Some ready.part) ss → view_of b ss ≡ view_of a ss
-        shown ss w = λ i. record { limit = grown_limit count g a b grown ready_vacant i; groups = map_same (group_of b) (group_of a) ss (λ j s e. group_same a b s (same_grown ss w j s e) w.all.arena (w.all.each (suc j) s e)) i }
+        shown : (ss : List GroupSlots) (ns : List NameLists) → IsWhole a (Some ready.part) ss ns → view_of b ss ≡ view_of a ss
+        shown ss ns w = λ i. record { limit = grown_limit count g a b grown ready_vacant i; groups = map_same (group_of b) (group_of a) ss (λ j s e. group_same a b s (same_grown ss ns w j s e) w.all.arena (w.all.each (suc j) s e)) i }
 
 -- ---- a group is added
 
 -- the spare slots and the group's part, once both are ready
-pub record IsChosen (place slots : ℕ) (g : GroupLists) (s : GroupSlots) (a : Slots) (ss : List GroupSlots) (b : Slots) (rs : List GroupSlots) : Type 0 where
+pub record IsChosen (chains place slots : ℕ) (g : GroupLists) (s : GroupSlots) (a : Slots) (ss : List GroupSlots) (b : Slots) (rs : List GroupSlots) (ms : List NameLists) : Type 0 where
   pub part : GroupSlots
-  pub placed : IsPlaced place a part ss b rs
+  pub placed : IsPlaced chains place a part ss b rs ms
   pub limit : b.limit ≡ a.limit
   pub here : slice_get rs place ≡ Some s
   pub empty : s.slots.max ≡ 0
   pub lists : part.lists ≡ g
   pub enough : slots ≤ part.slots.max
 
-pub chosen : (place slots : ℕ) (g : GroupLists) (s : GroupSlots) (a : Slots) (ss : List GroupSlots) (spare : Option GroupSlots) (b : Slots) (rs : List GroupSlots) → IsWhole a spare ss → AreSpare slots g spare → GetsPlace place a ss b rs → s ≡ get_or rs place s → IsChosen place slots g s a ss b rs
-chosen place slots g s a ss spare b rs whole are got is =
-    let placed = got.gets are.part (subst (λ q. IsWhole a q ss) are.is whole) in
+pub chosen : (chains place slots : ℕ) (g : GroupLists) (s : GroupSlots) (a : Slots) (ss : List GroupSlots) (ns : List NameLists) (spare : Option GroupSlots) (b : Slots) (rs : List GroupSlots) (ms : List NameLists) → IsWhole a spare ss ns → AreSpare slots g spare → GetsPlace chains place a ss ns b rs ms → s ≡ get_or rs place s → IsChosen chains place slots g s a ss b rs ms
+chosen chains place slots g s a ss ns spare b rs ms whole are got is =
+    let placed = got.gets are.part (subst (λ q. IsWhole a q ss ns) are.is whole) in
     let here : slice_get rs place ≡ Some s = get_is rs place s (get_lt rs place placed.entry placed.here) is in
     record {
       part = are.part;

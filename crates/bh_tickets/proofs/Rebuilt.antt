@@ -13,7 +13,10 @@ use Rattle.bh_tickets.specs.Same.{IsSame}
 use Rattle.bh_tickets.specs.Spare.{IsGiven, IsTaken, IsVacant, free_slots}
 use Rattle.bh_tickets.specs.TicketsView.{GroupTickets, no_tickets_in}
 use Rattle.bh_tickets.specs.Whole.{AreGroupSlots, IsWhole, group_of, groups_of, rooms, view_of}
+use Rattle.bh_tickets.specs.declared.names.NameLists.{NameLists}
+use Rattle.bh_tickets.specs.Names.{AreLeft}
 use Rattle.bh_tickets.proofs.AddedGroup.{map_same}
+use Rattle.bh_tickets.proofs.NamesLeft.{apart_lists, left_same, lists_of}
 use Rattle.bh_tickets.proofs.Others.{group_same, slots_same}
 use Rattle.bh_tickets.proofs.Vacant.{is_vacant, max_is, taken_few, vacant_group, vacant_shown}
 use Rattle.bh_tickets.proofs.Whole.{get_lt, set_other, set_same}
@@ -88,6 +91,12 @@ module _ (a b : Slots) (p q : GroupSlots) (ss : List GroupSlots) (i : ℕ) (s r 
   pub two_changed : AreGroupSlots b (q ∷ set ss i r)
   two_changed = rebuilt a b (p ∷ ss) (q ∷ set ss i r) whole arena two_parts
 
+  -- chains that no group has are those of none still
+  pub two_left : (ns : List NameLists) → AreLeft a (p ∷ ss) ns → AreLeft b (q ∷ set ss i r) ns
+  two_left ns left = left_same a b (p ∷ ss) (q ∷ set ss i r) ns left
+      (λ k n e. (same (lists_of n) (apart_lists p.lists n (left.beside k 0 n p e refl)) (apart_lists s.lists n (left.beside k (suc i) n s e is))).names)
+      (λ j t e. let part = two_parts j t e in record { number = j; was = part.was; there = part.there; lists = part.lists })
+
   -- contracts see each other group as it was
   pub two_others : (j : ℕ) → j ≢ i → slice_get (groups_of b (set ss i r)) j ≡ slice_get (groups_of a ss) j
   two_others j ne = slice_get-map (group_of b) (set ss i r) j ∙ ap (option_map (group_of b)) (set_other ss i j r ne) ∙ at (slice_get ss j) refl ne ∙ sym (slice_get-map (group_of a) ss j)
@@ -111,7 +120,7 @@ some_there p e = cc
 
 -- ---- what the spare slots are
 
-module _ (a : Slots) (p : GroupSlots) (ss : List GroupSlots) (whole : IsWhole a (Some p) ss) where
+module _ (a : Slots) (p : GroupSlots) (ss : List GroupSlots) (ns : List NameLists) (whole : IsWhole a (Some p) ss ns) where
   none_taken : p.slots.taken ≡ 0
   none_taken = ap (λ (z : GroupSlots). z.slots.taken) (whole.free p refl)
 
@@ -141,18 +150,18 @@ module _ (a : Slots) (p : GroupSlots) (ss : List GroupSlots) (whole : IsWhole a 
   entry_vacant i s is none = is_vacant a s whole.all.arena (whole_group i s is) (entry_taken i s is none)
 
 -- without spare slots there is none
-pub none_slots : (a : Slots) (ss : List GroupSlots) → IsWhole a None ss → length a.payloads ≡ rooms ss
-none_slots a ss whole = whole.slots
+pub none_slots : (a : Slots) (ss : List GroupSlots) (ns : List NameLists) → IsWhole a None ss ns → length a.payloads ≡ rooms ss
+none_slots a ss ns whole = whole.slots
 
 -- ---- slots are taken from the spare ones
 
-module _ (a b : Slots) (p q : GroupSlots) (ss : List GroupSlots) (i count : ℕ) (s r : GroupSlots) (whole : IsWhole a (Some p) ss) (is : slice_get ss i ≡ Some s) (empty : s.slots.max ≡ 0)
+module _ (a b : Slots) (p q : GroupSlots) (ss : List GroupSlots) (ns : List NameLists) (i count : ℕ) (s r : GroupSlots) (whole : IsWhole a (Some p) ss ns) (is : slice_get ss i ≡ Some s) (empty : s.slots.max ≡ 0)
     (taken : IsTaken count p.lists s.lists a b) (arena : IsArena b 0) (q_is : q ≡ no_slot_taken p.lists (free_slots b p.lists)) (r_is : r ≡ no_slot_taken s.lists (free_slots b s.lists)) where
   left : free_slots b p.lists + count ≡ p.slots.max
-  left = taken.left ∙ sym (spare_max a p ss whole)
+  left = taken.left ∙ sym (spare_max a p ss ns whole)
 
   got : free_slots b s.lists ≡ count
-  got = omega (arith, taken.got, max_is a s whole.all.arena (whole_group a p ss whole i s is) (entry_taken a p ss whole i s is empty), empty)
+  got = omega (arith, taken.got, max_is a s whole.all.arena (whole_group a p ss ns whole i s is) (entry_taken a p ss ns whole i s is empty), empty)
 
   small : p.slots.max < 2 ^ 63
   small = (whole.all.each 0 p refl).few
@@ -180,12 +189,13 @@ module _ (a b : Slots) (p q : GroupSlots) (ss : List GroupSlots) (i count : ℕ)
   taken_rooms = omega (arith, rooms_now ss i s r is, empty, r_max)
 
   -- the spare slots and all groups are as they should be
-  pub taken_whole : IsWhole b (Some q) (set ss i r)
+  pub taken_whole : IsWhole b (Some q) (set ss i r) ns
   taken_whole = record {
     all = two_changed a b p q ss i s r whole.all is arena spare_now q_lists group_now r_lists taken.same;
-    slots = omega (arith, taken.slots, spare_slots a p ss whole, rooms_first q (set ss i r), taken_rooms, q_max, left);
+    slots = omega (arith, taken.slots, spare_slots a p ss ns whole, rooms_first q (set ss i r), taken_rooms, q_max, left);
     free = λ t e. let k : q ≡ t = some_same q t e in subst (λ (z : GroupSlots). z ≡ no_slot_taken z.lists z.slots.max) k (q_is ∙ both_same p.lists q.lists (free_slots b p.lists) q.slots.max (sym q_lists) (sym q_max));
     first = λ e. absurd (some_there q e);
+    names = two_left a b p q ss i s r whole.all is arena spare_now q_lists group_now r_lists taken.same ns whole.names;
   }
 
   pub taken_others : (j : ℕ) → j ≢ i → slice_get (groups_of b (set ss i r)) j ≡ slice_get (groups_of a ss) j
@@ -197,10 +207,10 @@ module _ (a b : Slots) (p q : GroupSlots) (ss : List GroupSlots) (i count : ℕ)
 
 -- ---- all slots of a group go to the spare ones
 
-module _ (a b : Slots) (p q : GroupSlots) (ss : List GroupSlots) (i : ℕ) (s r : GroupSlots) (whole : IsWhole a (Some p) ss) (is : slice_get ss i ≡ Some s)
+module _ (a b : Slots) (p q : GroupSlots) (ss : List GroupSlots) (ns : List NameLists) (i : ℕ) (s r : GroupSlots) (whole : IsWhole a (Some p) ss ns) (is : slice_get ss i ≡ Some s)
     (given : IsGiven s p.lists a b) (arena : IsArena b 0) (few : length b.payloads < 2 ^ 32) (q_is : q ≡ no_slot_taken p.lists (free_slots b p.lists)) (r_is : r ≡ no_slot_taken s.lists (free_slots b s.lists)) where
   given_got : free_slots b p.lists ≡ p.slots.max + s.slots.max
-  given_got = given.got ∙ ap (λ n. n + s.slots.max) (sym (spare_max a p ss whole))
+  given_got = given.got ∙ ap (λ n. n + s.slots.max) (sym (spare_max a p ss ns whole))
 
   given_q_lists : q.lists ≡ p.lists
   given_q_lists = ap (λ (z : GroupSlots). z.lists) q_is
@@ -218,7 +228,7 @@ module _ (a b : Slots) (p q : GroupSlots) (ss : List GroupSlots) (i : ℕ) (s r 
   given_rooms = omega (arith, rooms_now ss i s r is, given_r_max)
 
   all_slots : length b.payloads ≡ free_slots b p.lists + rooms (set ss i r)
-  all_slots = omega (arith, given.slots, spare_slots a p ss whole, given_rooms, given_got)
+  all_slots = omega (arith, given.slots, spare_slots a p ss ns whole, given_rooms, given_got)
 
   given_spare : IsGroupSlots b q
   given_spare = subst (IsGroupSlots b) (sym q_is) (vacant_group b p.lists given.taker arena (omega (arith, all_slots, few)))
@@ -230,12 +240,13 @@ module _ (a b : Slots) (p q : GroupSlots) (ss : List GroupSlots) (i : ℕ) (s r 
   same_given h f g = given.same h g f
 
   -- the spare slots and all groups are as they should be
-  pub given_whole : IsWhole b (Some q) (set ss i r)
+  pub given_whole : IsWhole b (Some q) (set ss i r) ns
   given_whole = record {
     all = two_changed a b p q ss i s r whole.all is arena given_spare given_q_lists given_group given_r_lists same_given;
     slots = omega (arith, all_slots, given_q_max, rooms_first q (set ss i r));
     free = λ t e. let k : q ≡ t = some_same q t e in subst (λ (z : GroupSlots). z ≡ no_slot_taken z.lists z.slots.max) k (q_is ∙ both_same p.lists q.lists (free_slots b p.lists) q.slots.max (sym given_q_lists) (sym given_q_max));
     first = λ e. absurd (some_there q e);
+    names = two_left a b p q ss i s r whole.all is arena given_spare given_q_lists given_group given_r_lists same_given ns whole.names;
   }
 
   -- contracts see no ticket and no slot in the group, and all others as they were

@@ -161,8 +161,8 @@ module _ (a b : Slots) (s : GroupSlots) (x : ℕ) (t : Ticket) (arena : IsArena 
       counts = counts_less (count_at a s.lists) (count_at b s.lists) t s.commands group.commands (group.known x t here) group.counts recount;
       known = known;
       since = since;
-      turns = turns_less a b s.lists x s.last_started s.in_turn (touched.left s.lists.running (λ e. absurd (omega (arith, e, group.numbered.running)))) (λ y ne. ap (λ ps. slice_get ps y) same_payload) group.turns;
-      times = times_kept a b s.lists s.latest s.in_time was_there group.times;
+      turns = turns_less a b s.lists x s.order.last_started s.order.in_turn (touched.left s.lists.running (λ e. absurd (omega (arith, e, group.numbered.running)))) (λ y ne. ap (λ ps. slice_get ps y) same_payload) group.turns;
+      times = times_kept a b s.lists s.order.latest s.order.in_time was_there group.times;
       needed = λ y u e k. ap (λ n. is_noted n y) many;
     }
 

@@ -45,7 +45,7 @@ has_drop (z ∷ zs) (suc i) y on = ap (λ b. eqb z y || b) (has_drop zs i y on) 
     or_true false = refl
 
 -- where the serials along a list of the group rise and its tickets are in time, the submits rise
-pub list_rises : (a : Slots) (s : GroupSlots) (l : ℕ) → IsArena a 0 → IsGroupSlots a s → is_live_list s.lists l ≡ true → InOrder a.payloads (slots_on a 0 l) → s.in_time ≡ true → IsRising a.payloads (slots_on a 0 l)
+pub list_rises : (a : Slots) (s : GroupSlots) (l : ℕ) → IsArena a 0 → IsGroupSlots a s → is_live_list s.lists l ≡ true → InOrder a.payloads (slots_on a 0 l) → s.order.in_time ≡ true → IsRising a.payloads (slots_on a 0 l)
 list_rises a s l arena group live order in_time = record {
   rising = λ i x y at on.
       by x y (order_from a.payloads (slots_on a 0 l) i x y order at on) (has_at (slots_on a 0 l) i x at) (has_drop (slots_on a 0 l) i y on) (slice_get a.payloads x) (slice_get a.payloads y) refl refl;
@@ -64,7 +64,7 @@ list_rises a s l arena group live order in_time = record {
         group.times.rising in_time x y t u (here x t on_x e) (here y u on_y f) (omega (arith, le, ap serial_in e, ap serial_in f))
 
 -- the queue of a group
-pub queue_rises : (a : Slots) (s : GroupSlots) → IsArena a 0 → IsGroupSlots a s → s.in_time ≡ true → IsRising a.payloads (slots_on a 0 s.lists.queued)
+pub queue_rises : (a : Slots) (s : GroupSlots) → IsArena a 0 → IsGroupSlots a s → s.order.in_time ≡ true → IsRising a.payloads (slots_on a 0 s.lists.queued)
 queue_rises a s arena group in_time = list_rises a s s.lists.queued arena group (live_for s.lists ticket.Queued) group.arranged.order in_time
 
 both_first : (c d : Bool) → (c && d) ≡ true → c ≡ true
@@ -76,10 +76,10 @@ both_second true d e = e
 both_second false d e = absurd cc
 
 -- and the running tickets, where they are in turn
-pub running_rises : (a : Slots) (s : GroupSlots) (rising : Bool) → IsArena a 0 → IsGroupSlots a s → rising ≡ (s.in_time && s.in_turn) → rising ≡ true → IsRising a.payloads (slots_on a 0 s.lists.running)
+pub running_rises : (a : Slots) (s : GroupSlots) (rising : Bool) → IsArena a 0 → IsGroupSlots a s → rising ≡ (s.order.in_time && s.order.in_turn) → rising ≡ true → IsRising a.payloads (slots_on a 0 s.lists.running)
 running_rises a s rising arena group is on =
-    let both : (s.in_time && s.in_turn) ≡ true = sym is ∙ on in
-    list_rises a s s.lists.running arena group (live_for s.lists ticket.Running) (group.turns.order (both_second s.in_time s.in_turn both)) (both_first s.in_time s.in_turn both)
+    let both : (s.order.in_time && s.order.in_turn) ≡ true = sym is ∙ on in
+    list_rises a s s.lists.running arena group (live_for s.lists ticket.Running) (group.turns.order (both_second s.order.in_time s.order.in_turn both)) (both_first s.order.in_time s.order.in_turn both)
 
 -- ---- what is due
 

@@ -16,7 +16,7 @@ use Rattle.bh_tickets.specs.GroupSlots.{IsArranged, IsGroupSlots, IsUncached, co
 use Rattle.bh_tickets.specs.Counts.{busy_of, in_fallback_of, is_open, open_since, queued_of}
 use Rattle.bh_tickets.proofs.InTime.{times_kept}
 use Rattle.bh_tickets.proofs.InTurn.{turns_kept}
-use Rattle.bh_tickets.proofs.Puts.{held_at, within_slots}
+use Rattle.bh_tickets.proofs.Puts.{held_at}
 use Rattle.bh_tickets.proofs.Others.{own_for}
 use Rattle.bh_cache.proofs.Walks.{on_queued, on_running}
 use Rattle.bh_base.specs.declared.ticket.TicketState.TheVariants as ticket
@@ -157,8 +157,8 @@ module _ (a b : Slots) (s : GroupSlots) (context n : ℕ) (arena : IsArena a 0) 
             same_by (λ (u : Ticket). u.submitted) h.0 t h.2 refl,
             group.since x h.0 h.1 (same_by is_open h.0 t h.2 refl ∙ opens),
           );
-      times = times_kept a b s.lists s.latest s.in_time (λ x t p. let h = before x t p in record { slot = x; was = h.0; here = h.1; serial = same_by (λ (u : Ticket). u.serial) h.0 t h.2 refl; submitted = same_by (λ (u : Ticket). u.submitted) h.0 t h.2 refl }) group.times;
-      turns = turns_kept a b s.lists s.last_started s.in_turn
+      times = times_kept a b s.lists s.order.latest s.order.in_time (λ x t p. let h = before x t p in record { slot = x; was = h.0; here = h.1; serial = same_by (λ (u : Ticket). u.serial) h.0 t h.2 refl; submitted = same_by (λ (u : Ticket). u.submitted) h.0 t h.2 refl }) group.times;
+      turns = turns_kept a b s.lists s.order.last_started s.order.in_turn
           (λ y i.
           let was : is_on a 0 s.lists.running y ≡ true = sym (on_same s.lists.running y) ∙ i in
           (was, ap serial_in (payload_at y (on_running a s.lists y was)) ∙ serial_of (slice_get a.payloads y)))

@@ -24,6 +24,11 @@ use Rattle.bh_tickets.proofs.Others.{frame_same, group_same, slots_same}
 use Rattle.bh_tickets.proofs.Changed.{serial_kept}
 use Rattle.bh_tickets.proofs.Puts.{owned_if, within_slots, held_at}
 use Rattle.bh_tickets.proofs.Adds.{any_is, live_within}
+use Rattle.bh_tickets.specs.declared.names.NameLists.{NameLists}
+use Rattle.bh_tickets.specs.Names.{AreLeft}
+use Rattle.bh_tickets.specs.Same.{KeepsOwn}
+use Rattle.bh_tickets.proofs.Chained.{names_apart}
+use Rattle.bh_tickets.proofs.NamesLeft.{HadLists, apart_lists, left_same, lists_of}
 
 -- a group's part is at the number where it was set
 pub set_same : (ss : List GroupSlots) (i : ℕ) (x : GroupSlots) → i < length ss → slice_get (set ss i x) i ≡ Some x
@@ -119,7 +124,7 @@ module _ (a b : Slots) (ss : List GroupSlots) (i : ℕ) (s r : GroupSlots) (whol
 -- ---- the groups beside the spare slots
 
 -- the groups are as they should be
-pub groups_in : {a : Slots} {spare : Option GroupSlots} {ss : List GroupSlots} → IsWhole a spare ss → AreGroupSlots a ss
+pub groups_in : {a : Slots} {spare : Option GroupSlots} {ss : List GroupSlots} {ns : List NameLists} → IsWhole a spare ss ns → AreGroupSlots a ss
 groups_in {spare = None} whole = whole.all
 groups_in {spare = Some p} whole = record {
   arena = whole.all.arena;
@@ -127,18 +132,35 @@ groups_in {spare = Some p} whole = record {
   apart = λ i j s r e f ne. whole.all.apart (suc i) (suc j) s r e f (λ q. ne (let k : i ≡ j = omega (arith, q) in k));
 }
 
+-- once one group has changed, chains that no group has are those of none still
+left_kept : (a b : Slots) (qs : List GroupSlots) (ns : List NameLists) (i : ℕ) (s r : GroupSlots) → AreLeft a qs ns → slice_get qs i ≡ Some s → IsGroupChange a s b r → AreLeft b (set qs i r) ns
+left_kept a b qs ns i s r left is change = left_same a b qs (set qs i r) ns left keeps had
+  where
+    keeps : (j : ℕ) (n : NameLists) → slice_get ns j ≡ Some n → KeepsOwn 2 n.names n.uncached a b
+    keeps j n e = names_apart s.lists (lists_of n) a b change.chains (apart_lists s.lists n (left.beside j i n s e is))
+
+    had : (j : ℕ) (k : GroupSlots) → slice_get (set qs i r) j ≡ Some k → HadLists qs k
+    had j k e = elim (cases_eq j i) [
+      | inl q ↦
+          let f : Some k ≡ Some r = sym (ap (slice_get (set qs i r)) (sym q) ∙ e) ∙ set_same qs i r (get_lt qs i s is) in
+          let kr : k ≡ r = cc in
+          record { number = i; was = s; there = is; lists = ap (λ (z : GroupSlots). z.lists) kr ∙ change.lists }
+      | inr ne ↦ record { number = j; was = k; there = sym (set_other qs i j r ne) ∙ e; lists = refl }
+    ]
+
 -- once one group has changed, the spare slots and all groups are as they should be again
-pub kept : (a b : Slots) (spare : Option GroupSlots) (ss : List GroupSlots) (i : ℕ) (s r : GroupSlots) → IsWhole a spare ss → slice_get ss i ≡ Some s → IsGroupChange a s b r → IsWhole b spare (set ss i r)
-kept a b None ss i s r whole is change = absurd (no_group ss i s (whole.first refl) is)
+pub kept : (a b : Slots) (spare : Option GroupSlots) (ss : List GroupSlots) (ns : List NameLists) (i : ℕ) (s r : GroupSlots) → IsWhole a spare ss ns → slice_get ss i ≡ Some s → IsGroupChange a s b r → IsWhole b spare (set ss i r) ns
+kept a b None ss ns i s r whole is change = absurd (no_group ss i s (whole.first refl) is)
   where
     no_group : (ss : List GroupSlots) (i : ℕ) (s : GroupSlots) → ss ≡ [] → slice_get ss i ≡ Some s → ⊥
     no_group [] i s none e = cc
     no_group (y ∷ ys) i s none e = cc
-kept a b (Some p) ss i s r whole is change = record {
+kept a b (Some p) ss ns i s r whole is change = record {
   all = whole_kept a b (p ∷ ss) (suc i) s r whole.all is change;
   slots = change.frame.slots ∙ whole.slots ∙ sym (rooms_set (p ∷ ss) (suc i) s r is change.room);
   free = whole.free;
   first = λ e. absurd (some_there e);
+  names = left_kept a b (p ∷ ss) ns (suc i) s r whole.names is change;
 }
   where
     some_there : Some p ≡ None → ⊥

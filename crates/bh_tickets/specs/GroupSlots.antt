@@ -11,6 +11,7 @@ use Rattle.bh_tickets.specs.Counts.{AreCounts, all_less, all_more, all_since, co
 use Rattle.std.specs.Option.{option_map}
 use Rattle.bh_cache.specs.declared.lists.GroupLists.{GroupLists}
 use Rattle.bh_tickets.specs.declared.group_slots.GroupSlots.{GroupSlots}
+use Rattle.bh_tickets.specs.declared.order.TicketOrder.{TicketOrder}
 use Rattle.bh_base.specs.Tickets.{is_cached_in}
 use Rattle.bh_cache.specs.Cache.{uncached_in}
 use Rattle.bh_cache.specs.Chains.{IsChainFrame}
@@ -48,9 +49,13 @@ any_at q payloads slots = list_any (λ x. has_one q (slice_get payloads x)) slot
 abbrev pub may_be_due : DueRule → GroupSlots → Bool
 may_be_due due s = nat_lt due.command 16 && due.timeout_on && nat_le due.timeout_ms (due.moment - open_since s.commands due.command)
 
+-- what is known of the order of no tickets
+abbrev pub no_order : TicketOrder
+no_order = record { latest = 0; in_time = true; last_started = 0; in_turn = true }
+
 -- so many slots, none of which has a ticket
 abbrev pub no_slot_taken : GroupLists → ℕ → GroupSlots
-no_slot_taken lists slots = record { lists = lists; slots = record { max = slots; taken = 0 }; next = 1; queued = 0; commands = replicate 16 no_counts; needless = nothing; latest = 0; in_time = true; last_started = 0; in_turn = true }
+no_slot_taken lists slots = record { lists = lists; slots = record { max = slots; taken = 0 }; next = 1; queued = 0; commands = replicate 16 no_counts; needless = nothing; order = no_order }
 
 -- no ticket of the group was submitted after the latest moment, and where they are in time, none before one of an earlier serial
 pub record AreInTime (a : Slots) (g : GroupLists) (latest : ℕ) (in_time : Bool) : Type 0 where
@@ -86,8 +91,8 @@ pub record IsGroupSlots (a : Slots) (s : GroupSlots) : Type 0 where
   pub known : (x : ℕ) (t : Ticket) → ticket_at a s.lists x ≡ Some t → t.command < 16
   -- no ticket of a command waits or runs that was submitted before its counts tell
   pub since : (x : ℕ) (t : Ticket) → ticket_at a s.lists x ≡ Some t → is_open t ≡ true → open_since s.commands t.command ≤ t.submitted
-  pub times : AreInTime a s.lists s.latest s.in_time
-  pub turns : AreInTurn a s.lists s.last_started s.in_turn
+  pub times : AreInTime a s.lists s.order.latest s.order.in_time
+  pub turns : AreInTurn a s.lists s.order.last_started s.order.in_turn
   -- the slot of a ticket that nobody needs was noted
   pub needed : (x : ℕ) (t : Ticket) → ticket_at a s.lists x ≡ Some t → is_kept t ≡ false → is_noted s.needless x ≡ true
 
@@ -110,11 +115,11 @@ counted_in t s = record s { queued = s.queued + one (is_queued t); commands = al
 
 -- a group to which the ticket was submitted, of the next serial
 abbrev pub with_submit : Ticket → GroupSlots → GroupSlots
-with_submit v s = record s { latest = max s.latest v.submitted; in_time = s.in_time && nat_le s.latest v.submitted }
+with_submit v s = record s { order = record s.order { latest = max s.order.latest v.submitted; in_time = s.order.in_time && nat_le s.order.latest v.submitted } }
 
 -- a group in which a ticket of the serial begins to run, after others or alone
 abbrev pub with_start : ℕ → Bool → GroupSlots → GroupSlots
-with_start serial alone s = record s { last_started = if alone then serial else max s.last_started serial; in_turn = alone || (s.in_turn && nat_lt s.last_started serial) }
+with_start serial alone s = record s { order = record s.order { last_started = if alone then serial else max s.order.last_started serial; in_turn = alone || (s.order.in_turn && nat_lt s.order.last_started serial) } }
 
 -- a group of whose command tickets may be queued or running since then
 abbrev pub with_since : ℕ → ℕ → GroupSlots → GroupSlots

@@ -1,5 +1,5 @@
 -- How the arena grows by a group.
-use Rattle.std.specs.Prelude.{◌≡◌, ℕ, ◌+◌, ◌<◌, ◌≤◌, [], ◌∷◌, ◌++◌, length, replicate}
+use Rattle.std.specs.Prelude.{◌≡◌, ℕ, ◌+◌, ◌<◌, ◌≤◌, [], ◌∷◌, ◌++◌, length, nat_lt, replicate, if◌then◌else◌}
 use Rattle.bh_base.specs.declared.ticket.Ticket.{Ticket}
 use Rattle.bh_slot_arena.specs.Slots.{lists_in, with_new_slots}
 use Rattle.bh_cache.specs.declared.lists.GroupLists.{GroupLists}
@@ -18,6 +18,10 @@ lists_from chains n m k = record {
   uncached = k + chains;
   free2 = k + chains;
 }
+
+-- how many chains by cache name a group with so many slots has
+abbrev pub chains_for : ℕ → ℕ
+chains_for slots = if nat_lt slots 256 then 16 else (if nat_lt slots 1024 then 64 else (if nat_lt slots 4096 then 256 else 1024))
 
 -- so many empty lists more in each family, and all else is as before
 pub record HasNewLists (n m k : ℕ) (a b : Slots) : Type 0 where

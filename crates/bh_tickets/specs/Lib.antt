@@ -2,6 +2,7 @@ pub mod TicketsView
 pub mod Changes
 pub mod Counts
 pub mod GroupSlots
+pub mod Names
 pub mod Whole
 pub mod Sweeps
 pub mod Growth

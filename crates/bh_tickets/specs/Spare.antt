@@ -5,7 +5,9 @@ use Rattle.bh_cache.specs.declared.lists.GroupLists.{GroupLists}
 use Rattle.bh_chains.specs.Chains.{HasChains}
 use Rattle.bh_cache.specs.Slots.{Slots, is_live, is_on, IsApart}
 use Rattle.bh_tickets.specs.declared.group_slots.GroupSlots.{GroupSlots}
+use Rattle.bh_tickets.specs.declared.names.NameLists.{NameLists}
 use Rattle.bh_tickets.specs.GroupSlots.{IsNumbered}
+use Rattle.bh_tickets.specs.Names.{HasNames}
 use Rattle.bh_tickets.specs.Same.{IsSame}
 use Rattle.bh_tickets.specs.TicketsView.{group_at}
 use Rattle.bh_tickets.specs.Whole.{IsWhole, groups_of, rooms, view_of}
@@ -72,13 +74,14 @@ pub record IsGathered (family first count to : ℕ) (a b : Slots) : Type 0 where
 
 -- whatever the groups are, they and the spare slots are as they should be still, and contracts see of the groups what they saw
 pub record KeepsGroups (a : Slots) (spare : Option GroupSlots) (b : Slots) (rest : Option GroupSlots) : Type 0 where
-  pub whole : (ss : List GroupSlots) → IsWhole a spare ss → IsWhole b rest ss
-  pub view : (ss : List GroupSlots) → IsWhole a spare ss → view_of b ss ≡ view_of a ss
+  pub whole : (ss : List GroupSlots) (ns : List NameLists) → IsWhole a spare ss ns → IsWhole b rest ss ns
+  pub view : (ss : List GroupSlots) (ns : List NameLists) → IsWhole a spare ss ns → view_of b ss ≡ view_of a ss
 
 -- there are groups, and so many slots more are within the limit where no spare slot counts
 pub record HasRoomBeside (slots : ℕ) (a : Slots) (spare : Option GroupSlots) : Type 0 where
   pub groups : List GroupSlots
-  pub whole : IsWhole a spare groups
+  pub names : List NameLists
+  pub whole : IsWhole a spare groups names
   pub within : rooms groups + slots ≤ a.limit
 
 -- the spare slots lie on the lists, and are so many at least
@@ -94,22 +97,30 @@ pub record IsLeft (place : ℕ) (ss : List GroupSlots) : Type 0 where
   pub here : slice_get ss place ≡ Some entry
   pub empty : entry.slots.max ≡ 0
 
--- a group without slots is at the place, which no group had; all else is as it was
-pub record IsPlaced (place : ℕ) (a : Slots) (p : GroupSlots) (ss : List GroupSlots) (b : Slots) (rs : List GroupSlots) : Type 0 where
+-- a group without slots is at the place, which no group had, with so many chains by cache name; all else is as it was
+pub record IsPlaced (chains place : ℕ) (a : Slots) (p : GroupSlots) (ss : List GroupSlots) (b : Slots) (rs : List GroupSlots) (ms : List NameLists) : Type 0 where
   pub entry : GroupSlots
   pub here : slice_get rs place ≡ Some entry
   pub empty : entry.slots.max ≡ 0
-  pub whole : IsWhole b (Some p) rs
+  pub many : entry.lists.uncached ≡ entry.lists.names + chains
+  pub whole : IsWhole b (Some p) rs ms
   pub vacant : (group_at (view_of a ss) place).room ≡ 0
   pub others : (g : ℕ) → g ≢ place → slice_get (groups_of b rs) g ≡ slice_get (groups_of a ss) g
   pub room : rooms rs ≡ rooms ss
   pub limit : b.limit ≡ a.limit
 
 -- whatever the spare slots are, the place is got
-pub record GetsPlace (place : ℕ) (a : Slots) (ss : List GroupSlots) (b : Slots) (rs : List GroupSlots) : Type 0 where
-  pub gets : (p : GroupSlots) → IsWhole a (Some p) ss → IsPlaced place a p ss b rs
+pub record GetsPlace (chains place : ℕ) (a : Slots) (ss : List GroupSlots) (ns : List NameLists) (b : Slots) (rs : List GroupSlots) (ms : List NameLists) : Type 0 where
+  pub gets : (p : GroupSlots) → IsWhole a (Some p) ss ns → IsPlaced chains place a p ss b rs ms
 
 -- whatever the spare slots are, the groups are as they should be still, and contracts see of them what they saw
-pub record StaysWhole (a : Slots) (ss : List GroupSlots) (b : Slots) (rs : List GroupSlots) : Type 0 where
-  pub whole : (p : GroupSlots) → IsWhole a (Some p) ss → IsWhole b (Some p) rs
-  pub view : (p : GroupSlots) → IsWhole a (Some p) ss → view_of b rs ≡ view_of a ss
+pub record StaysWhole (a : Slots) (ss : List GroupSlots) (ns : List NameLists) (b : Slots) (rs : List GroupSlots) (ms : List NameLists) : Type 0 where
+  pub whole : (p : GroupSlots) → IsWhole a (Some p) ss ns → IsWhole b (Some p) rs ms
+  pub view : (p : GroupSlots) → IsWhole a (Some p) ss ns → view_of b rs ≡ view_of a ss
+
+-- whatever the spare slots and the groups are, so many chains by cache name are there that no group has, and contracts see of
+-- the groups what they saw
+pub record GetsNames (chains number : ℕ) (a : Slots) (ns : List NameLists) (b : Slots) (ms : List NameLists) : Type 0 where
+  pub there : HasNames chains number ms
+  pub whole : (p : GroupSlots) (ss : List GroupSlots) → IsWhole a (Some p) ss ns → IsWhole b (Some p) ss ms
+  pub view : (p : GroupSlots) (ss : List GroupSlots) → IsWhole a (Some p) ss ns → view_of b ss ≡ view_of a ss

@@ -5,6 +5,8 @@ use Rattle.bh_base.specs.Tickets.{changed_first}
 use Rattle.bh_tickets.specs.declared.group_slots.GroupSlots.{GroupSlots}
 use Rattle.bh_cache.specs.Slots.{Slots, ticket_at, tickets_of, IsArena, IsApart}
 use Rattle.bh_tickets.specs.GroupSlots.{IsGroupSlots, no_slot_taken}
+use Rattle.bh_tickets.specs.declared.names.NameLists.{NameLists}
+use Rattle.bh_tickets.specs.Names.{AreLeft}
 use Rattle.bh_tickets.specs.declared.changes.TicketChange.{TicketChange}
 use Rattle.bh_tickets.specs.Changes.{IsAllowed, changed_by}
 use Rattle.bh_tickets.specs.TicketsView.{TicketsView, GroupTickets, ChangesOnly, group_at, in_slot, IsFirstAt}
@@ -44,12 +46,14 @@ abbrev pub with_spare : Option GroupSlots → List GroupSlots → List GroupSlot
 with_spare None ss = ss
 with_spare (Some p) ss = p ∷ ss
 
--- the spare slots and those of all groups: none of the spare ones has a ticket, and all are there once there is a group
-pub record IsWhole (a : Slots) (spare : Option GroupSlots) (ss : List GroupSlots) : Type 0 where
+-- the spare slots and those of all groups: none of the spare ones has a ticket, and all are there once there is a group;
+-- and the chains by cache name that no group has
+pub record IsWhole (a : Slots) (spare : Option GroupSlots) (ss : List GroupSlots) (ns : List NameLists) : Type 0 where
   pub all : AreGroupSlots a (with_spare spare ss)
   pub slots : length a.payloads ≡ rooms (with_spare spare ss)
   pub free : (p : GroupSlots) → spare ≡ Some p → p ≡ no_slot_taken p.lists p.slots.max
   pub first : spare ≡ None → ss ≡ []
+  pub names : AreLeft a (with_spare spare ss) ns
 
 -- the slot has a ticket to which that may happen
 pub record CanChange (g : GroupTickets) (slot : ℕ) (change : TicketChange) : Type 0 where

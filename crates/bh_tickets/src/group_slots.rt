@@ -1,6 +1,6 @@
 //! What a group keeps of its tickets beside their slots, and the changes of one slot.
 
-ghost use Rattle.std.specs.Prelude.{◌≡◌, ◌&&◌, ◌≢◌, ◌+◌, ◌-◌, ◌<◌, ◌≤◌, ◌^◌, Some, true, length, is_some};
+ghost use Rattle.std.specs.Prelude.{◌≡◌, ◌≢◌, ◌+◌, ◌-◌, ◌<◌, ◌≤◌, ◌^◌, Some, true, length, is_some};
 ghost use Rattle.bh_base.specs.declared.ticket.Ticket.{Ticket};
 ghost use Rattle.bh_base.specs.Tickets.{is_queued, is_kept};
 ghost use Rattle.bh_slot_arena.specs.Slots.{lists_in, with_moved};
@@ -11,9 +11,10 @@ ghost use Rattle.bh_tickets.specs.Counts.{HasRoomFor, IsCounted, counts_of};
 
 use crate::changes::{TicketChange, apply};
 use crate::counts::{CommandCounts, one};
+use crate::order::TicketOrder;
 use crate::states::{DueRule, is_due, is_kept, is_queued};
 use bh_admit::Permits;
-use bh_base::{Moment, Serial, Ticket, TicketState};
+use bh_base::{Serial, Ticket, TicketState};
 use bh_cache::GroupLists;
 use bh_chains::{Noted, drop_context, nothing, place_gone, place_new, with_slot};
 use bh_slot_arena::Arena;
@@ -32,14 +33,8 @@ pub struct GroupSlots {
     pub commands: [CommandCounts; 16],
     /// The slots of the tickets that may be needed no more; others may be among them.
     pub needless: Noted,
-    /// No ticket was submitted later.
-    pub latest: Moment,
-    /// Surely no ticket was submitted before one of an earlier serial.
-    pub in_time: bool,
-    /// No running ticket has a greater serial.
-    pub last_started: Serial,
-    /// Surely the running tickets lie in the order of their serials.
-    pub in_turn: bool,
+    /// In which order the tickets were submitted and started.
+    pub order: TicketOrder,
 }
 
 impl GroupSlots {
@@ -54,18 +49,8 @@ impl GroupSlots {
             queued: 0,
             commands: [CommandCounts::new(); 16],
             needless: nothing(),
-            latest: 0,
-            in_time: true,
-            last_started: 0,
-            in_turn: true,
+            order: TicketOrder::new(),
         }
-    }
-
-    /// Whether the running tickets surely lie in the order of their submits.
-    pub fn running_rises(&self) -> bool
-        ensures { result ≡ (self.now.in_time && self.now.in_turn) }
-    {
-        self.in_time && self.in_turn
     }
 }
 
@@ -108,14 +93,15 @@ fn count_in(group: &mut GroupSlots, ticket: &Ticket)
 fn note_submit(group: &mut GroupSlots, ticket: &Ticket)
     ensures { group.new ≡ with_submit ticket.now group.old }
 {
-    group.in_time = group.in_time && group.latest <= ticket.submitted;
-    group.latest = group.latest.max(ticket.submitted);
+    let order = &mut group.order;
+    order.in_time = order.in_time && order.latest <= ticket.submitted;
+    order.latest = order.latest.max(ticket.submitted);
 }
 
 /// A ticket of the serial goes to the end of a list, where it lies on another: where it begins to run, it is noted whether
 /// the running tickets lie in turn. They do where it runs alone, or after tickets of smaller serials.
 fn note_move(group: &mut GroupSlots, serial: Serial, alone: bool, from: usize, to: usize)
-    ensures rest { group.new ≡ record group.old { last_started = group.new.last_started; in_turn = group.new.in_turn } }
+    ensures rest { group.new ≡ record group.old { order = record group.old.order { last_started = group.new.order.last_started; in_turn = group.new.order.in_turn } } }
     ensures stays { from ≡ to → group.new ≡ group.old }
     ensures other { to ≢ group.old.lists.running → group.new ≡ group.old }
     ensures starts { from ≢ to → to ≡ group.old.lists.running → group.new ≡ with_start serial alone group.old }
@@ -123,11 +109,12 @@ fn note_move(group: &mut GroupSlots, serial: Serial, alone: bool, from: usize, t
     if from == to || to != group.lists.running {
         return;
     }
-    group.in_turn = alone || group.in_turn && group.last_started < serial;
-    group.last_started = if alone {
+    let order = &mut group.order;
+    order.in_turn = alone || order.in_turn && order.last_started < serial;
+    order.last_started = if alone {
         serial
     } else {
-        group.last_started.max(serial)
+        order.last_started.max(serial)
     };
 }
 

@@ -3,7 +3,7 @@
 ghost use Rattle.std.specs.Prelude.{◌≡◌, ◌+◌, ◌<◌, ◌^◌, [], ◌∷◌, length, IfOk, OnErr, OnOk};
 ghost use Rattle.bh_base.specs.declared.ticket.Ticket.{Ticket};
 ghost use Rattle.bh_slot_arena.specs.Slots.{lists_in};
-ghost use Rattle.bh_tickets.specs.Growth.{HasMoreLists, HasNewLists, IsGrown, IsReadyFor, lists_from};
+ghost use Rattle.bh_tickets.specs.Growth.{HasMoreLists, HasNewLists, IsGrown, IsReadyFor, chains_for, lists_from};
 
 use bh_base::{Text, Ticket, TicketState};
 use bh_cache::GroupLists;
@@ -18,8 +18,9 @@ pub fn new_arena(alloc: Global, limit: u32) -> Arena<Ticket, 3>
 }
 
 /// How many chains by cache name a group with so many slots has: from 256 slots on a quarter of the slots, or down to a
-/// sixteenth, in one of three sizes, so that the places of retired groups fit others.
+/// sixteenth, in one of three sizes, so that the chains of retired groups fit others.
 pub fn chains_for(slots: u64) -> usize
+    ensures is { result ≡ chains_for slots }
     ensures some { 0 < result }
     ensures few { result < 2 ^ 63 }
 {

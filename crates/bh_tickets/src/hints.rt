@@ -1,7 +1,7 @@
 //! Guesses at the slots of tickets, by their serials.
 
 use bh_base::Serial;
-use std::alloc::{AllocError, Global};
+use std::alloc::Global;
 
 /// An odd multiplier near 2^64 divided by the golden ratio, which brings neighbours far apart (Knuth).
 const PLACE_SPREAD: u64 = 11400714819323198485;
@@ -38,30 +38,23 @@ impl SerialHints {
         }
     }
 
-    /// Takes the memory for the tickets of so many slots: two entries for each, so that few tickets share one. No guess
-    /// is lost.
-    pub fn grow(&mut self, slots: u32) -> Result<(), AllocError> {
-        let wanted = 2 * slots as usize;
-        for _ in 0..usize::BITS {
-            if wanted <= self.slots.len() {
-                return Ok(());
-            }
-            self.double()?;
-        }
-        Ok(())
-    }
-
-    /// Twice as many entries. A ticket whose entry moves finds the guess that there was in its new entry too.
-    fn double(&mut self) -> Result<(), AllocError> {
+    /// Takes the memory for the tickets of so many slots, by one request: two entries for each, so that few tickets share
+    /// one. No guess is lost: a ticket whose entry moves finds the guess that there was in its new entry too. Where the
+    /// memory is refused, all stays as it is, as guesses are needed for no answer.
+    pub fn grow(&mut self, slots: u32) {
+        let wanted = (2 * slots as usize).next_power_of_two();
         let count = self.slots.len();
-        self.slots.reserve(count.max(1))?;
-        if count == 0 {
-            self.slots.push_reserved(0);
+        if wanted <= count {
+            return;
         }
-        for entry in 0..count {
-            self.slots.push_reserved(self.slots[entry]);
+        let missing = wanted - count;
+        if self.slots.reserve(missing).is_err() {
+            return;
         }
-        Ok(())
+        for entry in 0..missing {
+            let guess = self.slots.get(entry).copied().unwrap_or(0);
+            self.slots.push_reserved(guess);
+        }
     }
 
     /// The number of the entry for a ticket, which is there once any is. Successive serials have successive entries.

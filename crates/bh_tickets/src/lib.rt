@@ -7,6 +7,8 @@ mod counts;
 mod group_slots;
 mod growth;
 mod hints;
+mod names;
+mod order;
 mod spare;
 mod states;
 mod sweeps;

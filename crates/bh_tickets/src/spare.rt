@@ -1,14 +1,17 @@
 //! The slots of retired groups, and how groups take them.
 
-ghost use Rattle.std.specs.Prelude.{◌≡◌, ◌≢◌, ◌+◌, ◌<◌, ◌≤◌, ◌^◌, length, true, IfOk, IfSome, OnErr, Some};
+ghost use Rattle.std.specs.Prelude.{◌≡◌, ◌≢◌, ◌+◌, ◌<◌, ◌≤◌, ◌^◌, List, length, true, IfOk, IfSome, OnErr, Some};
 ghost use Rattle.bh_base.specs.declared.ticket.Ticket.{Ticket};
 ghost use Rattle.bh_slot_arena.specs.Slots.{lists_in};
 ghost use Rattle.bh_cache.specs.Slots.{IsApart};
+ghost use Rattle.bh_tickets.specs.declared.names.NameLists.{NameLists};
 ghost use Rattle.bh_tickets.specs.GroupSlots.{IsGroupSlots, no_slot_taken};
+ghost use Rattle.bh_tickets.specs.Growth.{chains_for};
 ghost use Rattle.bh_tickets.specs.Spare.{AreSpare, GetsPlace, HasRoomBeside, IsGathered, IsGiven, IsLeft, IsTaken, IsVacant, KeepsGroups, StaysWhole, free_slots};
 
 use crate::group_slots::GroupSlots;
 use crate::growth::{add_lists, add_slots, blank_ticket, chains_for};
+use crate::names::{NameLists, exchange, ready_names};
 use bh_base::Ticket;
 use bh_cache::GroupLists;
 use bh_chains::place_free;
@@ -63,20 +66,59 @@ fn spare_lists(
     Ok(lists)
 }
 
-/// A place for a group, with lists for so many slots and no slot: one that a retired group with as many lists left, else a
-/// new one behind the others. Refused, the arena may have some empty lists more.
+/// A place for a group, with lists for so many slots and no slot: one that a retired group left, else a new one behind the
+/// others. Refused, the arena may have some empty lists more.
 pub fn take_place(
     arena: &mut Arena<Ticket, 3>,
     groups: &mut Vec<GroupSlots>,
+    names: &mut Vec<NameLists>,
     slots: u64,
 ) -> Result<usize, AllocError>
-    ensures ok { IfOk result (λ place. GetsPlace place arena.old groups.old.items arena.new groups.new.items) }
-    ensures err { OnErr result (StaysWhole arena.old groups.old.items arena.new groups.new.items) }
+    ensures ok { IfOk result (λ place. GetsPlace (chains_for slots) place arena.old groups.old.items names.old.items arena.new groups.new.items names.new.items) }
+    ensures err { OnErr result (StaysWhole arena.old groups.old.items names.old.items arena.new groups.new.items names.new.items) }
 {
     let chains = chains_for(slots);
-    if let Some(place) = left_place(groups, chains) {
+    match left_place(groups) {
+        Some(place) => fit_place(arena, groups, names, place, chains),
+        None => new_place(arena, groups, chains),
+    }
+}
+
+/// The place that a retired group left, with so many chains by cache name: where its own are not, they are left to others,
+/// so that no group pays at its end for the many chains of one before it. Refused, nothing has changed.
+fn fit_place(
+    arena: &mut Arena<Ticket, 3>,
+    groups: &mut Vec<GroupSlots>,
+    names: &mut Vec<NameLists>,
+    place: usize,
+    chains: usize,
+) -> Result<usize, AllocError>
+    requires left { IsLeft place groups.old.items }
+    requires some { 0 < chains }
+    requires few { chains < 2 ^ 63 }
+    ensures ok { IfOk result (λ place. GetsPlace chains place arena.old groups.old.items names.old.items arena.new groups.new.items names.new.items) }
+    ensures err { OnErr result (StaysWhole arena.old groups.old.items names.old.items arena.new groups.new.items names.new.items) }
+{
+    let lists = groups[place].lists;
+    if lists.uncached.saturating_sub(lists.names) == chains {
         return Ok(place);
     }
+    let number = ready_names(arena, names, chains)?;
+    exchange(groups, names, place, number);
+    Ok(place)
+}
+
+/// A new place behind the others, with so many chains by cache name. Refused, the arena may have some empty lists more.
+fn new_place(
+    arena: &mut Arena<Ticket, 3>,
+    groups: &mut Vec<GroupSlots>,
+    chains: usize,
+) -> Result<usize, AllocError>
+    requires some { 0 < chains }
+    requires few { chains < 2 ^ 63 }
+    ensures ok { IfOk result (λ place. (ns : List NameLists) → GetsPlace chains place arena.old groups.old.items ns arena.new groups.new.items ns) }
+    ensures err { OnErr result ((ns : List NameLists) → StaysWhole arena.old groups.old.items ns arena.new groups.new.items ns) }
+{
     groups.reserve(1)?;
     let lists = add_lists(arena, chains)?;
     let place = groups.len();
@@ -84,14 +126,12 @@ pub fn take_place(
     Ok(place)
 }
 
-/// A place whose group has no slot, and so many chains by cache name: a group that needs few is not to pay for the many
-/// of one before it, nor to take them from the next one that needs them.
-fn left_place(groups: &[GroupSlots], chains: usize) -> Option<usize>
+/// A place whose group has no slot.
+fn left_place(groups: &[GroupSlots]) -> Option<usize>
     ensures { IfSome result (λ place. IsLeft place groups.now) }
 {
     for (place, group) in groups.iter().enumerate() {
-        let lists = group.lists;
-        if lists.names.saturating_add(chains) == lists.uncached && has_no_slots(group) {
+        if has_no_slots(group) {
             return Some(place);
         }
     }

@@ -88,10 +88,5 @@ pub fn is_young(ticket: &Ticket, due: &DueRule) -> bool
 pub fn is_due(ticket: &Ticket, due: &DueRule) -> bool
     ensures { result ≡ is_due_by due.now ticket.now }
 {
-    let open = matches!(ticket.state, TicketState::Queued)
-        || matches!(ticket.state, TicketState::Running);
-    ticket.command == due.command
-        && due.timeout_on
-        && open
-        && due.moment.saturating_sub(ticket.submitted) >= due.timeout_ms
+    ticket.command == due.command && due.timeout_on && is_open(ticket) && !is_young(ticket, due)
 }

@@ -38,9 +38,9 @@ fn time_out_open(arena: &mut Arena<Ticket, 3>, group: &mut GroupSlots, due: &Due
     arena.partition(0);
     let lists = group.lists;
     let mut since = u64::MAX;
-    let rising = group.in_time;
+    let rising = group.order.in_time;
     let queued = time_out_on(arena, group, lists.queued, rising, due, &mut since);
-    let rising = group.running_rises();
+    let rising = group.order.running_rises();
     let running = time_out_on(arena, group, lists.running, rising, due, &mut since);
     set_open_since(group, due.command, since);
     queued + running
@@ -125,8 +125,8 @@ fn release_all(arena: &mut Arena<Ticket, 3>, group: &mut GroupSlots)
 }
 
 /// The tickets of a list have timed out, where they are due. How many did. Those of the rule's command that are not due
-/// were not submitted before `since`. Where the tickets lie in the order of their submits, the walk ends at the first of
-/// the command that was submitted too late.
+/// were not submitted before `since`. Where the tickets lie in the order of their submits, the walk ends at the first that
+/// was submitted too late, of whatever command.
 fn time_out_on(
     arena: &mut Arena<Ticket, 3>,
     group: &mut GroupSlots,
@@ -151,7 +151,7 @@ fn time_out_on(
             return number;
         };
         let ticket = arena.get(slot);
-        if rising && ticket.command == due.command && is_young(ticket, due) {
+        if rising && is_young(ticket, due) {
             *since = (*since).min(ticket.submitted);
             return number;
         }

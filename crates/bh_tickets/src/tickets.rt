@@ -15,6 +15,7 @@ use crate::changes::TicketChange;
 use crate::group_slots::{self, GroupSlots, add, drop_cached, may_be_due};
 use crate::growth::new_arena;
 use crate::hints::SerialHints;
+use crate::names::NameLists;
 use crate::spare::{give_slots, ready_spare, take_place, take_slots, vacant};
 use crate::states::{DueRule, is_due, is_held, is_in_fallback};
 use crate::sweeps::{release, time_out};
@@ -32,6 +33,8 @@ pub struct Tickets {
     /// The slots of retired groups, as those of a group without tickets.
     spare: Option<GroupSlots>,
     groups: Vec<GroupSlots>,
+    /// Chains by cache name that retired groups left, and that no group has.
+    names: Vec<NameLists>,
     /// Where a ticket is looked for first. What they tell changes no answer.
     hints: SerialHints,
 }
@@ -44,7 +47,7 @@ impl Model for Tickets {
 
     ghost view = { λ ts. view_of ts.arena ts.groups.items };
 
-    ghost invariant = { λ ts. IsWhole ts.arena ts.spare ts.groups.items };
+    ghost invariant = { λ ts. IsWhole ts.arena ts.spare ts.groups.items ts.names.items };
 }
 
 impl Tickets {
@@ -56,6 +59,7 @@ impl Tickets {
             arena: new_arena(alloc, limit),
             spare: None,
             groups: Vec::new(alloc),
+            names: Vec::new(alloc),
             hints: SerialHints::new(alloc),
         }
     }
@@ -83,13 +87,13 @@ impl Tickets {
         ensures err { OnErr result (self.new ≡ self.old) }
     {
         let from = ready_spare(&mut self.arena, &mut self.spare, slots)?;
-        self.hints.grow(self.arena.slot_count())?;
-        let place = take_place(&mut self.arena, &mut self.groups, slots)?;
+        let place = take_place(&mut self.arena, &mut self.groups, &mut self.names, slots)?;
         let to = self.groups[place].lists;
         take_slots(&mut self.arena, &from, &to, slots);
         self.arena.partition(0);
         self.spare = Some(vacant(&self.arena, &from));
         self.groups[place] = vacant(&self.arena, &to);
+        self.hints.grow(self.arena.slot_count());
         Ok(place)
     }
 
@@ -262,8 +266,13 @@ impl Tickets {
         if !may_be_due(entry, due) {
             return false;
         }
-        any_due_on(&self.arena, entry.lists.queued, entry.in_time, due)
-            || any_due_on(&self.arena, entry.lists.running, entry.running_rises(), due)
+        any_due_on(&self.arena, entry.lists.queued, entry.order.in_time, due)
+            || any_due_on(
+                &self.arena,
+                entry.lists.running,
+                entry.order.running_rises(),
+                due,
+            )
     }
 
     /// Whether a run of a ticket has not ended, or someone has still to collect an answer.

@@ -1,15 +1,10 @@
 //! `bulkhead`: a command service whose groups have slots, workers and a circuit of their own.
 #![tactic(auto)]
 
-pub mod check;
-pub mod file;
-mod report;
-pub mod run;
-pub mod serve;
 #[cfg(test)]
 mod tests;
 
-use crate::file::{FileError, read_file};
+use bh_commands::{FileError, check_file, read_file, report, run_file, serve_file};
 use bh_props::SettingsError;
 use bh_serve::Limits;
 use clap::error::ErrorKind;
@@ -23,6 +18,15 @@ use std::rt::Clock;
 use std::sync::Wait;
 use std::thread::Threads;
 use std::{env, io};
+
+/// The version of the program, and the line by which the toolchain that proved it names itself.
+const VERSION: &str = "1.0.0\nrattle-kit-13b logic dac8208d650f15bf";
+
+/// What `serve --help` says beneath the options.
+const WHO_IS_SERVED: &str =
+    "A client beyond N waits unanswered until another one leaves. Without --keep-serving and --forever nobody is served
+after the first N: who comes later, or waits still, is cut off when the last of them leaves.
+Any user of this machine may connect, call, close contexts and read metrics; nothing is authenticated.";
 
 /// The status where the arguments are refused.
 const BAD_ARGUMENTS: u8 = 2;
@@ -84,6 +88,7 @@ where
             found.get_str("FILE").unwrap_or(""),
             found.get_one::<u16>("port").unwrap_or(0),
             limits_in(found),
+            ends_with_input(found),
         )),
         _ => Ok(BAD_ARGUMENTS),
     }
@@ -93,15 +98,21 @@ where
 fn limits_in(found: &ArgMatches<'_>) -> Limits {
     Limits {
         connections: found.get_one::<u32>("connections").unwrap_or(1),
-        keep_serving: found.get_flag("keep-serving"),
+        keep_serving: found.get_flag("keep-serving") || found.get_flag("forever"),
         idle_seconds: found.get_one::<u32>("idle").unwrap_or(0),
     }
+}
+
+/// Whether the end of standard input ends the service.
+fn ends_with_input(found: &ArgMatches<'_>) -> bool {
+    found.get_flag("keep-serving") && !found.get_flag("forever")
 }
 
 /// The arguments that may be given.
 fn command<'a>(alloc: Global) -> Result<Command<'a>, AllocError> {
     Command::new(alloc, "bulkhead")
         .about("Runs commands in groups that cannot take from one another")
+        .version(VERSION)
         .subcommand_required(true)
         .subcommand(with_file(
             alloc,
@@ -123,9 +134,11 @@ fn serve_command<'a>(alloc: Global) -> Result<Command<'a>, AllocError> {
         "serve",
         "Answers control lines, lines of JSON, on connections to a port of 127.0.0.1",
     )?
+    .after_help(WHO_IS_SERVED)
     .arg(port(alloc))?
     .arg(connections(alloc))?
     .arg(keep_serving(alloc))?
+    .arg(forever(alloc)?)?
     .arg(idle(alloc))
 }
 
@@ -144,7 +157,9 @@ fn connections<'a>(alloc: Global) -> Arg<'a> {
     Arg::new(alloc, "connections")
         .long("connections")
         .value_name("N")
-        .help("How many connections to serve, or with --keep-serving how many at a time, 1 to 64")
+        .help(
+            "How many connections to serve, or with --keep-serving or --forever how many at a time, 1 to 64",
+        )
         .default_value("1")
         .value_parser(clap::value_parser!(u32).range(1..=64))
 }
@@ -157,12 +172,23 @@ fn keep_serving<'a>(alloc: Global) -> Arg<'a> {
         .action(ArgAction::SetTrue)
 }
 
+/// Whether it serves with no regard to standard input.
+fn forever<'a>(alloc: Global) -> Result<Arg<'a>, AllocError> {
+    Arg::new(alloc, "forever")
+        .long("forever")
+        .help("Serves further connections, and does not look at standard input")
+        .action(ArgAction::SetTrue)
+        .conflicts_with("keep-serving")
+}
+
 /// How long a connection may do nothing.
 fn idle<'a>(alloc: Global) -> Arg<'a> {
     Arg::new(alloc, "idle")
         .long("idle")
         .value_name("SECONDS")
-        .help("Closes a connection that neither sends nor reads for so long; 0 for never")
+        .help(
+            "Closes a connection that for so long neither sends nor reads, or sends no whole line; 0 for never",
+        )
         .default_value("0")
         .value_parser(clap::value_parser!(u32))
 }
@@ -180,7 +206,7 @@ fn with_file<'a>(alloc: Global, name: &'a str, about: &'a str) -> Result<Command
 fn check_path(rt: &HostRuntime, path: &str) -> u8 {
     let mut errors = rt.stderr();
     match read_path(rt, path) {
-        Ok(settings) => check::check_file(
+        Ok(settings) => check_file(
             rt.alloc(),
             settings.as_slice(),
             &mut io::writer(rt),
@@ -194,7 +220,7 @@ fn check_path(rt: &HostRuntime, path: &str) -> u8 {
 fn run_path(rt: &HostRuntime, path: &str) -> u8 {
     let mut errors = rt.stderr();
     match read_path(rt, path) {
-        Ok(settings) => run::run_file(
+        Ok(settings) => run_file(
             rt.alloc(),
             settings.as_slice(),
             &mut rt.reader(),
@@ -206,7 +232,14 @@ fn run_path(rt: &HostRuntime, path: &str) -> u8 {
 }
 
 /// Serves connections to the port under the settings of the file.
-fn serve_path<R>(rt: &HostRuntime, handles: &R, path: &str, port: u16, limits: Limits) -> u8
+fn serve_path<R>(
+    rt: &HostRuntime,
+    handles: &R,
+    path: &str,
+    port: u16,
+    limits: Limits,
+    ends_with_input: bool,
+) -> u8
 where
     R: Net<Listener = TcpListener, Stream = TcpStream>
         + Threads
@@ -219,13 +252,13 @@ where
         + 'static,
 {
     match read_path(rt, path) {
-        Ok(settings) => serve::serve_file(
+        Ok(settings) => serve_file(
             handles,
             rt.alloc(),
             settings.as_slice(),
             port,
             limits,
-            rt.reader(),
+            ends_with_input.then(|| rt.reader()),
             rt.stderr(),
         ),
         Err(error) => report::unreadable(&mut rt.stderr(), error),

@@ -1,69 +1,81 @@
-//! Whole runs over memory.
+//! The arguments of the program.
 
-mod arguments;
-mod faults;
-mod hostile_settings;
-mod hostile_streams;
-mod lives;
-mod operations;
-mod scripts;
-mod serve;
-mod serve_acceptor;
-mod serve_clients;
-mod settings;
-mod streams;
-
-use crate::run::run_file;
+use crate::{command, run_arguments};
+use std::net::{Net, TcpListener, TcpStream};
 use std::process::Abort;
+use std::rt::Clock;
+use std::sync::Wait;
+use std::thread::Threads;
 
-/// The settings of a service of the one group a.
-const ONE_GROUP: &str = "service.groups = [\"a\"]\n";
-
-/// Runs the input under the settings, and asserts what comes of it.
-fn assert_run<R: Abort + AllocGlobal>(
-    rt: &R,
-    settings: &[u8],
-    input: &[u8],
-    status: u8,
-    output: &str,
-    errors: &str,
-) {
-    let mut reader: &[u8] = input;
-    let mut written = Vec::new(rt.alloc());
-    let mut reported = Vec::new(rt.alloc());
-    let answered = run_file(
-        rt.alloc(),
-        settings,
-        &mut reader,
-        &mut written,
-        &mut reported,
-    );
-    assert_end(rt, answered, status);
-    assert_bytes(rt, &written, output, "the output");
-    assert_bytes(rt, &reported, errors, "the errors");
+/// The arguments of a command line, of which the first is the program's name.
+fn arguments<R: Abort + AllocGlobal>(rt: &R, line: &str) -> Vec<String> {
+    let mut arguments = Vec::new(rt.alloc());
+    for argument in line.split(' ') {
+        let mut text = String::new(rt.alloc());
+        text.push_str(argument).expect(rt, "memory");
+        arguments.push(text).expect(rt, "memory");
+    }
+    arguments
 }
 
-/// Asserts the exit status.
-fn assert_end<R: Abort>(rt: &R, answered: u8, status: u8) {
-    assert_eq!(rt; answered, status);
+/// Asserts the status that a command line leaves.
+fn assert_status<
+    R: Net<Listener = TcpListener, Stream = TcpStream>
+        + Threads
+        + Wait
+        + Clock
+        + Print
+        + Copy
+        + Send
+        + Sync
+        + Abort
+        + AllocGlobal
+        + 'static,
+>(rt: &HostRuntime, handles: &R, line: &str, status: u8) {
+    let arguments = arguments(handles, line);
+    let answered = run_arguments(rt, handles, arguments.as_slice()).expect(handles, "memory");
+    assert_eq!(handles; answered, status, "{line}");
 }
 
-/// Asserts the bytes that were written; what they are is told where they differ.
-fn assert_bytes<R: Abort>(rt: &R, written: &Vec<u8>, want: &str, what: &str) {
-    assert_eq!(rt; written.as_slice(), want.as_bytes(), "{what}");
-}
-
-/// Runs the lines under the settings, and asserts that it is their answers that are written.
-fn assert_answers<R: Abort + AllocGlobal>(rt: &R, settings: &str, input: &str, output: &str) {
-    assert_run(rt, settings.as_bytes(), input.as_bytes(), 0, output, "");
-}
-
-/// Two lines, of which one ends by a carriage return and a line feed, and one with the input.
-const TWO_LINES: &str = "{\"op\":\"start\",\"group\":\"a\",\"now\":0}\r
-{\"op\":\"start\",\"group\":\"a\",\"now\":0}";
+/// Command lines that are refused.
+const REFUSED: &str = "bulkhead
+bulkhead stop
+bulkhead check
+bulkhead run settings.toml more
+bulkhead serve settings.toml
+bulkhead serve settings.toml --port 0
+bulkhead serve settings.toml --port 65536
+bulkhead serve settings.toml --port 1 --connections 0
+bulkhead serve settings.toml --port 1 --connections 65
+bulkhead serve settings.toml --port 1 --keep-serving 8
+bulkhead serve settings.toml --port 1 --idle
+bulkhead serve settings.toml --port 1 --idle -1
+bulkhead serve settings.toml --port 1 --idle soon";
 
 #[test]
-fn lines_end_by_line_feed_or_with_the_input(rt: HostRuntime) {
-    let idle_twice = "{\"reply\":\"idle\"}\n{\"reply\":\"idle\"}\n";
-    assert_answers(&rt, ONE_GROUP, TWO_LINES, idle_twice);
+fn refused_arguments_leave_status_2(rt: HostRuntime) {
+    for line in REFUSED.lines() {
+        assert_status(&rt, &rt, line, 2);
+    }
+    assert_status(&rt, &rt, "bulkhead --help", 0);
+    assert_status(&rt, &rt, "bulkhead check no-such-file", 3);
+}
+
+const NO_FILE: &str = "error: the following required arguments were not provided:
+  <FILE>
+
+Usage: bulkhead check <FILE>
+
+For more information, try '--help'.
+";
+
+#[test]
+fn refused_arguments_are_told_with_the_usage(rt: HostRuntime) {
+    let arguments = arguments(&rt, "bulkhead check");
+    let command = command(rt.alloc()).expect(&rt, "memory");
+    let text = match command.try_get_matches_from(arguments.as_slice()) {
+        Ok(_) => String::new(rt.alloc()),
+        Err(error) => error.to_string(rt.alloc()).expect(&rt, "memory"),
+    };
+    assert_eq!(rt; text.as_str(), NO_FILE);
 }

@@ -1,5 +1,5 @@
--- `take_loose` reads the pointer, and hands out what the handle owned.
-use Rattle.std.proofs.Common.{◌≡◌, List, [], ◌∷◌, refl, sym, ap, ◌∙◌, Option, Some, None, IsSome}
+-- `take_loose` reads the pointer, writes null in its place, and hands out what the handle owned.
+use Rattle.std.proofs.Common.{◌≡◌, List, [], ◌∷◌, refl, sym, ap, ◌∙◌, lit<, Option, Some, None, IsSome}
 use Rattle.std.proofs.raw_atomic.Walks.{proved}
 use base.Fraction.{full_share}
 use base.Logic.{never, fst∗}
@@ -7,17 +7,21 @@ use base.Fml.{ftrue, flft}
 use mathlib.Core.Bool.{false≢true}
 use mir.Syntax.{named}
 use mir.Raw.{raw as bare}
-use mir.Val.{Val, vptr}
+use mir.Val.{Val, vptr, vnull, vstruct, vcons, vnil}
 use types.Logic.{sem}
 use contract.Monad.{fact}
-use types.Kit.{‵, raw, ◌⊛◌, ◌$◌, ◌∵◌, !, qed, done, move, keep, split, join, fsplit, fsplit3, fjoin, rewrite, suffices, frame, group}
-use types.Run.{enter, of_opd, load, stop, fld, no_more, and_then, returns}
-use types.Part.{agg, whole, sub, look_in}
+use types.Kit.{‵, raw, ◌⊛◌, ◌$◌, ◌∵◌, !, qed, done, move, keep, drop, split, join, fsplit, fsplit3, fjoin, fpack, feq_i, rewrite, suffices, frame, group}
+use types.Run.{enter, of_opd, load, lit, stop, fld, no_more, and_then, assigns, returns}
+use types.Part.{agg, whole, sub, look_in, store_in}
 use types.ByLocal.{alloc_all, pass_all, free_all, look_at, get, through, sets}
 use denote.Exit.{yes}
 use denote.Laws.{shows}
 use denote.Memory.{cell_at, lone}
 use denote.Param.{layout}
+use denote.Builtin.{RawPtr}
+use denote.RattleType.{Valss}
+use denote.Struct.Struct.{within}
+use denote.Struct.Owning.{shape}
 use denote.RawPtr.{Ptr, block_ptr, null_ptr, in_a_block}
 use denote.Ref.{MutRef, mut_vals, mut_Tells}
 use denote.Signature.{plain}
@@ -31,7 +35,7 @@ use Rattle.std_heap.proofs.Global.TheLaws.{the_row_laws}
 use Rattle.std_heap.proofs.Handle.{heap_val, heap_Tells}
 use Rattle.bh_c.specs.declared.service.Service.{Service}
 use Rattle.bh_c.specs.contracts.service.Service.{the_row as S}
-use Rattle.bh_c.specs.contracts.handle.Handle.{the_row as R}
+use Rattle.bh_c.specs.contracts.handle.Handle.{the_row as R, the_type}
 use Rattle.bh_c.specs.contracts.handle.take_loose as f
 use Rattle.bh_c.specs.Held.{held_owns}
 use Rattle.bh_c.proofs.handle.take_loose.Statement.{statement}
@@ -72,13 +76,17 @@ take_loose_spec 𝓤 𝓛 𝓜 𝓡 wired =
     -- [the service; what the fields own; the handle's cell; the open borrow, in three entries; self's first part; the allocator]
     sets ! (of_opd ! (load ! (through ! refl (fld ! refl (stop !))) (look_in ! 2 (sub ! 0 refl (whole !))))) refl (tt, tt) $
     sets ! (of_opd ! (get ! refl)) refl (tt, tt) $
+    assigns ! (of_opd ! (lit ! tt)) (through ! refl (fld ! refl (stop !))) (store_in ! 2 (sub ! 0 refl (whole !)) (tt, record { fits = lit< tt })) $
     sets ! (agg ! (and_then ! (get ! refl) (and_then ! (get ! refl) (no_more !)))) refl made $
-    rewrite ! 2 Cell (sym word) refl $
-    move ! (1 ∷ []) $ nothing ! $ move ! (1 ∷ 0 ∷ []) $ fjoin ! $ move ! (2 ∷ 0 ∷ 3 ∷ 4 ∷ 5 ∷ []) $
-    closes ! tt R (record h { held = None }) us b o $
+    let empty = vstruct (vcons vnull vnil) in let gone : R.Denot = record { at = null_ptr; held = None } in
+    move ! (1 ∷ []) $ drop ! $ feq_i ! Ptr null_ptr null_ptr refl $
+    nothing ! $ feq_i ! (List Val) (vnull ∷ []) (vnull ∷ []) refl $ fjoin ! $ feq_i ! (List Val) (empty ∷ []) (empty ∷ []) refl $ fjoin ! $
+    fpack ! (Valss (RawPtr ∷ [])) (within (shape the_type) (null_ptr, tt) (empty ∷ [])) (vnull ∷ [], tt) $ fjoin ! $
+    -- [what the handle owns; the service; its cell; the open borrow, in three entries; self's first part; the allocator]
+    move ! (2 ∷ 0 ∷ 3 ∷ 4 ∷ 5 ∷ []) $ closes ! tt R gone (empty ∷ []) b o $
     -- [two parts of self; the token; the service; self's first part; the allocator]
     returns ! (look_at ! 0 refl) $ free_all ! refl $ move ! (4 ∷ []) $
-    suffices ! _ (ends_at 𝓛 f.ended stayed c y v (record { at = block_ptr b' o'; alloc = alloc; value = there.0 }) (record h { held = None }, (tt, tt)) (tt, (tt, tt))) $
+    suffices ! _ (ends_at 𝓛 f.ended stayed c y v (record { at = block_ptr b' o'; alloc = alloc; value = there.0 }) (gone, (tt, tt)) (tt, (tt, tt))) $
     says_two ! (there.1, refl) $ group ! 3 $ move ! (2 ∷ 3 ∷ []) $ loose_in S Z the_row_laws ghosts ! b' o' heap_val alloc there.0 $
     -- [the pointer with what it owns; self; the token]
     nothing ! $ nothing ! $ join ! $ move ! (2 ∷ 0 ∷ []) $ join ! $ nothing ! $ move ! (3 ∷ 0 ∷ []) $ join ! $ frame ! $ frame ! $ done !))))))

@@ -6,7 +6,7 @@ pub returns-then-is_at : goal.returns-then-is_at
 returns-then-is_at c =
     let line = c.args.line.now in
     let found = c.in_ok-value.ensures in
-    let end = c.past_spaces-end in
+    let end = c.past_space-end in
     record {
       token = found.token;
       scalar = found.scalar;
@@ -19,7 +19,7 @@ pub returns : goal.returns
 returns c =
     let line = c.args.line.now in
     let found = c.in_ok-value.ensures in
-    let end = c.past_spaces-end in
+    let end = c.past_space-end in
     record {
       token = found.token;
       scalar = found.scalar;

@@ -1,10 +1,10 @@
-use Rattle.std.proofs.Common.{◌≡◌, ◌+◌, ◌-◌, ◌*◌, ◌<◌, ◌≤◌, ◌==◌, ◌&&◌, false, length, take, drop, get_or, sym, ap, ◌∙◌, subst, arith, get_or-drop, length-drop}
-use Rattle.std.specs.Prelude.{nat_lt}
+use Rattle.std.proofs.Common.{◌≡◌, ◌+◌, ◌-◌, ◌*◌, ◌<◌, ◌≤◌, length, take, drop, get_or, sym, ap, ◌∙◌, subst, arith, get_or-drop, length-drop}
 use Rattle.std.specs.Char.{digit_value}
 use Rattle.std.specs.Str.Parse.{AllDigits, digits_value}
 use Rattle.std.proofs.lemmas.Int.Digits.{digits_more, digits_value_more}
 use Rattle.std.proofs.lemmas.Str.{digit_value_digit}
-use Rattle.bh_lines.proofs.PlainReading.{number_between}
+use Rattle.bh_lines.proofs.PlainReading.{number_between, zero_at}
+use Rattle.bh_lines.proofs.plain.plain_number.Goals.{else-place-bytes-via-then-place-bytes+else-bytes-place-eq48, else-place-bytes-via-else-place-bytes}
 use Rattle.bh_lines.proofs.plain.plain_number.Goals as goal
 
 pub loop-end-preserved : goal.loop-end-preserved
@@ -29,10 +29,9 @@ loop-end-preserved c =
       value ∙ ap (λ n. digits_value 10 (take n text)) more,
     )
 
-pub bounds-bytes-place : goal.bounds-bytes-place
-bounds-bytes-place c =
-    let some : c.args.place < c.loop-end.end = omega (arith, c.loop-end.invariant.0, c.if-end-place.false) in
-    omega (arith, c.loop-end.invariant.1 some)
+pub returns-then-bytes-place-eq48 : goal.returns-then-bytes-place-eq48
+returns-then-bytes-place-eq48 c =
+    zero_at c.args.line.now c.as_bytes-bytes.result.now c.args.place c.as_bytes-bytes.ensures.value c.if-place-bytes.true c.if-bytes-place-eq48.true
 
 pub returns : goal.returns
 returns c =
@@ -44,5 +43,8 @@ returns c =
     let within : end ≤ length line = omega (arith, c.loop-end.invariant.1 some, ap length same) in
     let digits : AllDigits 10 (take (end - place) (drop place line)) = subst (λ t. AllDigits 10 (take (end - place) (drop place t))) same c.loop-end.invariant.2 in
     let value : c.loop-end.number ≡ digits_value 10 (take (end - place) (drop place line)) = c.loop-end.invariant.3 ∙ ap (λ t. digits_value 10 (take (end - place) (drop place t))) same in
-    let alone : ((get_or line place 0 == 48) && nat_lt 1 (end - place)) ≡ false = ap (λ t. (get_or t place 0 == 48) && nat_lt 1 (end - place)) (sym same) ∙ c.if-bytes-place.false in
-    number_between line place end c.loop-end.number c.loop-end.invariant.0 within (λ e. omega (arith, some, e)) digits value (omega arith) alone
+    let no_zero : get_or c.as_bytes-bytes.result.now place 0 ≡ 48 → ⊥ = λ e. elim c.else-place-bytes.branch [
+      | else-place-bytes-via-then-place-bytes+else-bytes-place-eq48 w ↦ omega (arith, w.if-bytes-place-eq48.false, e)
+      | else-place-bytes-via-else-place-bytes w ↦ omega (arith, w.if-place-bytes.false, c.loop-end.invariant.1 some)
+    ] in
+    number_between line place end c.loop-end.number c.loop-end.invariant.0 within (λ e. omega (arith, some, e)) digits value (omega arith) (λ e. no_zero (ap (λ t. get_or t place 0) same ∙ e))

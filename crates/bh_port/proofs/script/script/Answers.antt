@@ -31,7 +31,7 @@ returns-then-not-branch-clause-text g c =
     let now = progress-lines _ _ _ _ _ _ _ c.write_answers.new.self.groups _ _ c.loop.invariant.progress c.in_ok-write_answers.ensures.answered in
     let piece = c.in_ok-fill.ensures.more in
     let ended = c.in_ok-fill.ensures.end (search rules) in
-    progress-ends _ _ _ _ _ _ _ _ _ _ (progress-read _ _ _ _ _ _ _ _ _ _ now piece.1 piece.2) ended.0 c.as_slice.ensures c.write_last.ensures.outcome
+    progress-ends _ _ _ _ _ _ _ _ _ (progress-read _ _ _ _ _ _ _ _ _ _ now piece.1 piece.2) ended.0 c.write_last.ensures.outcome
 
 pub loop-preserved : goal.loop-preserved
 loop-preserved g c =

@@ -41,24 +41,24 @@ count_in-requires-clause-room c =
 pub returns-then-not-needed : goal.returns-then-not-needed
 returns-then-not-needed c =
     let counted = c.count_in.ensures ∙ ap (counted_in c.get-ticket.result.now) c.count_out.ensures in
-    let noted_move = ap (λ (s : GroupSlots). record s { last_started = c.note_move.new.group.last_started; in_turn = c.note_move.new.group.in_turn }) counted in
+    let noted_move = ap (λ (s : GroupSlots). record s { order = record s.order { last_started = c.note_move.new.group.order.last_started; in_turn = c.note_move.new.group.order.in_turn } }) counted in
     let turns = turned c.args.arena.now c.args.group.now c.count_in.new.group c.note_move.new.group c.get-ticket.result.now.serial c.list_for-from.result c.list_for-to.result c.len_of-alone.result
-    (ap (λ (s : GroupSlots). s.lists) counted) (ap (λ (s : GroupSlots). s.last_started) counted) (ap (λ (s : GroupSlots). s.in_turn) counted) c.len_of-alone.ensures c.note_move.ensures.stays c.note_move.ensures.other c.note_move.ensures.starts in
+    (ap (λ (s : GroupSlots). s.lists) counted) (ap (λ (s : GroupSlots). s.order.last_started) counted) (ap (λ (s : GroupSlots). s.order.in_turn) counted) c.len_of-alone.ensures c.note_move.ensures.stays c.note_move.ensures.other c.note_move.ensures.starts in
     change_from c.args.arena.now c.args.group.now c.args.slot c.args.change.now c.requires.allowed c.get-was.result.now c.get-was.ensures c.get_mut.result.now c.apply.new.ticket c.get-ticket.result.now c.get_mut.ensures.value c.apply.ensures c.get-ticket.ensures
     c.move_on.new.arena c.requires.arena c.requires.group c.list_for-from.result c.list_for-to.result
     (c.list_for-from.ensures ∙ ap (λ (s : GroupSlots). list_for s.lists c.get-was.result.now.state) c.count_out.ensures) (c.list_for-to.ensures ∙ ap (λ (s : GroupSlots). list_for s.lists c.get-ticket.result.now.state) counted)
     c.move_on.ensures.same c.move_on.ensures.moved
-    _ c.with_slot-group.result c.note_move.new.group.last_started c.note_move.new.group.in_turn (ap (λ (s : GroupSlots). record s { needless = c.with_slot-group.result }) (c.note_move.ensures.rest ∙ noted_move)) turns
+    _ c.with_slot-group.result c.note_move.new.group.order.last_started c.note_move.new.group.order.in_turn (ap (λ (s : GroupSlots). record s { needless = c.with_slot-group.result }) (c.note_move.ensures.rest ∙ noted_move)) turns
     (inl (sym c.is_kept-needed.ensures ∙ c.if-not-needed.true, subst (λ (s : GroupSlots). IsNoted c.args.slot s.needless c.with_slot-group.result) (c.note_move.ensures.rest ∙ noted_move) c.with_slot-group.ensures))
 
 pub returns-else-not-needed : goal.returns-else-not-needed
 returns-else-not-needed c =
     let counted = c.count_in.ensures ∙ ap (counted_in c.get-ticket.result.now) c.count_out.ensures in
-    let noted_move = ap (λ (s : GroupSlots). record s { last_started = c.note_move.new.group.last_started; in_turn = c.note_move.new.group.in_turn }) counted in
+    let noted_move = ap (λ (s : GroupSlots). record s { order = record s.order { last_started = c.note_move.new.group.order.last_started; in_turn = c.note_move.new.group.order.in_turn } }) counted in
     let turns = turned c.args.arena.now c.args.group.now c.count_in.new.group c.note_move.new.group c.get-ticket.result.now.serial c.list_for-from.result c.list_for-to.result c.len_of-alone.result
-    (ap (λ (s : GroupSlots). s.lists) counted) (ap (λ (s : GroupSlots). s.last_started) counted) (ap (λ (s : GroupSlots). s.in_turn) counted) c.len_of-alone.ensures c.note_move.ensures.stays c.note_move.ensures.other c.note_move.ensures.starts in
+    (ap (λ (s : GroupSlots). s.lists) counted) (ap (λ (s : GroupSlots). s.order.last_started) counted) (ap (λ (s : GroupSlots). s.order.in_turn) counted) c.len_of-alone.ensures c.note_move.ensures.stays c.note_move.ensures.other c.note_move.ensures.starts in
     change_from c.args.arena.now c.args.group.now c.args.slot c.args.change.now c.requires.allowed c.get-was.result.now c.get-was.ensures c.get_mut.result.now c.apply.new.ticket c.get-ticket.result.now c.get_mut.ensures.value c.apply.ensures c.get-ticket.ensures
     c.move_on.new.arena c.requires.arena c.requires.group c.list_for-from.result c.list_for-to.result
     (c.list_for-from.ensures ∙ ap (λ (s : GroupSlots). list_for s.lists c.get-was.result.now.state) c.count_out.ensures) (c.list_for-to.ensures ∙ ap (λ (s : GroupSlots). list_for s.lists c.get-ticket.result.now.state) counted)
     c.move_on.ensures.same c.move_on.ensures.moved
-    _ c.args.group.now.needless c.note_move.new.group.last_started c.note_move.new.group.in_turn (c.note_move.ensures.rest ∙ noted_move) turns (inr (sym c.is_kept-needed.ensures ∙ c.if-not-needed.false, refl))
+    _ c.args.group.now.needless c.note_move.new.group.order.last_started c.note_move.new.group.order.in_turn (c.note_move.ensures.rest ∙ noted_move) turns (inr (sym c.is_kept-needed.ensures ∙ c.if-not-needed.false, refl))

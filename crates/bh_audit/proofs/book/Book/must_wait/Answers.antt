@@ -10,3 +10,7 @@ pub returns-then-worn-clause-goes_on : goal.returns-then-worn-clause-goes_on
 returns-then-worn-clause-goes_on c = λ goes_on v at moment.
     or_right (is_assigned (view_reply v op.Start moment)) (is_worn_out (view_reply v op.Start moment))
     (sym (c.worn.ensures.known v op.Start moment (rw (ap (λ (b : BookView). b.groups) c.self.view_is) at) refl) ∙ c.if-worn.true)
+
+pub returns-clause-fresh : goal.returns-clause-fresh
+returns-clause-fresh c = λ waits v moment at.
+    sym (c.worn.ensures.known v op.Start moment (rw (ap (λ (b : BookView). b.groups) c.self.view_is) at) refl) ∙ c.if-worn.false

@@ -10,11 +10,11 @@ unreachable-requires g c =
     (rw c.core.ensures at c.due.ensures.known) (rw c.core.ensures at c.due.ensures.unknown))
     c.in_default.not-Expired
 
-pub returns-clause-adds : goal.returns-clause-adds
-returns-clause-adds g c = (
+pub returns : goal.returns
+returns g c = λ any. (
   expires_above c.in-Expired.number
       (let says : expires_some c.step-freed.new.reply ≡ true = expires c.args.self.now.book.groups _ c.group-group.result c.now-now.result c.step-freed.new.reply c.due.result c.step-freed.ensures.groups c.if-not-due.false
       (rw c.core.ensures at c.due.ensures.known) (rw c.core.ensures at c.due.ensures.unknown) in
       rw c.in-Expired.is at says),
-  (c.now-now.result, c.now-now.ensures, rw c.group-group.ensures at (rw c.in-Expired.is at c.step-freed.ensures.adds)),
+  (c.now-now.result, c.now-now.ensures, rw c.group-group.ensures at (rw c.in-Expired.is at c.step-freed.ensures)),
 )

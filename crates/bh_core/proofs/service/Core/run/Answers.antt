@@ -1,7 +1,7 @@
 use Rattle.std.proofs.Common.{◌≡◌, ◌<◌, ℕ, ◌+◌, List, [], ◌∷◌, ◌++◌, length, take, get_or, ◌∙◌, sym, ap, arith, length-take-le}
 use Rattle.std.proofs.lemmas.List.{take_more, take_all}
 use Rattle.bh_base.specs.declared.step.Step.{Step}
-use Rattle.bh_core.proofs.Whole.{goes_on_in, stays_unknown_in}
+use Rattle.bh_core.proofs.Whole.{goes_on_in, stays_unknown_in, stays_kept}
 use Rattle.bh_core.proofs.service.Core.run.Goals as goal
 
 next_step : (steps : List Step) (i : ℕ) (x : Step) → i < length steps → x ≡ get_or steps i x → take (i + 1) steps ≡ take i steps ++ x ∷ []
@@ -19,6 +19,7 @@ loop-step-preserved c =
       limit = c.apply-reply.ensures.limit ∙ before.invariant.limit;
       own = λ group s shows. goes_on_in group s c.args.steps.now before.step-index c.step-item.result before.replies.items c.push_within.new.items.items c.apply-reply.result before.self c.apply-reply.new.self same next c.push_within.ensures.items (before.invariant.own group s shows) c.apply-reply.ensures;
       unknown = λ group none. stays_unknown_in group c.args.steps.now before.step-index c.step-item.result before.replies.items c.push_within.new.items.items c.apply-reply.result before.self c.apply-reply.new.self same next c.push_within.ensures.items (before.invariant.unknown group none) c.apply-reply.ensures;
+      kept = λ group none. stays_kept group c.step-item.result c.apply-reply.result before.self c.apply-reply.new.self (before.invariant.unknown group none).none c.apply-reply.ensures ∙ before.invariant.kept group none;
     }
 
 pub returns-clause-replies : goal.returns-clause-replies

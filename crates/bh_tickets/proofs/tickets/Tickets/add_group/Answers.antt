@@ -17,10 +17,12 @@ pub index-requires : goal.index-requires
 index-requires c =
     let a = c.ready_spare.new.arena in
     let ss = c.self.inside.groups.items in
+    let ns = c.self.inside.names.items in
     let rs = c.take_place.new.groups.items in
+    let ms = c.take_place.new.names.items in
     let place = c.in_ok-place.place in
     let spare = c.in_ok-from.ensures.ok in
-    let whole = subst (λ (q : Option GroupSlots). IsWhole a q ss) spare.is (c.in_ok-from.ensures.keeps.whole ss c.self.invariant) in
+    let whole = subst (λ (q : Option GroupSlots). IsWhole a q ss ns) spare.is (c.in_ok-from.ensures.keeps.whole ss ns c.self.invariant) in
     let placed = c.in_ok-place.ensures.ok.gets spare.part whole in
     let lt : place < length rs = get_lt rs place placed.entry placed.here in
     search (rules, lt)
@@ -30,54 +32,64 @@ take_slots-requires-clause-giver c =
     let a = c.ready_spare.new.arena in
     let b = c.take_place.new.arena in
     let ss = c.self.inside.groups.items in
+    let ns = c.self.inside.names.items in
     let rs = c.take_place.new.groups.items in
+    let ms = c.take_place.new.names.items in
     let s = c.index.result.now in
     let place = c.in_ok-place.place in
-    let k = chosen place c.args.slots c.in_ok-from.from s a ss c.ready_spare.new.spare b rs (c.in_ok-from.ensures.keeps.whole ss c.self.invariant) c.in_ok-from.ensures.ok c.in_ok-place.ensures.ok c.index.ensures in
-    subst (IsVacant b) k.lists (spare_vacant b k.part rs k.placed.whole)
+    let k = chosen _ place c.args.slots c.in_ok-from.from s a ss ns c.ready_spare.new.spare b rs ms (c.in_ok-from.ensures.keeps.whole ss ns c.self.invariant) c.in_ok-from.ensures.ok c.in_ok-place.ensures.ok c.index.ensures in
+    subst (IsVacant b) k.lists (spare_vacant b k.part rs ms k.placed.whole)
 
 pub take_slots-requires-clause-taker : goal.take_slots-requires-clause-taker
 take_slots-requires-clause-taker c =
     let a = c.ready_spare.new.arena in
     let b = c.take_place.new.arena in
     let ss = c.self.inside.groups.items in
+    let ns = c.self.inside.names.items in
     let rs = c.take_place.new.groups.items in
+    let ms = c.take_place.new.names.items in
     let s = c.index.result.now in
     let place = c.in_ok-place.place in
-    let k = chosen place c.args.slots c.in_ok-from.from s a ss c.ready_spare.new.spare b rs (c.in_ok-from.ensures.keeps.whole ss c.self.invariant) c.in_ok-from.ensures.ok c.in_ok-place.ensures.ok c.index.ensures in
-    entry_vacant b k.part rs k.placed.whole place s k.here k.empty
+    let k = chosen _ place c.args.slots c.in_ok-from.from s a ss ns c.ready_spare.new.spare b rs ms (c.in_ok-from.ensures.keeps.whole ss ns c.self.invariant) c.in_ok-from.ensures.ok c.in_ok-place.ensures.ok c.index.ensures in
+    entry_vacant b k.part rs ms k.placed.whole place s k.here k.empty
 
 pub take_slots-requires-clause-apart : goal.take_slots-requires-clause-apart
 take_slots-requires-clause-apart c =
     let a = c.ready_spare.new.arena in
     let b = c.take_place.new.arena in
     let ss = c.self.inside.groups.items in
+    let ns = c.self.inside.names.items in
     let rs = c.take_place.new.groups.items in
+    let ms = c.take_place.new.names.items in
     let s = c.index.result.now in
     let place = c.in_ok-place.place in
-    let k = chosen place c.args.slots c.in_ok-from.from s a ss c.ready_spare.new.spare b rs (c.in_ok-from.ensures.keeps.whole ss c.self.invariant) c.in_ok-from.ensures.ok c.in_ok-place.ensures.ok c.index.ensures in
-    subst (λ (z : GroupLists). IsApart z s.lists) k.lists (spare_apart b k.part rs k.placed.whole place s k.here)
+    let k = chosen _ place c.args.slots c.in_ok-from.from s a ss ns c.ready_spare.new.spare b rs ms (c.in_ok-from.ensures.keeps.whole ss ns c.self.invariant) c.in_ok-from.ensures.ok c.in_ok-place.ensures.ok c.index.ensures in
+    subst (λ (z : GroupLists). IsApart z s.lists) k.lists (spare_apart b k.part rs ms k.placed.whole place s k.here)
 
 pub take_slots-requires-clause-enough : goal.take_slots-requires-clause-enough
 take_slots-requires-clause-enough c =
     let a = c.ready_spare.new.arena in
     let b = c.take_place.new.arena in
     let ss = c.self.inside.groups.items in
+    let ns = c.self.inside.names.items in
     let rs = c.take_place.new.groups.items in
+    let ms = c.take_place.new.names.items in
     let s = c.index.result.now in
     let place = c.in_ok-place.place in
-    let k = chosen place c.args.slots c.in_ok-from.from s a ss c.ready_spare.new.spare b rs (c.in_ok-from.ensures.keeps.whole ss c.self.invariant) c.in_ok-from.ensures.ok c.in_ok-place.ensures.ok c.index.ensures in
-    omega (arith, k.enough, spare_max b k.part rs k.placed.whole, ap (free_slots b) k.lists)
+    let k = chosen _ place c.args.slots c.in_ok-from.from s a ss ns c.ready_spare.new.spare b rs ms (c.in_ok-from.ensures.keeps.whole ss ns c.self.invariant) c.in_ok-from.ensures.ok c.in_ok-place.ensures.ok c.index.ensures in
+    omega (arith, k.enough, spare_max b k.part rs ms k.placed.whole, ap (free_slots b) k.lists)
 
 pub index_mut-requires : goal.index_mut-requires
 index_mut-requires c =
     let a = c.ready_spare.new.arena in
     let b = c.take_place.new.arena in
     let ss = c.self.inside.groups.items in
+    let ns = c.self.inside.names.items in
     let rs = c.take_place.new.groups.items in
+    let ms = c.take_place.new.names.items in
     let s = c.index.result.now in
     let place = c.in_ok-place.place in
-    let k = chosen place c.args.slots c.in_ok-from.from s a ss c.ready_spare.new.spare b rs (c.in_ok-from.ensures.keeps.whole ss c.self.invariant) c.in_ok-from.ensures.ok c.in_ok-place.ensures.ok c.index.ensures in
+    let k = chosen _ place c.args.slots c.in_ok-from.from s a ss ns c.ready_spare.new.spare b rs ms (c.in_ok-from.ensures.keeps.whole ss ns c.self.invariant) c.in_ok-from.ensures.ok c.in_ok-place.ensures.ok c.index.ensures in
     let lt : place < length rs = get_lt rs place s k.here in
     search (rules, lt)
 
@@ -86,35 +98,39 @@ invariant_of-self-2 c =
     let a = c.ready_spare.new.arena in
     let b = c.take_place.new.arena in
     let ss = c.self.inside.groups.items in
+    let ns = c.self.inside.names.items in
     let rs = c.take_place.new.groups.items in
+    let ms = c.take_place.new.names.items in
     let s = c.index.result.now in
     let place = c.in_ok-place.place in
-    let k = chosen place c.args.slots c.in_ok-from.from s a ss c.ready_spare.new.spare b rs (c.in_ok-from.ensures.keeps.whole ss c.self.invariant) c.in_ok-from.ensures.ok c.in_ok-place.ensures.ok c.index.ensures in
+    let k = chosen _ place c.args.slots c.in_ok-from.from s a ss ns c.ready_spare.new.spare b rs ms (c.in_ok-from.ensures.keeps.whole ss ns c.self.invariant) c.in_ok-from.ensures.ok c.in_ok-place.ensures.ok c.index.ensures in
     let d = c.take_slots.new.arena in
     let taken = subst (λ (z : GroupLists). IsTaken c.args.slots z s.lists b d) (sym k.lists) c.take_slots.ensures in
     let spare : c.vacant.result ≡ no_slot_taken k.part.lists (free_slots d k.part.lists) = c.vacant.ensures ∙ ap (λ (z : GroupLists). no_slot_taken z (free_slots d z)) (sym k.lists) in
     let arena = arena_is d 0 (omega (arith, c.partition.ensures.families)) c.partition.ensures.lists in
-    taken_whole b d k.part c.vacant.result rs place c.args.slots s c.vacant-2.result k.placed.whole k.here k.empty taken arena spare c.vacant-2.ensures
+    taken_whole b d k.part c.vacant.result rs ms place c.args.slots s c.vacant-2.result k.placed.whole k.here k.empty taken arena spare c.vacant-2.ensures
 
 pub returns-clause-ok : goal.returns-clause-ok
 returns-clause-ok c =
     let a = c.ready_spare.new.arena in
     let b = c.take_place.new.arena in
     let ss = c.self.inside.groups.items in
+    let ns = c.self.inside.names.items in
     let rs = c.take_place.new.groups.items in
+    let ms = c.take_place.new.names.items in
     let s = c.index.result.now in
     let place = c.in_ok-place.place in
-    let k = chosen place c.args.slots c.in_ok-from.from s a ss c.ready_spare.new.spare b rs (c.in_ok-from.ensures.keeps.whole ss c.self.invariant) c.in_ok-from.ensures.ok c.in_ok-place.ensures.ok c.index.ensures in
+    let k = chosen _ place c.args.slots c.in_ok-from.from s a ss ns c.ready_spare.new.spare b rs ms (c.in_ok-from.ensures.keeps.whole ss ns c.self.invariant) c.in_ok-from.ensures.ok c.in_ok-place.ensures.ok c.index.ensures in
     let d = c.take_slots.new.arena in
     let taken = subst (λ (z : GroupLists). IsTaken c.args.slots z s.lists b d) (sym k.lists) c.take_slots.ensures in
     let spare : c.vacant.result ≡ no_slot_taken k.part.lists (free_slots d k.part.lists) = c.vacant.ensures ∙ ap (λ (z : GroupLists). no_slot_taken z (free_slots d z)) (sym k.lists) in
     let arena = arena_is d 0 (omega (arith, c.partition.ensures.families)) c.partition.ensures.lists in
-    let seen = c.in_ok-from.ensures.keeps.view ss c.self.invariant ∙ c.self.view_is in
-    let rooms : slots_of (view_of d (set rs place c.vacant-2.result)) ≡ slots_of (view_of a ss) + c.args.slots = omega (arith, shown_rooms d (set rs place c.vacant-2.result), shown_rooms a ss, k.placed.room, taken_rooms b d k.part c.vacant.result rs place c.args.slots s c.vacant-2.result k.placed.whole k.here k.empty taken arena spare c.vacant-2.ensures) in
+    let seen = c.in_ok-from.ensures.keeps.view ss ns c.self.invariant ∙ c.self.view_is in
+    let rooms : slots_of (view_of d (set rs place c.vacant-2.result)) ≡ slots_of (view_of a ss) + c.args.slots = omega (arith, shown_rooms d (set rs place c.vacant-2.result), shown_rooms a ss, k.placed.room, taken_rooms b d k.part c.vacant.result rs ms place c.args.slots s c.vacant-2.result k.placed.whole k.here k.empty taken arena spare c.vacant-2.ensures) in
     subst (λ (v : TicketsView). HasPlace place c.args.slots v (view_of d (set rs place c.vacant-2.result))) seen (record {
       vacant = k.placed.vacant;
-      here = taken_here b d k.part c.vacant.result rs place c.args.slots s c.vacant-2.result k.placed.whole k.here k.empty taken arena spare c.vacant-2.ensures;
-      others = λ g ne. taken_others b d k.part c.vacant.result rs place c.args.slots s c.vacant-2.result k.placed.whole k.here k.empty taken arena spare c.vacant-2.ensures g ne ∙ k.placed.others g ne;
+      here = taken_here b d k.part c.vacant.result rs ms place c.args.slots s c.vacant-2.result k.placed.whole k.here k.empty taken arena spare c.vacant-2.ensures;
+      others = λ g ne. taken_others b d k.part c.vacant.result rs ms place c.args.slots s c.vacant-2.result k.placed.whole k.here k.empty taken arena spare c.vacant-2.ensures g ne ∙ k.placed.others g ne;
       limit = taken.limit ∙ k.limit;
       slots = rooms;
     })

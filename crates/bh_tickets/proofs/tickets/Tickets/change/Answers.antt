@@ -19,7 +19,7 @@ invariant_of-self c =
     let is = part_is c.self.inside.arena c.self.inside.groups.items c.args.self.now c.args.group s c.self.view_is c.requires.group c.index_mut-entry.ensures.value in
     let can = rw (← c.self.view_is) at c.requires.allowed in
     let put = c.change.ensures can.ticket (there_is c.self.inside.arena c.self.inside.groups.items c.args.group c.args.slot s can.ticket (groups_in c.self.invariant) is can.here) in
-    kept c.self.inside.arena c.change.new.arena c.self.inside.spare c.self.inside.groups.items c.args.group s c.change.new.group c.self.invariant is put.change
+    kept c.self.inside.arena c.change.new.arena c.self.inside.spare c.self.inside.groups.items c.self.inside.names.items c.args.group s c.change.new.group c.self.invariant is put.change
 
 pub returns : goal.returns
 returns c =

@@ -14,7 +14,7 @@ pub invariant_of-self : goal.invariant_of-self
 invariant_of-self c =
     let s = c.index_mut-entry.result.now in
     let is = part_is c.self.inside.arena c.self.inside.groups.items c.args.self.now c.args.group s c.self.view_is c.requires.group c.index_mut-entry.ensures.value in
-    kept c.self.inside.arena c.drop_cached.new.arena c.self.inside.spare c.self.inside.groups.items c.args.group s c.drop_cached.new.group c.self.invariant is c.drop_cached.ensures.change
+    kept c.self.inside.arena c.drop_cached.new.arena c.self.inside.spare c.self.inside.groups.items c.self.inside.names.items c.args.group s c.drop_cached.new.group c.self.invariant is c.drop_cached.ensures.change
 
 pub returns-clause-items : goal.returns-clause-items
 returns-clause-items c =

@@ -24,7 +24,7 @@ invariant_of-self c =
     let s = c.index_mut-entry.result.now in
     let is = part_is c.self.inside.arena c.self.inside.groups.items c.args.self.now c.args.group s c.self.view_is c.requires.group c.index_mut-entry.ensures.value in
     let e = c.add.ensures in
-    kept c.self.inside.arena c.add.new.arena c.self.inside.spare c.self.inside.groups.items c.args.group s c.add.new.group c.self.invariant is e.change
+    kept c.self.inside.arena c.add.new.arena c.self.inside.spare c.self.inside.groups.items c.self.inside.names.items c.args.group s c.add.new.group c.self.invariant is e.change
 
 pub returns-clause-items : goal.returns-clause-items
 returns-clause-items c =

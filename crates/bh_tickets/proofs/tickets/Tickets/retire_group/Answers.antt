@@ -14,22 +14,22 @@ give_slots-requires-clause-giver c =
     let a = c.self.inside.arena in
     let ss = c.self.inside.groups.items in
     let s = c.index.result.now in
-    let whole = subst (λ (q : Option GroupSlots). IsWhole a q ss) c.in-Some.is c.self.invariant in
-    whole_group a c.in-Some.spare ss whole c.args.place s (part_is a ss c.args.self.now c.args.place s c.self.view_is c.requires c.index.ensures)
+    let whole = subst (λ (q : Option GroupSlots). IsWhole a q ss c.self.inside.names.items) c.in-Some.is c.self.invariant in
+    whole_group a c.in-Some.spare ss c.self.inside.names.items whole c.args.place s (part_is a ss c.args.self.now c.args.place s c.self.view_is c.requires c.index.ensures)
 
 pub give_slots-requires-clause-taker : goal.give_slots-requires-clause-taker
 give_slots-requires-clause-taker c =
     let a = c.self.inside.arena in
     let ss = c.self.inside.groups.items in
-    spare_vacant a c.in-Some.spare ss (subst (λ (q : Option GroupSlots). IsWhole a q ss) c.in-Some.is c.self.invariant)
+    spare_vacant a c.in-Some.spare ss c.self.inside.names.items (subst (λ (q : Option GroupSlots). IsWhole a q ss c.self.inside.names.items) c.in-Some.is c.self.invariant)
 
 pub give_slots-requires-clause-apart : goal.give_slots-requires-clause-apart
 give_slots-requires-clause-apart c =
     let a = c.self.inside.arena in
     let ss = c.self.inside.groups.items in
     let s = c.index.result.now in
-    let whole = subst (λ (q : Option GroupSlots). IsWhole a q ss) c.in-Some.is c.self.invariant in
-    apart_back c.in-Some.spare.lists s.lists (spare_apart a c.in-Some.spare ss whole c.args.place s (part_is a ss c.args.self.now c.args.place s c.self.view_is c.requires c.index.ensures))
+    let whole = subst (λ (q : Option GroupSlots). IsWhole a q ss c.self.inside.names.items) c.in-Some.is c.self.invariant in
+    apart_back c.in-Some.spare.lists s.lists (spare_apart a c.in-Some.spare ss c.self.inside.names.items whole c.args.place s (part_is a ss c.args.self.now c.args.place s c.self.view_is c.requires c.index.ensures))
 
 pub invariant_of-self : goal.invariant_of-self
 invariant_of-self c =
@@ -37,10 +37,10 @@ invariant_of-self c =
     let b = c.give_slots.new.arena in
     let ss = c.self.inside.groups.items in
     let s = c.index.result.now in
-    let whole = subst (λ (q : Option GroupSlots). IsWhole a q ss) c.in-Some.is c.self.invariant in
+    let whole = subst (λ (q : Option GroupSlots). IsWhole a q ss c.self.inside.names.items) c.in-Some.is c.self.invariant in
     let is = part_is a ss c.args.self.now c.args.place s c.self.view_is c.requires c.index.ensures in
     let few : length b.payloads < 2 ^ 32 = omega (arith, c.partition.ensures.limit, c.partition.ensures.few) in
-    given_whole a b c.in-Some.spare c.vacant.result ss c.args.place s c.vacant-2.result whole is c.give_slots.ensures (arena_is b 0 (omega (arith, c.partition.ensures.families)) c.partition.ensures.lists) few c.vacant.ensures c.vacant-2.ensures
+    given_whole a b c.in-Some.spare c.vacant.result ss c.self.inside.names.items c.args.place s c.vacant-2.result whole is c.give_slots.ensures (arena_is b 0 (omega (arith, c.partition.ensures.families)) c.partition.ensures.lists) few c.vacant.ensures c.vacant-2.ensures
 
 pub returns : goal.returns
 returns c =
@@ -48,8 +48,8 @@ returns c =
     let b = c.give_slots.new.arena in
     let ss = c.self.inside.groups.items in
     let s = c.index.result.now in
-    let whole = subst (λ (q : Option GroupSlots). IsWhole a q ss) c.in-Some.is c.self.invariant in
+    let whole = subst (λ (q : Option GroupSlots). IsWhole a q ss c.self.inside.names.items) c.in-Some.is c.self.invariant in
     let is = part_is a ss c.args.self.now c.args.place s c.self.view_is c.requires c.index.ensures in
     let few : length b.payloads < 2 ^ 32 = omega (arith, c.partition.ensures.limit, c.partition.ensures.few) in
-    given_view a b c.in-Some.spare c.vacant.result ss c.args.place s c.vacant-2.result whole is c.give_slots.ensures (arena_is b 0 (omega (arith, c.partition.ensures.families)) c.partition.ensures.lists) few c.vacant.ensures c.vacant-2.ensures
+    given_view a b c.in-Some.spare c.vacant.result ss c.self.inside.names.items c.args.place s c.vacant-2.result whole is c.give_slots.ensures (arena_is b 0 (omega (arith, c.partition.ensures.families)) c.partition.ensures.lists) few c.vacant.ensures c.vacant-2.ensures
     ∙ ap (λ (v : TicketsView). record v { groups = set v.groups c.args.place (no_tickets_in 0) }) c.self.view_is

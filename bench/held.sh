@@ -1,0 +1,19 @@
+#!/bin/bash
+# Tries to hold up a service: by a standard error that nobody reads, by a client that reads none of its answers, by half a
+# line, and by a call that goes on. Another client has to be answered beside each, and the service to end within two
+# seconds of the end of its standard input.
+#
+#   bench/held.sh [-p PORT] [PROGRAM]     PROGRAM is proved and built where none is given
+set -euo pipefail
+
+here=$(cd "$(dirname "$0")" && pwd)
+port=7415
+while getopts p: option; do
+    case $option in
+    p) port=$OPTARG ;;
+    *) exit 2 ;;
+    esac
+done
+shift $((OPTIND - 1))
+. "$here/program.sh"
+python3 "$here/held.py" "$program" "$port"

@@ -1,0 +1,12 @@
+#!/bin/bash
+# Prints what a call of a command costs in Python, in microseconds, beside a bare function, Debian's
+# python3-circuitbreaker (where it is there) and concurrent.futures: of each the least and the middle of its rounds, all by
+# turns in one run.
+#
+#   bench/python.sh [ROUNDS]     25 where none are given; the library is built by bindings/build.sh where it is not there
+set -euo pipefail
+
+here=$(cd "$(dirname "$0")" && pwd)
+[ -n "${BULKHEAD_LIBRARY:-}" ] || [ -f "$here/../bindings/out/libbulkhead.so" ] || "$here/../bindings/build.sh"
+echo "load: $(cut -d ' ' -f 1-3 /proc/loadavg), $(nproc) processors, $(python3 --version)"
+PYTHONPATH=$here/../python/src exec python3 "$here/python/calls.py" "${1:-25}"

@@ -1,0 +1,198 @@
+"""Calls a service over 64 connections that come and go, hostile ones among them, and accounts for it at the end.
+
+    python3 soak.py PROGRAM PORT SECONDS
+
+Calls are made for 59 minutes at most, so that none has left the window of an hour when the metrics are read. Asserted are
+that each call is answered once and by its own argument, that the metrics add up to the calls made, that the resident size
+at the end is within two percent of that after the first minute (of a run of less than four, after a fourth of it), and that
+no thread and no descriptor is left over.
+"""
+
+from __future__ import annotations
+
+import random
+import re
+import socket
+import struct
+import sys
+import tempfile
+import threading
+import time
+from collections.abc import Callable
+from dataclasses import dataclass, field
+from pathlib import Path
+
+from tried_service import PATIENCE, Failed, Service, ask, call
+
+CALLERS = 48
+HOSTILE = 12
+GROUPS = 8
+# A connection of a caller makes so many calls at most.
+MOST_CALLS = 200
+# So many seconds at most calls are made.
+MOST_SECONDS = 3540
+SETTINGS = """hystrix.command.default.execution.timeout.enabled = false
+hystrix.command.default.metrics.rollingStats.timeInMilliseconds = 3600000
+hystrix.command.default.metrics.rollingStats.numBuckets = 1
+hystrix.threadpool.default.coreSize = 4
+hystrix.threadpool.default.maxQueueSize = 64
+hystrix.threadpool.default.queueSizeRejectionThreshold = 64
+"""
+
+
+@dataclass
+class Soak:
+    """What the threads of a run share."""
+
+    service: Service
+    over: threading.Event = field(default_factory=threading.Event)
+    failures: list[str] = field(default_factory=list)
+
+
+class Caller(threading.Thread):
+    """Makes calls over one connection after the other, and counts them by group."""
+
+    def __init__(self, soak: Soak, number: int) -> None:
+        super().__init__()
+        self.soak = soak
+        self.number = number
+        self.made: dict[str, int] = {}
+
+    def run(self) -> None:
+        chance = random.Random(self.number)
+        count = 0
+        try:
+            while not self.soak.over.is_set():
+                with self.soak.service.connect() as connection:
+                    for _ in range(chance.randint(1, MOST_CALLS)):
+                        count += 1
+                        self.make(connection, f"g{chance.randrange(GROUPS)}", f"c{self.number} {count}")
+                        if self.soak.over.is_set():
+                            break
+        except (Failed, OSError) as failure:
+            self.soak.failures.append(f"caller {self.number}: {failure!r}")
+
+    def make(self, connection: socket.socket, group: str, arg: str) -> None:
+        """Makes one call, which has to be answered by its own argument."""
+        answer = ask(connection, call(group, arg))
+        if answer != f'{{"body":"{arg}","reply":"value"}}':
+            raise Failed(f"{arg!r} is answered {answer}")
+        self.made[group] = self.made.get(group, 0) + 1
+
+
+def long_line(connection: socket.socket) -> None:
+    """Sends more than a line may have."""
+    connection.sendall(b"x" * 2000)
+
+
+def half_line(connection: socket.socket) -> None:
+    """Sends a byte from time to time, and no whole line."""
+    for _ in range(5):
+        connection.sendall(b"{")
+        time.sleep(0.4)
+
+
+def no_reading(connection: socket.socket) -> None:
+    """Asks more than it reads."""
+    connection.settimeout(0.3)
+    for _ in range(20000):
+        connection.send(b'{"op":"groups"}\n')
+
+
+def reset(connection: socket.socket) -> None:
+    """Leaves in the middle of a call, by a reset."""
+    connection.sendall(call("hostile", "sleep 50").encode() + b"\n")
+    time.sleep(0.01)
+    connection.setsockopt(socket.SOL_SOCKET, socket.SO_LINGER, struct.pack("ii", 1, 0))
+
+
+KINDS = (long_line, half_line, no_reading, reset)
+
+
+def harm(soak: Soak, number: int) -> None:
+    """Harms the service as one kind of client does, over one connection after the other."""
+    while not soak.over.is_set():
+        try:
+            with soak.service.connect() as connection:
+                KINDS[number % len(KINDS)](connection)
+        except OSError:
+            time.sleep(0.05)
+
+
+def counted(service: Service, group: str) -> int:
+    """How many calls of the group the service counts as successes, and it counts nothing else."""
+    with service.connect() as connection:
+        metrics = ask(connection, f'{{"op":"metrics","group":"{group}"}}')
+    found = re.search(r'"events":{(?:"SUCCESS":(\d+))?}', metrics)
+    if found is None:
+        raise Failed(f"group {group} has other events: {metrics}")
+    return int(found.group(1) or 0)
+
+
+def call_all(service: Service, seconds: float, look_after: float) -> tuple[int, int, int]:
+    """Has the service called for so long. How many calls were made, and the resident size after a while and at the end."""
+    soak = Soak(service)
+    callers = [Caller(soak, number) for number in range(CALLERS)]
+    hostile = [threading.Thread(target=harm, args=(soak, number)) for number in range(HOSTILE)]
+    for thread in [*callers, *hostile]:
+        thread.start()
+    time.sleep(look_after)
+    size = service.resident()
+    time.sleep(seconds - look_after)
+    size_at_end = service.resident()
+    soak.over.set()
+    for thread in [*callers, *hostile]:
+        thread.join()
+    if soak.failures:
+        raise Failed("; ".join(soak.failures[:3]))
+    for group in (f"g{number}" for number in range(GROUPS)):
+        made = sum(caller.made.get(group, 0) for caller in callers)
+        if counted(service, group) != made:
+            raise Failed(f"group {group}: {made} calls were made, and {counted(service, group)} are counted")
+    return sum(sum(caller.made.values()) for caller in callers), size, size_at_end
+
+
+def wait_for(what: str, wanted: int, tells: Callable[[], int]) -> None:
+    """Waits until as many are left as there were before."""
+    end = time.monotonic() + PATIENCE
+    while tells() != wanted:
+        if time.monotonic() > end:
+            raise Failed(f"{tells()} {what} in the place of {wanted}")
+        time.sleep(0.1)
+
+
+def soak(program: Path, port: int, seconds: int, folder: Path) -> None:
+    """The whole run."""
+    names = [f"g{number}" for number in range(GROUPS)] + ["hostile"]
+    settings = Path(folder, "settings.toml")
+    listed = ", ".join(f'"{name}"' for name in names)
+    settings.write_text(f"service.groups = [{listed}]\n{SETTINGS}", encoding="utf-8")
+    with open(folder / "errors", "wb") as errors:
+        service = Service(program, settings, port, ["--keep-serving", "--connections", "64", "--idle", "1"], errors.fileno())
+        service.start()
+        try:
+            threads, descriptors = service.threads(), service.descriptors()
+            calls, size, size_at_end = call_all(service, min(seconds, MOST_SECONDS), min(60.0, seconds / 4))
+            wait_for("descriptors", descriptors, service.descriptors)
+            wait_for("threads", threads, service.threads)
+            print(f"{calls} calls, {size} KiB at first, {size_at_end} KiB at the end", flush=True)
+            if abs(size_at_end - size) * 50 > size:
+                raise Failed("the resident size moves by more than two percent")
+            print(f"ended after {service.end(2.0):.2f} seconds")
+        finally:
+            service.kill()
+
+
+def main() -> int:
+    """Soaks the service for as long as the words say."""
+    try:
+        with tempfile.TemporaryDirectory() as folder:
+            soak(Path(sys.argv[1]), int(sys.argv[2]), int(sys.argv[3]), Path(folder))
+    except Failed as failure:
+        print(f"failed: {failure}", file=sys.stderr)
+        return 1
+    return 0
+
+
+if __name__ == "__main__":
+    sys.exit(main())

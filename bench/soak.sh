@@ -1,0 +1,20 @@
+#!/bin/bash
+# Calls a service over connections that come and go, hostile ones among them, for an hour: each call has to be answered
+# once and by its own argument, the metrics have to add up, the resident size at the end has to be within two percent of
+# that after the first minute, and no thread and no descriptor may be left over (soak.py).
+#
+#   bench/soak.sh [-s SECONDS] [-p PORT] [PROGRAM]     PROGRAM is proved and built where none is given
+set -euo pipefail
+
+here=$(cd "$(dirname "$0")" && pwd)
+seconds=3600 port=7416
+while getopts s:p: option; do
+    case $option in
+    s) seconds=$OPTARG ;;
+    p) port=$OPTARG ;;
+    *) exit 2 ;;
+    esac
+done
+shift $((OPTIND - 1))
+. "$here/program.sh"
+python3 "$here/soak.py" "$program" "$port" "$seconds"

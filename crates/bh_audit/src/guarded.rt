@@ -1,0 +1,80 @@
+//! The lock, and the only two functions that reach what it guards.
+
+ghost use Rattle.std.specs.Prelude.{◌≡◌, ◌≢◌, ◌==◌, ◌<◌, Bool, Err, true};
+ghost use Rattle.bh_audit.specs.declared.error.AuditError.TheVariants.{NotAudited};
+ghost use Rattle.bh_audit.specs.Accounts.{IsAccountOf};
+ghost use Rattle.bh_audit.specs.Books.{BookView};
+ghost use Rattle.bh_audit.specs.Finish.{FinishSays, OfReport};
+ghost use Rattle.bh_audit.specs.Turns.{Did, IsAllowed, may_step};
+
+use crate::account::audit;
+use crate::asks::{Answer, Ask};
+use crate::book::Book;
+use crate::clock::Clock;
+use crate::error::AuditError;
+use crate::locked::Locked;
+use crate::pass::Pass;
+use crate::waiting::Place;
+use bh_base::Reply;
+use bh_journal::AuditReport;
+use std::alloc::Global;
+use std::sync::{Mutex, Wait};
+
+/// A book and its stop mark under a lock.
+///
+/// No contract can name what lies under it, so none can say that `ask` does no more than to hand it to `Locked::answer`,
+/// nor that `finish` tells of what the lock gives up. These two are to be read; nothing else reaches a guard.
+#[derive(Drop)]
+pub(crate) struct Guarded<const A: u32> {
+    lock: Mutex<Locked<A>>,
+}
+
+impl<const A: u32> Guarded<A> {
+    /// A book that is not stopped, under a lock that nobody has.
+    pub(crate) fn new(book: Book) -> Guarded<A>
+        requires { book.audited ≡ (A == 1) }
+    {
+        Guarded {
+            lock: Mutex::new(Locked {
+                book,
+                stopped: false,
+            }),
+        }
+    }
+
+    /// Has done what is asked for, in one turn of the lock. Whoever has to wait gives up the lock, waits at the place,
+    /// and asks again.
+    pub(crate) fn ask<R: Wait, C: Clock>(
+        &self,
+        rt: &R,
+        place: &Place,
+        ask: &Ask,
+        clock: &C,
+        pass: &mut Pass,
+        reply: &mut Reply,
+    ) -> Answer
+        requires room { may_step ask.now ≡ true → (A == 1) ≡ true → 0 < pass.old.room }
+        requires allowed { IsAllowed ask.now }
+        ensures { Did C.moments (A == 1) ask.now pass.old pass.new reply.new result.said result.freed }
+    {
+        let mut guard = self.lock.lock(rt);
+        for _ in rt.forever() {
+            match guard.answer(ask, clock, pass, reply) {
+                Some(answer) => return answer,
+                None => guard = place.wait(rt, guard),
+            }
+        }
+        unreachable!()
+    }
+
+    /// The account of what the lock guards, where the passes agree with it.
+    pub(crate) fn finish(self, alloc: Global, passes: &[Pass]) -> Result<AuditReport, AuditError>
+        requires { (A == 1) ≡ true }
+        ensures says { FinishSays passes.now result }
+        ensures account { (book : BookView) × (stopped : Bool) × OfReport (IsAccountOf book stopped) result }
+        ensures audited { result ≢ Err NotAudited }
+    {
+        let Guarded { lock } = self;
+        audit(alloc, lock.into_inner(), passes)
+    }
+}

@@ -1,0 +1,65 @@
+//! The line on standard error for a run that was refused or ended by a fault, and its status.
+//!
+//! Whether the line could be written changes nothing: there is nowhere left to say so.
+
+ghost use Rattle.std.specs.Prelude.{◌≡◌};
+ghost use Rattle.bh_commands.specs.Status.{settings_status};
+
+use crate::file::FileError;
+use bh_lines::PortError;
+use bh_props::SettingsError;
+use std::io::Write;
+
+/// The status where the settings are refused.
+const REFUSED: u8 = 1;
+
+/// The status where a fault ended the run.
+const FAULT: u8 = 3;
+
+/// Of settings that are refused.
+pub fn settings<E: Write>(errors: &mut E, error: SettingsError) -> u8
+    ensures { result ≡ settings_status error }
+{
+    let _ = writeln!(errors, "{error}");
+    match error {
+        SettingsError::Memory => FAULT,
+        _ => REFUSED,
+    }
+}
+
+/// Of a script that ended early.
+pub fn port<E: Write>(errors: &mut E, error: PortError) -> u8
+    ensures { result ≡ 3 }
+{
+    let _ = writeln!(errors, "{error}");
+    FAULT
+}
+
+/// Of a settings file that can't be read, or is too long.
+pub fn unreadable<E: Write>(errors: &mut E, error: FileError) -> u8
+    ensures { result ≡ 3 }
+{
+    match error {
+        FileError::Memory => settings(errors, SettingsError::Memory),
+        FileError::Unreadable | FileError::TooLong => {
+            let _ = writeln!(errors, "fault: file");
+            FAULT
+        }
+    }
+}
+
+/// Of a port that can't be bound.
+pub fn network<E: Write>(errors: &mut E) -> u8
+    ensures { result ≡ 3 }
+{
+    let _ = writeln!(errors, "fault: network");
+    FAULT
+}
+
+/// Of a thread that can't be started.
+pub fn thread<E: Write>(errors: &mut E) -> u8
+    ensures { result ≡ 3 }
+{
+    let _ = writeln!(errors, "fault: thread");
+    FAULT
+}

@@ -1,0 +1,225 @@
+//! The service on a port of this machine.
+
+ghost use Rattle.std.specs.Prelude.{◌≡◌, ◌⊎◌, IsErr};
+ghost use Rattle.bh_props.specs.SettingsFile.{settings_in};
+
+use crate::report;
+use bh_props::{Settings, SettingsError, settings_in};
+use bh_serve::{Acceptor, Limits, Reports, serve_through};
+use std::alloc::{AllocError, Global};
+use std::io::{Read, Write};
+use std::net::{Ipv4Addr, Net, SocketAddr, TcpListener, TcpStream};
+use std::rt::Clock;
+use std::sync::{Arc, Mutex, Wait};
+use std::thread::{JoinHandle, Threads};
+use std::{io, thread};
+
+/// Serves connections to a port of 127.0.0.1 under the settings, as many as the limits say, and answers the exit status.
+/// Where an input is given, its end tells the service to stop, whatever went before; what it gives does not matter.
+///
+/// - 0: the connections were served, or the input ended.
+/// - 1: the settings are refused, and no port was bound.
+/// - 3: the port could not be bound, or a fault of the service, as `serve_through` has them.
+///
+/// With 1 and 3 a line on `errors` says why. A thread of its own writes what the service says there, so that it waits for no
+/// reader, and at its end for three quarters of a second at most. Once the threads of the service stand, the line
+/// `listening` with the port's number is printed.
+pub fn serve_file<R, I, E>(
+    rt: &R,
+    alloc: Global,
+    settings: &[u8],
+    port: u16,
+    limits: Limits,
+    input: Option<I>,
+    mut errors: E,
+) -> u8
+where
+    I: Read + Send + Drop + 'static,
+    E: Write + Send + Drop + 'static,
+    R: Net<Listener = TcpListener, Stream = TcpStream>
+        + Threads
+        + Wait
+        + Clock
+        + Print
+        + Copy
+        + Send
+        + Sync
+        + 'static,
+    ensures status { (result ≡ 0) ⊎ ((result ≡ 1) ⊎ (result ≡ 3)) }
+    ensures refused_only { result ≡ 1 → IsErr (settings_in settings.now) }
+    ensures refused { IsErr (settings_in settings.now) → (result ≡ 1) ⊎ (result ≡ 3) }
+{
+    match settings_in(alloc, settings) {
+        Ok(settings) => serve_port(rt, alloc, &settings, port, limits, input, errors),
+        Err(error) => report::settings(&mut errors, error),
+    }
+}
+
+/// Binds the port, and serves the connections to it.
+fn serve_port<R, I, E>(
+    rt: &R,
+    alloc: Global,
+    settings: &Settings,
+    port: u16,
+    limits: Limits,
+    input: Option<I>,
+    mut errors: E,
+) -> u8
+where
+    I: Read + Send + Drop + 'static,
+    E: Write + Send + Drop + 'static,
+    R: Net<Listener = TcpListener, Stream = TcpStream>
+        + Threads
+        + Wait
+        + Clock
+        + Print
+        + Copy
+        + Send
+        + Sync
+        + 'static,
+    ensures { (result ≡ 0) ⊎ (result ≡ 3) }
+{
+    let Ok(listener) = TcpListener::bind(rt, (Ipv4Addr::LOCALHOST, port)) else {
+        return report::network(&mut errors);
+    };
+    let Ok(address) = listener.local_addr() else {
+        return report::network(&mut errors);
+    };
+    let Ok(acceptor) = shared_acceptor(alloc, limits) else {
+        return report::settings(&mut errors, SettingsError::Memory);
+    };
+    let watcher = match input {
+        Some(input) => match start_watcher(rt, input, &acceptor, address) {
+            Some(watcher) => Some(watcher),
+            None => return report::thread(&mut errors),
+        },
+        None => None,
+    };
+    let status = serve_reported(rt, alloc, settings, &acceptor, &listener, errors);
+    join_if_told(rt, &acceptor, watcher);
+    status
+}
+
+/// Serves the connections of the listener, with a thread that writes what is said of them.
+fn serve_reported<R, E>(
+    rt: &R,
+    alloc: Global,
+    settings: &Settings,
+    acceptor: &Acceptor,
+    listener: &TcpListener,
+    errors: E,
+) -> u8
+where
+    E: Write + Send + Drop + 'static,
+    R: Threads + Wait + Clock + Print + Copy + Send + Sync + 'static,
+    ensures { (result ≡ 0) ⊎ (result ≡ 3) }
+{
+    let errors = match Arc::new(alloc, Mutex::new(errors)) {
+        Ok(errors) => errors,
+        Err(refused) => {
+            let mut errors = refused.value.into_inner();
+            return report::settings(&mut errors, SettingsError::Memory);
+        }
+    };
+    let Ok(reports) = Arc::new(alloc, Reports::new()) else {
+        return report::settings(&mut *errors.lock(rt), SettingsError::Memory);
+    };
+    let Some(writer) = start_writer(rt, &reports, &errors) else {
+        return report::thread(&mut *errors.lock(rt));
+    };
+    let mut output = io::writer(rt);
+    let status = serve_through(
+        rt,
+        alloc,
+        acceptor,
+        listener,
+        settings,
+        &mut output,
+        &reports,
+    );
+    // One that is still held up by a reader is cut off by the end of the program.
+    if reports.finish(rt) {
+        writer.join(rt);
+    }
+    status
+}
+
+/// Starts the thread that writes what the service says.
+fn start_writer<R, E>(
+    rt: &R,
+    reports: &Arc<Reports, Global>,
+    errors: &Arc<Mutex<E>, Global>,
+) -> Option<JoinHandle<()>>
+where
+    R: Threads + Wait + Copy + Send + 'static,
+    E: Write + Send + Drop + 'static,
+{
+    let reports = Arc::try_clone(reports).ok()?;
+    let errors = Arc::try_clone(errors).ok()?;
+    let handles = *rt;
+    thread::spawn(rt, move || reports.write_to(&handles, &errors)).ok()
+}
+
+/// The acceptor of the service, which the watcher of standard input shares.
+fn shared_acceptor(alloc: Global, limits: Limits) -> Result<Arc<Acceptor, Global>, AllocError> {
+    Ok(Arc::new(alloc, Acceptor::new(alloc, limits)?)?)
+}
+
+/// Starts the thread that tells the service to stop at the end of standard input.
+fn start_watcher<R, I>(
+    rt: &R,
+    input: I,
+    acceptor: &Arc<Acceptor, Global>,
+    address: SocketAddr,
+) -> Option<JoinHandle<()>>
+where
+    R: Net<Listener = TcpListener, Stream = TcpStream>
+        + Threads
+        + Wait
+        + Clock
+        + Copy
+        + Send
+        + 'static,
+    I: Read + Send + Drop + 'static,
+{
+    let acceptor = Arc::try_clone(acceptor).ok()?;
+    let handles = *rt;
+    thread::spawn(rt, move || watch_all(&handles, input, &acceptor, address)).ok()
+}
+
+/// What the watcher does with its input.
+fn watch_all<R: Net + Wait + Clock, I: Read + Drop>(
+    rt: &R,
+    mut input: I,
+    acceptor: &Acceptor,
+    address: SocketAddr,
+) {
+    watch(rt, &mut input, acceptor, address);
+}
+
+/// Waits for the watcher, where standard input has ended. Where a fault ended the service, it may still wait for that
+/// end, and the end of the program cuts it off.
+fn join_if_told<R: Threads + Wait>(rt: &R, acceptor: &Acceptor, watcher: Option<JoinHandle<()>>) {
+    if let Some(watcher) = watcher
+        && acceptor.was_told(rt)
+    {
+        watcher.join(rt);
+    }
+}
+
+/// Reads the input to its end, and tells the service to stop then. An input that fails has ended.
+pub fn watch<R: Net + Wait + Clock, I: Read>(
+    rt: &R,
+    input: &mut I,
+    acceptor: &Acceptor,
+    address: SocketAddr,
+) {
+    let mut ignored = [0u8; 256];
+    for _ in 0..u64::MAX {
+        match input.read(&mut ignored) {
+            Ok(0) | Err(_) => break,
+            Ok(_) => {}
+        }
+    }
+    acceptor.tell(rt, address);
+}

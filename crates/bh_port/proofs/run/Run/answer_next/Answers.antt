@@ -1,0 +1,18 @@
+use Rattle.std.proofs.Common.{length, ap, arith, length-drop}
+use Rattle.std.proofs.lemmas.Result.{err_from_is_err_and}
+use Rattle.bh_port.proofs.Answering.{front-answered, front-within, last-unanswered}
+use Rattle.bh_port.proofs.run.Run.answer_next.Goals as goal
+
+pub returns-clause-answered : goal.returns-clause-answered
+returns-clause-answered c =
+    front-answered _ _ _ _ _ c.as_slice.result.now c.args.buffer.now.items c.advance.new.self.items c.in-Some.line c.as_slice.ensures c.in-Some.ensures c.in_ok-answer_line.ensures.answers c.advance.ensures.items
+
+pub returns-clause-shorter : goal.returns-clause-shorter
+returns-clause-shorter c = λ _.
+    let f = front-within c.as_slice.result.now c.args.buffer.now.items c.in-Some.line c.as_slice.ensures c.in-Some.ensures in
+    omega (arith, f.0, f.1, ap length c.advance.ensures.items, length-drop c.in-Some.line.taken c.args.buffer.now.items)
+
+pub returns-in_err-answer_line-clause-stopped : goal.returns-in_err-answer_line-clause-stopped
+returns-in_err-answer_line-clause-stopped c =
+    let p = err_from_is_err_and c.from_residual.result c.from_residual.ensures.1 in
+    rw (p.1, p.2) (λ before more agrees. last-unanswered _ _ _ before _ c.in_err-answer_line.ensures.kept)

@@ -1,0 +1,9 @@
+//! Tests of a service over the loopback interface, with its clients in threads beside it.
+#![tactic(auto)]
+
+#[cfg(test)]
+mod acceptor;
+#[cfg(test)]
+mod clients;
+#[cfg(test)]
+mod talks;

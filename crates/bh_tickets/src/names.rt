@@ -1,0 +1,96 @@
+//! Chains by cache name that no group has at present.
+
+ghost use Rattle.std.specs.Prelude.{◌≡◌, ◌≤◌, ◌+◌, ◌<◌, ◌^◌, length, IfOk, IfSome, OnErr, Some, slice_get};
+ghost use Rattle.bh_tickets.specs.Names.{IsExchanged, HasNames, names_of, with_names};
+ghost use Rattle.bh_tickets.specs.Spare.{GetsNames};
+
+use crate::group_slots::GroupSlots;
+use bh_base::Ticket;
+use bh_cache::GroupLists;
+use bh_slot_arena::Arena;
+use std::alloc::AllocError;
+
+/// Chains by cache name, without a slot on them: the lists of the third family from `names` up to `uncached`, which is
+/// that of slots without a cached ticket.
+#[derive(Clone, Copy, Debug)]
+pub struct NameLists {
+    pub names: usize,
+    pub uncached: usize,
+}
+
+/// The number of chains that no group has and that are so many. They are made where there are none. Refused, nothing has
+/// changed.
+pub fn ready_names(
+    arena: &mut Arena<Ticket, 3>,
+    left: &mut Vec<NameLists>,
+    chains: usize,
+) -> Result<usize, AllocError>
+    requires some { 0 < chains }
+    requires few { chains < 2 ^ 63 }
+    ensures ok { IfOk result (λ number. GetsNames chains number arena.old left.old.items arena.new left.new.items) }
+    ensures err { OnErr result ((arena.new ≡ arena.old) × (left.new.items ≡ left.old.items)) }
+{
+    if let Some(number) = number_of(left, chains) {
+        return Ok(number);
+    }
+    left.reserve(1)?;
+    arena.partition(0);
+    let names = arena.add_lists(2, chains + 1)?;
+    let number = left.len();
+    left.push_reserved(NameLists {
+        names,
+        uncached: names + chains,
+    });
+    Ok(number)
+}
+
+/// The number of some that are so many.
+fn number_of(left: &[NameLists], chains: usize) -> Option<usize>
+    requires { 0 < chains }
+    ensures { IfSome result (λ number. HasNames chains number left.now) }
+{
+    for (number, lists) in left.iter().enumerate() {
+        if lists.uncached.saturating_sub(lists.names) == chains {
+            return Some(number);
+        }
+    }
+    None
+}
+
+/// The group at the place, which has no slot, gets the chains of the number, and its own are left to others.
+pub fn exchange(
+    groups: &mut Vec<GroupSlots>,
+    left: &mut Vec<NameLists>,
+    place: usize,
+    number: usize,
+)
+    requires place { place < length groups.old.items }
+    requires number { number < length left.old.items }
+    ensures { IsExchanged place number groups.old.items left.old.items groups.new.items left.new.items }
+{
+    let was = groups[place].lists;
+    let names = left[number];
+    left[number] = names_of(&was);
+    groups[place] = GroupSlots::new(with_names(&was, &names), 0);
+}
+
+/// The chains by cache name of a group.
+fn names_of(lists: &GroupLists) -> NameLists
+    ensures { result ≡ names_of lists.now }
+{
+    NameLists {
+        names: lists.names,
+        uncached: lists.uncached,
+    }
+}
+
+/// The lists of a group, with these chains by cache name in the place of its own.
+fn with_names(lists: &GroupLists, names: &NameLists) -> GroupLists
+    ensures { result ≡ with_names names.now lists.now }
+{
+    let mut now = *lists;
+    now.names = names.names;
+    now.uncached = names.uncached;
+    now.free2 = names.uncached;
+    now
+}

@@ -1,0 +1,82 @@
+"""Bulkhead: calls of dependencies as commands of groups, each decision of which is a step of a proved core.
+
+    import bulkhead
+
+    service = bulkhead.open("settings.toml")
+
+    @service.command("payment", fallback=lambda order, *, cause: "later")
+    def charge(order):
+        return gateway.charge(order)
+
+    charge(order)                # its value, the fallback's, or an error that names the cause
+    charge.queue(order)          # a concurrent.futures.Future
+    await charge.run(order)      # asyncio
+
+`python/README.md` is a tutorial. `bulkhead.Service` is the service step by step, for those who keep their own threads.
+"""
+
+from __future__ import annotations
+
+from .commands import AsyncCommand, Command
+from .contexts import RequestContext
+from .errors import (
+    BadKey,
+    BadLine,
+    BadRequest,
+    BadStep,
+    CommandError,
+    Error,
+    Failed,
+    GroupFull,
+    Interrupted,
+    NoMemory,
+    NoSuchCommand,
+    NoSuchGroup,
+    NotOpen,
+    PoolRejected,
+    Reentered,
+    Refused,
+    SemaphoreRejected,
+    ShortCircuited,
+    Stopped,
+    TimedOut,
+    Worn,
+)
+from .metrics import Metrics
+from .service import CommandService, open
+from .steps import Reply, Service
+
+__version__ = "0.3.0"
+
+__all__ = [
+    "AsyncCommand",
+    "BadKey",
+    "BadLine",
+    "BadRequest",
+    "BadStep",
+    "Command",
+    "CommandError",
+    "CommandService",
+    "Error",
+    "Failed",
+    "GroupFull",
+    "Interrupted",
+    "Metrics",
+    "NoMemory",
+    "NoSuchCommand",
+    "NoSuchGroup",
+    "NotOpen",
+    "PoolRejected",
+    "Reentered",
+    "Refused",
+    "Reply",
+    "RequestContext",
+    "SemaphoreRejected",
+    "Service",
+    "ShortCircuited",
+    "Stopped",
+    "TimedOut",
+    "Worn",
+    "__version__",
+    "open",
+]

@@ -1,0 +1,63 @@
+"""A holder that is a `concurrent.futures.Future`."""
+
+from __future__ import annotations
+
+from concurrent.futures import Future
+from typing import TYPE_CHECKING, Any
+
+from . import _words as words
+from ._pools import help_out
+from ._runs import Holder
+
+if TYPE_CHECKING:
+    from ._core import Core
+
+
+class FutureHolder(Holder):
+    """A future that is answered by the thread which ends the ticket, or by a helper of the group."""
+
+    _has_notified = False
+
+    def __init__(self, turns: Core) -> None:
+        self._turns = turns
+        self.future: Future[Any] = Future()
+
+    def is_gone(self) -> bool:
+        return self.has_left or self.future.cancelled()
+
+    def tell(self, by_timer: bool) -> None:
+        run = self.run
+        if self.has_left:
+            return
+        if run is not None and (by_timer or self.outcome == words.RUN_FALLBACK):
+            help_out(run.group, self._fall_back if self.outcome == words.RUN_FALLBACK else self.resolve)
+        elif not self.is_open():
+            self.resolve()
+
+    def resolve(self) -> None:
+        """Hands the answer to the future. May be called again where it was interrupted."""
+        future = self.future
+        if future.cancelled():
+            if not self._has_notified:
+                self._has_notified = True
+                future.set_running_or_notify_cancel()
+            return
+        if future.done() or not (future.running() or future.set_running_or_notify_cancel()):
+            return
+        if self.outcome in (words.VALUE, words.FALLBACK_VALUE):
+            future.set_result(self.value)
+        else:
+            future.set_exception(self.exception())
+
+    def _fall_back(self) -> None:
+        """Runs the fallback in the variables of the ticket's first caller; that turn tells the future again."""
+        turns, run = self._turns, self.run
+        assert run is not None, "a fallback is of a ticket"
+        try:
+            variables = run.variables.copy() if run.variables is not None else None
+            operation, value = variables.run(turns.run_fallback, run) if variables else turns.run_fallback(run)
+        except BaseException:
+            operation, value = words.FALLBACK_FAILURE, None
+        turns.turn(turns.end_fallback, run, operation, value, self)
+        if not self.is_open():
+            self.resolve()

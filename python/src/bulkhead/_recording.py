@@ -1,0 +1,194 @@
+"""The record of a service: each step as a line of `bulkhead run`, and the replies if they are asked for."""
+
+from __future__ import annotations
+
+import json
+import threading
+from pathlib import Path
+from typing import TYPE_CHECKING, Any, BinaryIO, NamedTuple, Optional, Union
+
+from . import _library, _words as words
+from .errors import Error
+from .steps import metrics_in
+
+if TYPE_CHECKING:
+    from ._runs import Group
+    from ._core import Core
+
+_unpack_step, _unpack_reply = _library.STEP.unpack_from, _library.REPLY.unpack_from
+_KEY_AT, _COMMAND_AT = _library.KEY_AT, _library.COMMAND_AT
+_ENDS = {
+    words.FALLBACK_SUCCESS: "success",
+    words.FALLBACK_FAILURE: "failure",
+    words.FALLBACK_MISSING: "missing",
+}
+_TICKETS = (words.QUEUED, words.INLINE, words.FALLBACK_DUE, words.JOINED, words.ASSIGNED)
+_CAUSED = (words.FALLBACK_DUE, words.RUN_FALLBACK, words.FALLBACK_VALUE, words.ERROR)
+
+
+class Step(NamedTuple):
+    """A step and its reply: their numbers, and the metrics if it was a read. A record ends with its last one."""
+
+    numbers: tuple[int, ...]
+    key: bytes
+    command: int
+    told: tuple[int, ...]
+    is_last: bool
+    metrics: Optional[dict[str, Any]]
+
+
+class Act(NamedTuple):
+    """The line of a registration or a retirement, and its answer."""
+
+    line: bytes
+    answer: bytes
+
+
+Entry = Union[Step, Act]
+
+
+class Record:
+    """A record that is written. `is_whole` tells whether all that was to be written was."""
+
+    # how often it is written, in seconds, and how many steps wait at most
+    INTERVAL, ROOM = 0.1, 1_000_000
+
+    def __init__(self, path: Path, replies: Optional[Path], settings: bytes, turns: Core) -> None:
+        self.path, self.replies, self.settings = path, replies, path.with_suffix(".toml")
+        if self.settings in (path, replies) or path == replies:
+            raise Error("a record, its replies and its settings are three files")
+        self.is_whole = True
+        self.error: Optional[Exception] = None
+        self.pending: list[Entry] = []
+        self.is_last = False
+        self._turns = turns
+        self._groups: dict[int, Group] = {}
+        self._writing, self._over = threading.Lock(), threading.Event()
+        self._files: list[BinaryIO] = []
+        self.settings.write_bytes(settings)
+        # unbuffered: what a forked child has of a buffer would be written twice
+        self._files.append(path.open("wb", buffering=0))
+        if replies is not None:
+            self._files.append(replies.open("wb", buffering=0))
+
+    def start(self) -> None:
+        """Starts the thread that writes."""
+        threading.Thread(target=self._work, name="bulkhead-record", daemon=True).start()
+
+    def entry(self, given: bytearray, reply: bytearray) -> Entry:
+        """A step and its reply, under the lock."""
+        step, told = _unpack_step(given), _unpack_reply(reply)
+        key = bytes(given[_KEY_AT : _KEY_AT + step[5]])
+        metrics = metrics_in(reply) if told[0] == words.METRICS_TOLD else None
+        return Step(step, key, given[_COMMAND_AT], told, self.is_last, metrics)
+
+    def _work(self) -> None:
+        while not self._over.wait(self.INTERVAL):
+            self.write()
+
+    def write(self) -> None:
+        """Writes what was kept so far. A failure leaves the record not whole."""
+        with self._writing:
+            pending = self._turns.take_pending(self)
+            if not self.is_whole:
+                return
+            if len(pending) > self.ROOM:
+                self.is_whole = False
+                return
+            try:
+                lines = [self._lines(entry) for entry in pending]
+                for at, file in enumerate(self._files):
+                    _write_all(file, b"".join(line[at] for line in lines))
+            except Exception as error:
+                self.is_whole, self.error = False, error
+
+    def finish(self) -> None:
+        """Writes the rest, and closes the files."""
+        self._over.set()
+        self.write()
+        with self._writing:
+            for file in self._files:
+                file.close()
+            self._files = []
+
+    def drop(self) -> None:
+        """Of a forked process: what its parent writes it does not."""
+        self.is_whole, self.pending, self._files = False, [], []
+        self._over.set()
+
+    def locks(self) -> list[Any]:
+        """What a fork waits for."""
+        return [self._writing]
+
+    def _group(self, number: int) -> Group:
+        if number not in self._groups:
+            self._groups = {group.number: group for group in self._turns.every_group}
+        return self._groups[number]
+
+    def _lines(self, entry: Entry) -> tuple[bytes, bytes]:
+        if isinstance(entry, Act):
+            return entry.line + b"\n", entry.answer
+        group = self._group(entry.numbers[0])
+        said = _step_line(group, entry)
+        if entry.is_last:
+            said["record"] = "whole"
+        return _line(said), _line(dict(sorted(_reply_line(group, entry).items())))
+
+
+def _line(said: dict[str, Any]) -> bytes:
+    return json.dumps(said, separators=(",", ":")).encode() + b"\n"
+
+
+def _write_all(file: BinaryIO, content: bytes) -> None:
+    rest = memoryview(content)
+    while rest:
+        rest = rest[file.write(rest) :]
+
+
+def _step_line(group: Group, step: Step) -> dict[str, Any]:
+    """The members of a step's line. The core has no argument and no body of a call."""
+    _, moment, ticket, context, operation, _, _ = step.numbers
+    word = words.OPERATIONS[operation - 1]
+    said: dict[str, Any] = {"op": word.partition("-")[0], "group": group.name, "now": moment}
+    if operation in (words.SUBMIT, words.SUBMIT_SHARED):
+        said |= {"arg": ""}
+        if operation == words.SUBMIT_SHARED:
+            said |= {"context": context, "key": step.key.decode()}
+    elif operation in (words.FAIL, words.FAIL_BAD_REQUEST):
+        said |= {"op": "fail", "ticket": ticket, "bad": operation == words.FAIL_BAD_REQUEST}
+    elif operation in _ENDS:
+        said |= {"ticket": ticket, "end": _ENDS[operation]}
+    elif operation in (words.FINISH, words.COLLECT):
+        said |= {"ticket": ticket}
+    elif operation == words.CLOSE_CONTEXT:
+        said |= {"context": context}
+    if operation in (words.FINISH, words.FALLBACK_SUCCESS):
+        said |= {"body": ""}
+    if operation in (words.SUBMIT, words.SUBMIT_SHARED, words.READ) and step.command:
+        said |= {"command": group.command_names()[step.command]}
+    return said
+
+
+def _reply_line(group: Group, step: Step) -> dict[str, Any]:
+    """The members of a reply's line."""
+    kind, cause, fallback, _, number, command = step.told
+    said: dict[str, Any] = {"reply": words.KINDS[kind - 1]}
+    if kind in _TICKETS:
+        said |= {"ticket": number}
+    if kind == words.ASSIGNED:
+        said |= {"arg": ""} | ({"command": group.command_names()[command]} if command else {})
+    elif kind in (words.VALUE, words.FALLBACK_VALUE):
+        said |= {"body": ""}
+    elif kind == words.EXPIRED:
+        said |= {"count": number}
+    elif kind == words.CLOSED:
+        said |= {"released": number}
+    if kind in _CAUSED:
+        said |= {"cause": words.CAUSES[cause - 1]}
+    if kind == words.ERROR:
+        said |= {"fallback": words.FALLBACKS[fallback - 1]}
+    metrics = step.metrics
+    if metrics is not None:
+        said |= {name: value for name, value in metrics.items() if name not in words.EVENTS}
+        said |= {"events": {name.upper(): metrics[name] for name in words.EVENTS if metrics[name]}}
+    return said

@@ -1,0 +1,199 @@
+"""Commands: functions whose calls are steps of a group."""
+
+from __future__ import annotations
+
+import asyncio
+import copy
+import functools
+from collections.abc import Callable, Coroutine
+from concurrent.futures import Future
+from threading import get_ident
+from typing import TYPE_CHECKING, Any, Generic, Optional, ParamSpec, TypeVar
+
+from . import _coroutines, _words as words
+from ._futures import FutureHolder
+from ._runs import UNTOLD, Call, Caller, Group, Holder
+from .contexts import checked_key
+from .errors import BadRequest, Reentered, Refused
+
+if TYPE_CHECKING:
+    from ._core import Core
+    from .service import CommandService
+
+P = ParamSpec("P")
+R = TypeVar("R")
+T = TypeVar("T")
+Self = TypeVar("Self", bound="_Declared")
+
+
+class _Declared:
+    """What the two kinds of command share: the function, and the group and the number of the command in it."""
+
+    def __init__(
+        self,
+        service: CommandService,
+        group: Group,
+        number: int,
+        function: Callable[..., Any],
+        fallback: Optional[Callable[..., Any]],
+        key: Optional[Callable[..., Any]],
+    ) -> None:
+        self._service, self._group, self._number = service, group, number
+        self._function, self._fallback, self._key = function, fallback, key
+        self._turns: Core = service.turns
+        self._is_pooled = group.commands[number].is_pooled
+        self._spelled = group.spelled(number)
+        self._bound: tuple[Any, ...] = ()
+        functools.update_wrapper(self, function)
+
+    @property
+    def name(self) -> str:
+        """The name of the command, by which its metrics go."""
+        return self._spelled
+
+    def of(self: Self, group: str) -> Self:
+        """The same command in a group that was registered like this one's.
+
+        Raises `NoSuchGroup` where no group that is there has the name, and `Refused` where it is not like this one's.
+        A group that is retired is not found again: ask once more after its name was registered again.
+        """
+        of = self._service.group(group)
+        if of.like != self._group.like:
+            raise Refused(f"{group} was not registered like {self._group.like}, which has the command {self._spelled}")
+        made = copy.copy(self)
+        made._group, made._spelled = of, of.spelled(self._number)
+        return made
+
+    def __get__(self: Self, instance: object, owner: Optional[type] = None) -> Self:
+        """The command of a method is bound as the method would be."""
+        if instance is None:
+            return self
+        made = copy.copy(self)
+        made._bound = (instance,)
+        return made
+
+    def _call(self, arguments: tuple[Any, ...], named: dict[str, Any]) -> Call:
+        if self._bound:
+            arguments = (*self._bound, *arguments)
+        return Call(self._spelled, self._function, self._fallback, arguments, named)
+
+    def _named(self, call: Call) -> tuple[Any, Any]:
+        """The request context and the key of a call, if it has both."""
+        context = self._service.current.get()
+        if context is None or self._key is None:
+            return None, None
+        return context, checked_key(self._key(*call.arguments, **call.named))
+
+    def _leave(self, holder: Holder, error: BaseException) -> None:
+        """What a holder owes is done, whatever comes in between."""
+        if holder.run is None or not holder.is_open():
+            return
+        if holder.error is None:
+            holder.error = error
+        while True:
+            try:
+                self._turns.turn(self._turns.leave, holder)
+                return
+            except Exception:
+                return
+            except BaseException:
+                continue
+
+
+class Command(_Declared, Generic[P, R]):
+    """A command of a plain function. To call it is to execute it."""
+
+    def __call__(self, *args: P.args, **kwargs: P.kwargs) -> R:
+        """Executes the command: its value, or the fallback's. Raises a `CommandError` where there is neither."""
+        turns, group = self._turns, self._group
+        call = Call(self._spelled, self._function, self._fallback, (*self._bound, *args), kwargs)
+        context, key = (None, None) if self._key is None else self._named(call)
+        if self._is_pooled and not group.threads:
+            self._hire()
+        holder = Caller()
+        try:
+            turns.turn(turns.submit, group, self._number, call, holder, context, key)
+            run = holder.run
+            if holder.runs_it and run is not None:
+                run.thread = get_ident()
+                operation, value, holder.error = call.run()
+                turns.turn(turns.end, run, operation, value, holder.error, holder)
+                if operation != words.FINISH:
+                    _raise_own(holder, operation)
+                holder.wait()
+            elif holder.outcome == UNTOLD:
+                self._refuse_own(holder)
+                holder.wait()
+            if holder.outcome == words.RUN_FALLBACK and run is not None:
+                operation, value = turns.run_fallback(run)
+                turns.turn(turns.end_fallback, run, operation, value, holder)
+        except BaseException as error:
+            self._leave(holder, error)
+            raise
+        answer: R = holder.value if holder.outcome == words.VALUE else holder.answer()
+        return answer
+
+    def queue(self, *args: P.args, **kwargs: P.kwargs) -> Future[R]:
+        """Queues the command, which has to run under THREAD: a future of what a call would give or raise."""
+        if not self._is_pooled:
+            raise Refused(f"{self._spelled} runs under SEMAPHORE: to queue it, it has to run under THREAD")
+        turns, call = self._turns, self._call(args, kwargs)
+        context, key = self._named(call)
+        if not self._group.threads:
+            self._hire()
+        holder = FutureHolder(turns)
+        try:
+            turns.turn(turns.submit, self._group, self._number, call, holder, context, key)
+            if holder.run is None:
+                holder.resolve()
+            elif holder.outcome == UNTOLD:
+                self._refuse_own(holder)
+        except BaseException as error:
+            self._leave(holder, error)
+            raise
+        return holder.future
+
+    async def run(self, *args: P.args, **kwargs: P.kwargs) -> R:
+        """The same for a coroutine: awaits what a call would give. To cancel it is to cancel the future."""
+        return await asyncio.wrap_future(self.queue(*args, **kwargs))
+
+    def _refuse_own(self, holder: Holder) -> None:
+        """Raises where the caller would wait for a run of its own thread."""
+        run = holder.run
+        if run is not None and run.thread == get_ident():
+            raise Reentered(f"{self._spelled}: the run would wait for itself")
+
+    def _hire(self) -> None:
+        """Starts the first worker of the group."""
+        turns, group = self._turns, self._group
+        turns.turn(turns.hire, group)
+        if not group.threads and not group.over:
+            raise RuntimeError(f"no thread could be started for {group.name}")
+
+
+def _raise_own(holder: Holder, operation: int) -> None:
+    """Raises in its own thread what the function raised, where that says nothing of the dependency."""
+    error = holder.error
+    if error is not None and operation == words.FAIL_BAD_REQUEST:
+        if not isinstance(error, BadRequest) or holder.outcome == words.BAD_REQUEST:
+            raise error
+
+
+class AsyncCommand(_Declared, Generic[P, T]):
+    """A command of a coroutine function, which runs as a task under SEMAPHORE. To await its call is to execute it."""
+
+    def __call__(self, *args: P.args, **kwargs: P.kwargs) -> Coroutine[Any, Any, T]:
+        """Executes the command: its value, or the fallback's, which may be a coroutine function too."""
+        return self.run(*args, **kwargs)
+
+    async def run(self, *args: P.args, **kwargs: P.kwargs) -> T:
+        """The same. At its timeout the caller is answered at once, and the task is cancelled."""
+        call = self._call(args, kwargs)
+        context, key = self._named(call)
+        where = self._turns, self._group, self._number
+        value: T = await _coroutines.execute(*where, call, context, key, self._leave)
+        return value
+
+    def queue(self, *args: P.args, **kwargs: P.kwargs) -> Future[T]:
+        """Refused: a coroutine function runs in the loop of its caller."""
+        raise Refused(f"{self._spelled} is a coroutine function: await it")

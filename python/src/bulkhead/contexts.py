@@ -1,0 +1,94 @@
+"""Request contexts: within one, calls with equal keys share one answer."""
+
+from __future__ import annotations
+
+from contextvars import ContextVar, Token
+from types import TracebackType
+from typing import TYPE_CHECKING, Any, Optional
+
+from . import _words as words
+from .errors import BadKey, Error
+
+if TYPE_CHECKING:
+    from ._runs import Group, Run
+    from ._core import Core
+
+
+class RequestContext:
+    """A request context, from `with service.context():` until that block ends. It is entered once."""
+
+    def __init__(self, turns: Core, current: ContextVar[Optional[RequestContext]], number: int) -> None:
+        self._turns, self._current = turns, current
+        self._token: Optional[Token[Optional[RequestContext]]] = None
+        self._names: dict[tuple[type, object], bytes] = {}
+        self.number, self.is_open = number, True
+        self.groups: dict[Group, None] = {}
+        self.runs: list[Run] = []
+
+    def __enter__(self) -> RequestContext:
+        if self._token is not None or not self.is_open:
+            raise Error("a request context is entered once")
+        self._token = self._current.set(self)
+        return self
+
+    def __exit__(
+        self, kind: Optional[type[BaseException]], error: Optional[BaseException], trace: Optional[TracebackType]
+    ) -> None:
+        if self._token is not None:
+            self._current.reset(self._token)
+        interrupt: Optional[BaseException] = None
+        while self.is_open:
+            try:
+                self._turns.turn(self._close)
+            except Exception:
+                raise
+            except BaseException as stopped:
+                interrupt = stopped
+        if interrupt is not None:
+            raise interrupt
+
+    def name_of(self, key: tuple[type, object]) -> bytes:
+        """What the core knows a key by. Called under the lock, with a key of `checked_key`."""
+        return self._names.setdefault(key, str(len(self._names)).encode())
+
+    def _close(self) -> None:
+        turns = self._turns
+        turns.todo += (self,)
+        self.is_open = False
+
+    def go_on(self, turns: Core) -> None:
+        """Ends the context in the next of its groups."""
+        group = next(iter(self.groups), None)
+        if group is None:
+            self.runs = []
+            turns.work_done()
+        elif group.over:
+            self.forget(group)
+            self.groups.pop(group, None)
+        else:
+            turns.step(self._closed, (group,), group, words.CLOSE_CONTEXT, 0, self.number)
+
+    def _closed(self, group: Group) -> None:
+        turns = self._turns
+        if turns.reply[turns.kind_at] == words.WORN:
+            turns.is_over(group, words.WORN)
+        self.forget(group)
+        self.groups.pop(group, None)
+        turns.unit = None
+
+    def forget(self, group: Group) -> None:
+        """The answers of a group are cached no longer."""
+        for run in self.runs:
+            if run.group is group:
+                run.is_cached = False
+                if not run.holders:
+                    group.runs.pop(run.ticket, None)
+
+
+def checked_key(key: Any) -> Optional[tuple[type, object]]:
+    """A key beside its type, so that no two keys of different types are equal."""
+    if key is None:
+        return None
+    if type(key) not in (str, int):  # the == and hash of another one would be foreign code under the lock
+        raise BadKey(f"a key is a str or an int, and not {type(key).__name__}")
+    return type(key), key

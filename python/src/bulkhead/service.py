@@ -1,0 +1,295 @@
+"""The service of commands: groups, commands, contexts, metrics, and the end."""
+
+from __future__ import annotations
+
+import json
+import os
+import time
+from collections.abc import Callable, Coroutine
+from contextlib import suppress
+from contextvars import ContextVar
+from itertools import count
+from pathlib import Path
+from types import TracebackType
+from typing import Any, Optional, ParamSpec, Protocol, TypeVar, Union, overload
+
+from . import _coroutines, _ends, prometheus, settings as of_settings
+from ._recording import Record
+from ._runs import RETIRED, Group, Run
+from ._timer import Timer
+from ._core import Core
+from .commands import AsyncCommand, Command
+from .contexts import RequestContext
+from .errors import Error, NoSuchCommand, NoSuchGroup, Refused, Stopped, Worn
+from .metrics import Metrics
+from .steps import Service as StepService, metrics_in
+
+P = ParamSpec("P")
+R = TypeVar("R")
+T = TypeVar("T")
+
+
+class _Declares(Protocol):
+    """What `service.command(..)` gives: it makes a command of a function."""
+
+    @overload
+    def __call__(self, function: Callable[P, Coroutine[Any, Any, T]]) -> AsyncCommand[P, T]: ...  # type: ignore[misc]
+    @overload
+    def __call__(self, function: Callable[P, R]) -> Command[P, R]: ...
+
+
+def open(  # noqa: A001: it is called as bulkhead.open
+    settings: Union[str, os.PathLike[str], None] = None,
+    *,
+    text: Union[str, bytes, None] = None,
+    clock: Optional[Callable[[], int]] = None,
+    on_transition: Optional[Callable[[str, str, str], object]] = None,
+) -> CommandService:
+    """Opens a service by a settings file, which is given by its path or as `text=`.
+
+    `clock` gives the moments of a test, whole milliseconds from 0 on; then there is no timer, and `expire` times out what
+    is due. `on_transition` is called with the name of a command and two of "closed", "open" and "half-open" where its
+    circuit breaker changes. Raises `Refused`, with the program's text, where the settings are refused, and an OSError
+    where the file cannot be read.
+    """
+    return CommandService(of_settings.read(settings, text), clock, on_transition)
+
+
+class CommandService:
+    """A service of commands, which `bulkhead.open` gives. It is a context manager, whose end closes it."""
+
+    def __init__(
+        self,
+        settings: bytes,
+        clock: Optional[Callable[[], int]] = None,
+        on_transition: Optional[Callable[[str, str, str], object]] = None,
+    ) -> None:
+        self._settings, self._opened = settings, StepService(settings)
+        begun = time.monotonic_ns()
+        self._is_of_a_test = clock is not None
+        self.turns = Core(self._opened, clock or (lambda: (time.monotonic_ns() - begun) // 1_000_000))
+        self.turns.on_transition = on_transition
+        self._in_force = {group.name: group for group in of_settings.in_force(self._opened.check())}
+        groups = [Group(number, group, name) for number, (name, group) in enumerate(self._in_force.items())]
+        for group in groups:
+            self.turns.add_group(group)
+        self._named = {group.name: group for group in groups}
+        self._places = {name: (group, at) for group in groups for at, name in enumerate(group.command_names())}
+        self._declared: set[str] = set()
+        self._numbers = count(1)
+        self.current: ContextVar[Optional[RequestContext]] = ContextVar("bulkhead_context", default=None)
+        _ends.watch(self)
+        if clock is None:
+            timer = Timer(self.turns)
+            self.turns.alarm = timer
+            timer.start()
+
+    def __enter__(self) -> CommandService:
+        return self
+
+    def __exit__(
+        self, kind: Optional[type[BaseException]], error: Optional[BaseException], trace: Optional[TracebackType]
+    ) -> None:
+        self.close()
+
+    # -- commands
+
+    def command(
+        self,
+        name: str,
+        *,
+        fallback: Optional[Callable[..., Any]] = None,
+        key: Optional[Callable[..., Any]] = None,
+    ) -> _Declares:
+        """Makes a command of the function below it: that of a group of the settings, or a further one.
+
+        `fallback` is called with the arguments of the call and `cause`, a `CommandError`, where the run gives no value.
+        `key` is called with the arguments and gives a str or an int: within a request context, calls with equal keys
+        share one answer. Raises `NoSuchGroup` where no group and no command has the name, and `Refused` where the name
+        was given already, or where the function cannot run under the strategy that the settings have for it.
+        """
+        place = self._places.get(name)
+        if place is None:
+            raise NoSuchGroup(f"no group and no command of the settings is called {name!r}")
+        group, number = place
+
+        def declare(function: Callable[..., Any]) -> Any:
+            if name in self._declared:
+                raise Refused(f"the command {name} was declared already")
+            is_coroutine = _coroutines.is_coroutine_function(function)
+            if is_coroutine and group.commands[number].is_pooled:
+                raise Refused(f"{name} runs under THREAD, and a coroutine function can run under SEMAPHORE alone")
+            if not is_coroutine and _coroutines.is_coroutine_function(fallback):
+                raise Refused(f"the fallback of {name} is a coroutine function, and the function is none")
+            self._declared.add(name)
+            kind = AsyncCommand if is_coroutine else Command
+            return kind(self, group, number, function, fallback, key)
+
+        return declare
+
+    def context(self) -> RequestContext:
+        """A request context: within its `with` block, calls with equal keys share one answer."""
+        return RequestContext(self.turns, self.current, next(self._numbers))
+
+    def group(self, name: str) -> Group:
+        """What the package keeps of the group of the name. Raises `NoSuchGroup`, and `Stopped` after the end."""
+        if not self.turns.is_open:
+            raise Stopped("the service is closed")
+        group = self._named.get(name)
+        if group is None:
+            raise NoSuchGroup(f"no group that is there is called {name!r}")
+        return group
+
+    # -- groups that come and go
+
+    def register(self, name: str, *, like: str) -> None:
+        """Registers a new group with the properties of one of the settings. Raises `Refused` where that cannot be."""
+        if like not in self._in_force:
+            raise NoSuchGroup(f"no group of the settings is called {like!r}")
+        self.turns.turn(self._register, name, like)
+
+    def _register(self, name: str, like: str) -> None:
+        answer = self._act({"op": "register", "group": name, "like": like})
+        if answer.get("reply") != "registered":
+            whys = {"name": "it is no name for a group, or is taken", "groups": "10,000 groups were registered"}
+            raise Refused(f"the group {name!r} is not registered: {whys.get(str(answer.get('error')), answer)}")
+        group = Group(self._opened.group(name), self._in_force[like], name)
+        self.turns.add_group(group)
+        self._named[name] = group
+
+    def retire(self, name: str) -> bool:
+        """Retires a group, which is then there no more, and tells whether it did.
+
+        It does not where the group is in use: where a run goes on, or an answer has still to be collected.
+        """
+        group = self.group(name)
+        answer: bool = self.turns.turn(self._retire, group)
+        return answer
+
+    def _retire(self, group: Group) -> bool:
+        if self._named.get(group.name) is not group:
+            return True
+        answer = self._act({"op": "retire", "group": group.name})
+        if answer.get("reply") != "retired":
+            return False
+        del self._named[group.name]
+        self.turns.end_group(group, RETIRED)
+        self.turns.groups.remove(group)
+        return True
+
+    def _act(self, act: dict[str, str]) -> dict[str, Any]:
+        """Has the core register or retire a group, in a turn."""
+        if not self.turns.is_open:
+            raise Stopped("the service is closed")
+        line = json.dumps(act).encode()
+        answer = self._opened.line(line)
+        self.turns.note_act(line, answer)
+        told: dict[str, Any] = json.loads(answer)
+        return told
+
+    # -- metrics and time
+
+    @overload
+    def metrics(self) -> dict[str, Metrics]: ...
+    @overload
+    def metrics(self, name: str) -> Metrics: ...
+    def metrics(self, name: Optional[str] = None) -> Union[Metrics, dict[str, Metrics]]:
+        """The metrics of a command at this moment, or those of all commands by their names.
+
+        A group's own command goes by the group's name, and a further one of a registered group as "tenant-7/refund".
+        Each look is a step of the group. Raises `NoSuchCommand`, `Worn` and `Stopped`.
+        """
+        _coroutines.sweep(self.turns)
+        if name is not None:
+            return self._read(*self._place(name))
+        told = {}
+        for group in [*self.turns.groups]:
+            for number in range(len(group.commands)):
+                with suppress(NoSuchGroup, Worn):
+                    told[group.spelled(number)] = self._read(group, number)
+        return told
+
+    def _place(self, name: str) -> tuple[Group, int]:
+        group_name, _, of_group = name.partition("/")
+        group = self._named.get(group_name)
+        if group is not None and of_group and of_group in group.command_names()[1:]:
+            return group, group.command_names().index(of_group)
+        if group is not None and not of_group:
+            return group, 0
+        place = self._places.get(name)
+        if place is None or place[0].over == RETIRED:
+            raise NoSuchCommand(f"no command is called {name!r}")
+        return place
+
+    def _read(self, group: Group, number: int) -> Metrics:
+        reply: bytearray = self.turns.turn(self.turns.read, group, number)
+        return Metrics(**metrics_in(reply))  # type: ignore[arg-type]
+
+    def prometheus(self) -> str:
+        """The metrics of all commands in Prometheus's text format."""
+        return prometheus.text(self.metrics(), [*self.turns.groups])
+
+    def expire(self) -> int:
+        """Times out what is due, and tells how many calls that were. Without a clock of its own the timer does so."""
+        _coroutines.sweep(self.turns)
+        number: int = self.turns.turn(self.turns.expire_all)
+        return number
+
+    # -- records and the end
+
+    def record(
+        self, path: Union[str, os.PathLike[str]], *, replies: Union[str, os.PathLike[str], None] = None
+    ) -> Record:
+        """Writes each step from now on as a line of `bulkhead run`, and the settings beside it, as PATH with ".toml".
+
+        `replies` is a path to which the replies are written, as `bulkhead run` would write them. It is called before the
+        first step; raises an `Error` after it. The record's `is_whole` tells whether all could be written.
+        """
+        self.turns.turn(self._begin_record, None)
+        record = Record(Path(path), Path(replies) if replies else None, self._settings, self.turns)
+        try:
+            self.turns.turn(self._begin_record, record)
+        except BaseException:
+            record.finish()
+            raise
+        record.start()
+        return record
+
+    def _begin_record(self, record: Optional[Record]) -> None:
+        """Begins a record, or where none is given looks whether one may begin."""
+        if not self.turns.is_open:
+            raise Stopped("the service is closed")
+        if self.turns.has_stepped or self.turns.record is not None:
+            raise Error("a record begins before the first step, and there is one of a service")
+        self.turns.record = record
+
+    def runs(self) -> list[Run]:
+        """The tickets that are there, for tests and for a look at what goes on."""
+        return [run for group in [*self.turns.groups] for run in [*group.runs.values()]]
+
+    def close(self) -> None:
+        """Closes the service: whoever waits is told `Stopped`, and so is every later call. Waits for no function."""
+        turns, record = self.turns, self.turns.record
+        interrupt: Optional[BaseException] = None
+        while turns.is_open:
+            try:
+                turns.turn(self._close)
+            except Exception:
+                raise
+            except BaseException as error:
+                interrupt = error
+        if record is not None:
+            record.finish()
+        if interrupt is not None:
+            raise interrupt
+
+    def _close(self) -> None:
+        turns = self.turns
+        if turns.record is not None:
+            group = next((one for one in turns.groups if not one.over), None)
+            if group is not None:
+                turns.record.is_last = True
+                with suppress(Worn):
+                    turns.read(group, 0)
+        turns.close()
+

@@ -1,0 +1,103 @@
+"""What the tests share: settings, a clock by hand, and the program that replays records."""
+
+from __future__ import annotations
+
+import os
+import subprocess
+import tempfile
+import threading
+import time
+import unittest
+from collections.abc import Callable
+from pathlib import Path
+from typing import Any, Optional
+
+import bulkhead
+
+PROGRAM = os.environ.get("BULKHEAD_PROGRAM", "")
+
+SETTINGS = """
+service.groups = ["pool", "permits"]
+service.command.more.group = "pool"
+hystrix.command.permits.execution.isolation.strategy = "SEMAPHORE"
+hystrix.command.permits.execution.isolation.semaphore.maxConcurrentRequests = 2
+[hystrix.threadpool.default]
+coreSize = 2
+maxQueueSize = 2
+"""
+
+
+class Hand:
+    """A clock that a test sets."""
+
+    def __init__(self) -> None:
+        self.now = 0
+
+    def __call__(self) -> int:
+        return self.now
+
+
+class Gate:
+    """A function that waits until the test lets it go on."""
+
+    def __init__(self) -> None:
+        self.begun, self._open = threading.Semaphore(0), threading.Event()
+
+    def __call__(self, value: Any = None) -> Any:
+        self.begun.release()
+        assert self._open.wait(10)
+        return value
+
+    def open(self) -> None:
+        self._open.set()
+
+    def wait(self, times: int = 1) -> None:
+        """Waits until it was entered so often."""
+        for _ in range(times):
+            assert self.begun.acquire(timeout=10)
+
+
+class Case(unittest.TestCase):
+    """A test with services that are closed behind it."""
+
+    def open(self, text: str = SETTINGS, **options: Any) -> bulkhead.CommandService:
+        service = bulkhead.open(text=text, **options)
+        self.addCleanup(service.close)
+        return service
+
+    def by_hand(self, text: str = SETTINGS, **options: Any) -> tuple[bulkhead.CommandService, Hand]:
+        hand = Hand()
+        return self.open(text, clock=hand, **options), hand
+
+    def folder(self) -> Path:
+        folder = tempfile.TemporaryDirectory()
+        self.addCleanup(folder.cleanup)
+        return Path(folder.name)
+
+    def until(self, holds: Callable[[], object], seconds: float = 5) -> None:
+        """Waits until something holds that another thread brings about."""
+        end = time.monotonic() + seconds
+        while not holds():
+            self.assertLess(time.monotonic(), end, "it does not come to hold")
+            time.sleep(0.002)
+
+    def assert_idle(self, service: bulkhead.CommandService) -> None:
+        """No ticket is left, in Python and in the core."""
+        self.until(lambda: not service.runs())
+        self.until(lambda: all(not (told.busy or told.queued) for told in service.metrics().values()))
+
+
+def replayed(settings: Path, lines: bytes) -> bytes:
+    """What the program answers to lines."""
+    told = subprocess.run([PROGRAM, "run", str(settings)], input=lines, capture_output=True, check=True)
+    return told.stdout
+
+
+def needs_program(test: Any) -> Any:
+    """Leaves a test out where the program is not built."""
+    return unittest.skipUnless(os.access(PROGRAM, os.X_OK), "the program is not built")(test)
+
+
+def no_sleep(function: Optional[Callable[..., Any]] = None) -> None:
+    """Lets other threads run for a moment."""
+    time.sleep(0.001)

@@ -1,0 +1,78 @@
+"""What is refused where it is declared, and settings."""
+
+from __future__ import annotations
+
+import bulkhead
+from support import SETTINGS, Case
+
+
+class Declarations(Case):
+    def test_settings_are_given_by_a_path_or_as_a_text(self) -> None:
+        path = self.folder() / "settings.toml"
+        path.write_text(SETTINGS)
+        for given in (path, str(path)):
+            with bulkhead.open(given) as service:
+                self.assertEqual(service.command("pool")(lambda: 1)(), 1)
+        with bulkhead.open(text=SETTINGS.encode()) as service:
+            self.assertEqual(set(service.metrics()), {"pool", "permits", "more"})
+        for arguments in ({}, {"settings": path, "text": SETTINGS}, {"settings": 7}):
+            with self.assertRaises(bulkhead.Error):
+                bulkhead.open(**arguments)  # type: ignore[arg-type]
+        with self.assertRaises(FileNotFoundError):
+            bulkhead.open("nowhere.toml")
+
+    def test_settings_that_are_refused_raise_the_programs_text(self) -> None:
+        for text in ("service.groups = []", "= =", 'service.groups = ["a"]\nservice.slots.a = 5000'):
+            with self.assertRaises(bulkhead.Refused) as refused:
+                bulkhead.open(text=text)
+            self.assertTrue(str(refused.exception))
+
+    def test_a_command_of_a_group_that_is_not_there_is_refused(self) -> None:
+        with self.assertRaises(bulkhead.NoSuchGroup):
+            self.open().command("nobody")
+
+    def test_a_name_that_is_given_twice_is_refused(self) -> None:
+        service = self.open()
+        service.command("pool")(lambda: 1)
+        with self.assertRaises(bulkhead.Refused):
+            service.command("pool")(lambda: 2)
+
+    def test_a_coroutine_function_under_a_pool_is_refused(self) -> None:
+        service = self.open()
+
+        async def function() -> None:
+            pass
+
+        with self.assertRaises(bulkhead.Refused):
+            service.command("pool")(function)
+        service.command("pool")(lambda: 1)
+
+    def test_a_coroutine_fallback_of_a_plain_function_is_refused(self) -> None:
+        async def fallback(*, cause: bulkhead.CommandError) -> None:
+            pass
+
+        with self.assertRaises(bulkhead.Refused):
+            self.open().command("pool", fallback=fallback)(lambda: 1)
+
+    def test_every_error_of_a_call_is_a_command_error_and_an_error(self) -> None:
+        names = "ShortCircuited PoolRejected SemaphoreRejected TimedOut Failed GroupFull Worn Stopped Interrupted"
+        for name in (*names.split(), "Reentered", "NoSuchGroup"):
+            self.assertTrue(issubclass(getattr(bulkhead, name), bulkhead.CommandError), name)
+        self.assertTrue(issubclass(bulkhead.CommandError, bulkhead.Error))
+        self.assertFalse(issubclass(bulkhead.BadRequest, bulkhead.Error))
+
+    def test_a_clock_that_gives_no_moment_is_told(self) -> None:
+        for moment in (1.5, 1 << 64, "noon", None):
+            service = self.open(clock=lambda moment=moment: moment)
+            with self.assertRaises(bulkhead.BadStep):
+                service.command("permits")(lambda: 1)()
+            self.assertEqual(service.runs(), [])
+
+    def test_a_clock_that_goes_back_holds_the_latest_moment(self) -> None:
+        service, hand = self.by_hand()
+        call = service.command("permits")(lambda: 1)
+        hand.now = 5000
+        call()
+        hand.now = 10
+        call()
+        self.assertEqual(service.turns.groups[1].latest, 5000)

@@ -1,0 +1,238 @@
+"""The end: close, groups that are worn, the end of the interpreter, and forks."""
+
+from __future__ import annotations
+
+import asyncio
+import gc
+import os
+import subprocess
+import sys
+import threading
+import unittest
+import weakref
+
+import bulkhead
+from support import SETTINGS, Case, Gate
+
+
+class Ends(Case):
+    def test_close_answers_every_waiter(self) -> None:
+        service, gate = self.open(), Gate()
+        call = service.command("pool")(gate)
+        futures = [call.queue() for _ in range(4)]
+        gate.wait(2)
+        service.close()
+        for future in futures:
+            self.assertIsInstance(future.exception(5), bulkhead.Stopped)
+        gate.open()
+
+    def test_close_answers_a_thread_that_waits(self) -> None:
+        service, gate, told = self.open(), Gate(), []
+        call = service.command("pool")(gate)
+
+        def wait() -> None:
+            try:
+                call()
+            except bulkhead.Stopped:
+                told.append(1)
+
+        thread = threading.Thread(target=wait)
+        thread.start()
+        gate.wait()
+        service.close()
+        thread.join(5)
+        self.assertEqual(told, [1])
+        gate.open()
+
+    def test_after_close_every_call_is_stopped(self) -> None:
+        service = self.open()
+        pooled, permitted = service.command("pool")(lambda: 1), service.command("permits")(lambda: 1)
+        pooled()
+        service.close()
+        service.close()
+        for call in (pooled, permitted, service.metrics, service.expire, service.prometheus):
+            with self.assertRaises(bulkhead.Stopped):
+                call()
+        self.assertIsInstance(pooled.queue().exception(5), bulkhead.Stopped)
+        with self.assertRaises(bulkhead.Stopped):
+            service.metrics("pool")
+        with self.assertRaises(bulkhead.Stopped):
+            service.register("tenant-7", like="pool")
+
+    def test_a_run_that_ends_after_close_disturbs_nothing(self) -> None:
+        service = self.open()
+
+        @service.command("permits")
+        def close() -> int:
+            service.close()
+            return 1
+
+        with self.assertRaises(bulkhead.Stopped):
+            close()
+
+    def test_the_threads_of_a_closed_service_end(self) -> None:
+        before = set(threading.enumerate())
+        service = self.open()
+        service.command("pool")(lambda: 1)()
+        service.close()
+        self.until(lambda: not set(threading.enumerate()) - before)
+
+    def test_a_service_that_is_dropped_after_close_is_collected(self) -> None:
+        service = bulkhead.open(text=SETTINGS)
+        service.command("pool")(lambda: 1)()
+        service.close()
+        kept = weakref.ref(service)
+        del service
+        self.until(lambda: gc.collect() >= 0 and kept() is None)
+
+    def test_a_service_that_is_dropped_ends_its_threads(self) -> None:
+        before = set(threading.enumerate())
+        service = bulkhead.open(text=SETTINGS)
+        service.command("pool")(lambda: 1)()
+        kept = weakref.ref(service)
+        del service
+        self.until(lambda: gc.collect() >= 0 and kept() is None)
+        self.until(lambda: not set(threading.enumerate()) - before)
+
+    def test_one_worn_answers_every_waiter_of_its_group(self) -> None:
+        service, gate = self.open("service.auditSteps = 6\n" + SETTINGS), Gate()
+        call = service.command("pool")(gate)
+        futures = [call.queue() for _ in range(4)]
+        gate.wait(2)
+        for _ in range(2):
+            with self.assertRaises(bulkhead.Worn):
+                call()
+        for future in futures:
+            self.assertIsInstance(future.exception(5), bulkhead.Worn)
+        with self.assertRaises(bulkhead.Worn):
+            service.metrics("pool")
+        self.assertEqual(service.command("permits")(lambda: 1)(), 1)
+        gate.open()
+
+    def test_a_run_that_wears_its_group_out_is_told(self) -> None:
+        service = self.open("service.auditSteps = 1\n" + SETTINGS)
+        with self.assertRaises(bulkhead.Worn):
+            service.command("permits")(lambda: 1)()
+
+    def run_python(self, program: str) -> subprocess.CompletedProcess[str]:
+        return subprocess.run(
+            [sys.executable, "-c", program], capture_output=True, text=True, timeout=20, check=False, env=os.environ
+        )
+
+    def test_an_interpreter_that_ends_while_functions_run_waits_for_none(self) -> None:
+        path = self.folder() / "record.jsonl"
+        ended = self.run_python(
+            f"""
+import threading, time
+import bulkhead
+service = bulkhead.open(text={SETTINGS!r})
+record = service.record({str(path)!r})
+begun = threading.Semaphore(0)
+def hang():
+    begun.release()
+    time.sleep(60)
+call = service.command("pool")(hang)
+call.queue(), call.queue(), call.queue()
+begun.acquire(), begun.acquire()
+threading.Thread(target=call.queue().exception, daemon=True).start()
+print("ends")
+"""
+        )
+        self.assertEqual((ended.returncode, ended.stdout, ended.stderr), (0, "ends\n", ""))
+        last = path.read_bytes().splitlines()[-1]
+        self.assertIn(b'"record":"whole"', last)
+
+    def test_a_forked_child_is_stopped_and_its_parent_goes_on(self) -> None:
+        path = self.folder() / "record.jsonl"
+        ended = self.run_python(
+            f"""
+import os, sys
+import bulkhead
+service = bulkhead.open(text={SETTINGS!r})
+record = service.record({str(path)!r})
+pooled, permitted = service.command("pool")(lambda: 1), service.command("permits")(lambda: 1)
+pooled(), permitted()
+child = os.fork()
+if not child:
+    for call in (pooled, permitted):
+        try:
+            call()
+        except bulkhead.Stopped:
+            continue
+        os._exit(1)
+    service.close()
+    sys.exit(7)
+print(os.waitstatus_to_exitcode(os.waitpid(child, 0)[1]), pooled(), permitted())
+service.close()
+print(record.is_whole)
+"""
+        )
+        self.assertEqual((ended.returncode, ended.stdout, ended.stderr), (0, "7 1 1\nTrue\n", ""))
+        lines = path.read_bytes().splitlines()
+        self.assertEqual(len([line for line in lines if b'"submit"' in line]), 4)
+
+    @unittest.skipUnless(hasattr(os, "fork"), "there is no fork")
+    def test_forks_while_other_threads_call(self) -> None:
+        service, stop = self.open(), threading.Event()
+        calls = [service.command(name)(lambda: 1) for name in ("pool", "permits")]
+
+        def work() -> None:
+            while not stop.is_set():
+                for call in calls:
+                    try:
+                        call()
+                    except bulkhead.CommandError:
+                        pass
+
+        threads = [threading.Thread(target=work) for _ in range(4)]
+        for thread in threads:
+            thread.start()
+        for _ in range(20):
+            child = os.fork()
+            if not child:
+                try:
+                    calls[1]()
+                except bulkhead.Stopped:
+                    os._exit(0)
+                finally:
+                    os._exit(1)
+            self.assertEqual(os.waitpid(child, 0)[1], 0)
+        stop.set()
+        for thread in threads:
+            thread.join()
+        self.assert_idle(service)
+
+    def test_a_call_within_a_turn_is_reentered_and_does_not_wait(self) -> None:
+        seen: list[type] = []
+        service = self.open(clock=lambda: _clock())
+        call = service.command("permits")(lambda: 1)
+
+        def again() -> int:
+            try:
+                call()
+            except bulkhead.Reentered as error:
+                seen.append(type(error))
+            return 0
+
+        _clock = again
+        self.assertEqual(call(), 1)
+        self.assertEqual(set(seen), {bulkhead.Reentered})
+        _clock = lambda: 1  # noqa: E731
+        self.assertEqual(call(), 1)
+        self.assert_idle(service)
+
+    def test_an_awaiter_is_stopped(self) -> None:
+        service = self.open()
+
+        @service.command("permits")
+        async def hang() -> None:
+            await asyncio.sleep(60)
+
+        async def call() -> None:
+            awaited = asyncio.ensure_future(hang())
+            await asyncio.sleep(0.005)
+            service.close()
+            with self.assertRaises(bulkhead.Stopped):
+                await awaited
+
+        asyncio.run(call())

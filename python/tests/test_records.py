@@ -1,0 +1,105 @@
+"""Records, which the program answers as the service did."""
+
+from __future__ import annotations
+
+import json
+
+import bulkhead
+from support import SETTINGS, Case, needs_program, replayed
+
+
+class Records(Case):
+    def test_a_record_begins_before_the_first_step(self) -> None:
+        service, folder = self.open(), self.folder()
+        service.metrics("pool")
+        with self.assertRaises(bulkhead.Error):
+            service.record(folder / "record.jsonl")
+
+    def test_a_record_has_neither_arguments_nor_values_nor_keys(self) -> None:
+        folder, service = self.folder(), self.open()
+        service.record(folder / "record.jsonl")
+        call = service.command("pool", key=lambda item: item)(lambda item: item * 2)
+        with service.context():
+            call("secret")
+        service.close()
+        text = (folder / "record.jsonl").read_text()
+        self.assertNotIn("secret", text)
+        self.assertIn('"key":"0"', text)
+
+    def test_the_settings_stand_beside_it(self) -> None:
+        folder, service = self.folder(), self.open()
+        service.record(folder / "record.jsonl")
+        self.assertEqual((folder / "record.toml").read_text(), SETTINGS)
+
+    def test_its_end_is_marked(self) -> None:
+        folder, service = self.folder(), self.open()
+        record = service.record(folder / "record.jsonl")
+        service.command("permits")(lambda: 1)()
+        service.close()
+        self.assertTrue(record.is_whole)
+        lines = [json.loads(line) for line in (folder / "record.jsonl").read_text().splitlines()]
+        self.assertEqual((lines[-1]["op"], lines[-1]["record"]), ("read", "whole"))
+        self.assertNotIn("record", lines[-2])
+
+    def test_a_disk_that_fails_leaves_it_not_whole_and_disturbs_no_call(self) -> None:
+        service = self.open()
+        record = service.record(self.folder() / "record.jsonl", replies="/dev/full")
+        call = service.command("permits")(lambda: 1)
+        self.assertEqual([call() for _ in range(100)], [1] * 100)
+        self.until(lambda: not record.is_whole)
+        self.assertIsInstance(record.error, OSError)
+        self.assertEqual(call(), 1)
+        service.close()
+
+    def test_three_files_are_three(self) -> None:
+        service, folder = self.open(), self.folder()
+        for path, replies in ((folder / "a.toml", None), (folder / "a", folder / "a"), (folder / "a", folder / "a.toml")):
+            with self.assertRaises(bulkhead.Error):
+                service.record(path, replies=replies)
+
+    @needs_program
+    def test_the_program_gives_the_replies_that_were_given(self) -> None:
+        folder = self.folder()
+        service, hand = self.by_hand(SETTINGS + "\n[hystrix.command.more.circuitBreaker]\nrequestVolumeThreshold = 2\n")
+        service.record(folder / "record.jsonl", replies=folder / "replies.jsonl")
+
+        def act(what: str) -> str:
+            if what == "bad":
+                raise bulkhead.BadRequest
+            if what == "late":
+                hand.now += 1500
+                service.expire()
+            return what if what != "fail" else str(1 // 0)
+
+        calls = [
+            service.command(name, key=lambda what: what, fallback=lambda what, *, cause: 1 // (what != "fail"))(act)
+            for name in ("pool", "permits", "more")
+        ]
+        service.register("tenant-7", like="pool")
+        calls += [calls[0].of("tenant-7"), calls[2].of("tenant-7")]
+        for _ in range(3):
+            for call in calls:
+                with service.context():
+                    for what in ("ok", "ok", "bad", "fail", "late"):
+                        hand.now += 1
+                        try:
+                            call(what)
+                        except (bulkhead.CommandError, bulkhead.BadRequest):
+                            pass
+            service.metrics()
+        self.assertTrue(service.retire("tenant-7"))
+        self.assertEqual(service.runs(), [])
+        service.close()
+        lines, replies = (folder / "record.jsonl").read_bytes(), (folder / "replies.jsonl").read_bytes()
+        self.assertGreater(lines.count(b"\n"), 200)
+        self.assertEqual(replayed(folder / "record.toml", lines), replies)
+        self.assert_alone(folder, lines, replies)
+
+    def assert_alone(self, folder: object, lines: bytes, replies: bytes) -> None:
+        """The lines of one group alone get the same answers."""
+        pairs = [*zip(lines.splitlines(keepends=True), replies.splitlines(keepends=True))]
+        for name in ("pool", "permits", "tenant-7"):
+            own = [pair for pair in pairs if json.loads(pair[0])["group"] == name]
+            self.assertTrue(own)
+            told = replayed(folder / "record.toml", b"".join(line for line, _ in own))  # type: ignore[operator]
+            self.assertEqual(told, b"".join(reply for _, reply in own), name)
