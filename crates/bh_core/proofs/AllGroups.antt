@@ -74,7 +74,7 @@ sums_same (x ∷ xs) (y ∷ ys) same rooms =
 
 -- a change of one group's tickets leaves the slots
 slots_left : (ts us : TicketsView) (g h : GroupView) → Leaves ts g us h → slots_of us ≡ slots_of ts
-slots_left ts us g h left = sums_same ts.groups us.groups (sym left.count) (λ i x y e f. elim (cases_eq i g.number) [
+slots_left ts us g h left = sums_same ts.groups us.groups (sym left.count) (λ i x y e f. elim (cases_eq i g.place) [
   | inl q ↦ sym (ap (λ (z : GroupTickets). z.room) (group_read us i y f)) ∙ ap (λ n. (group_at us n).room) q ∙ left.room ∙ ap (λ n. (group_at ts n).room) (sym q) ∙ ap (λ (z : GroupTickets). z.room) (group_read ts i x e)
   | inr differ ↦ (let both : Some y ≡ Some x = sym f ∙ left.others i differ ∙ e in ap (λ (z : GroupTickets). z.room) (one_of y x both))
 ])
@@ -110,14 +110,14 @@ map-set_alike f h (k ∷ ks) (suc i) e same =
     λ i. first i ∷ rest i
 
 -- an entry looks as it did, where it is retired or the tickets of its group are as they were
-pub life_same : (ts us : TicketsView) (e : Entry) → ((g : GroupView) → e ≡ entry.Live g → slice_get us.groups g.number ≡ slice_get ts.groups g.number) → life_in us e ≡ life_in ts e
+pub life_same : (ts us : TicketsView) (e : Entry) → ((g : GroupView) → e ≡ entry.Live g → slice_get us.groups g.place ≡ slice_get ts.groups g.place) → life_in us e ≡ life_in ts e
 life_same ts us (entry.Live g) same = ap living (view_same ts us g (same g refl))
 life_same ts us (entry.Retired r) same = refl
 
 module _ (ts us : TicketsView) (es : List Entry) (i : ℕ) (g h : GroupView) (all : AreGroups ts es) (here : slice_get es i ≡ Some (entry.Live g)) (left : Leaves ts g us h) where
   -- the tickets of the others are as they were
-  apart : (j : ℕ) (k : GroupView) → j ≢ i → slice_get es j ≡ Some (entry.Live k) → slice_get us.groups k.number ≡ slice_get ts.groups k.number
-  apart j k differ e = left.others k.number (λ q. all.apart j i k g e here differ q)
+  apart : (j : ℕ) (k : GroupView) → j ≢ i → slice_get es j ≡ Some (entry.Live k) → slice_get us.groups k.place ≡ slice_get ts.groups k.place
+  apart j k differ e = left.others k.place (λ q. all.apart j i k g e here differ q)
 
   -- callers see one life changed
   lives_after : lives_in us (set es i (entry.Live h)) ≡ set (lives_in ts es) i (living (view_in us h))
@@ -142,8 +142,8 @@ module _ (ts us : TicketsView) (es : List Entry) (i : ℕ) (g h : GroupView) (al
   other j k differ e = sym (slice_get-set_other es i (entry.Live h) j differ) ∙ e
 
   -- a number of the group changed is that of the group before
-  number_of : (j : ℕ) (k : GroupView) → j ≡ i → slice_get (set es i (entry.Live h)) j ≡ Some (entry.Live k) → k.number ≡ g.number
-  number_of j k q e = ap (λ (x : GroupView). x.number) (changed j k q e) ∙ left.number
+  number_of : (j : ℕ) (k : GroupView) → j ≡ i → slice_get (set es i (entry.Live h)) j ≡ Some (entry.Live k) → k.place ≡ g.place
+  number_of j k q e = ap (λ (x : GroupView). x.place) (changed j k q e) ∙ left.place
 
   -- each group has tickets of its own still, where the changed one has them and is steady
   pub groups_kept : HasTickets us h → IsSteady (view_in us h) → AreGroups us (set es i (entry.Live h))

@@ -78,15 +78,15 @@ pub group_read : (ts : TicketsView) (i : ℕ) (x : GroupTickets) → slice_get t
 group_read ts i x e = group_at_is ts i ∙ ap read_or e
 
 -- a group whose tickets are as they were is as it was
-pub view_same : (ts us : TicketsView) (g : GroupView) → slice_get us.groups g.number ≡ slice_get ts.groups g.number → view_in us g ≡ view_in ts g
+pub view_same : (ts us : TicketsView) (g : GroupView) → slice_get us.groups g.place ≡ slice_get ts.groups g.place → view_in us g ≡ view_in ts g
 view_same ts us g e =
-    let same = group_alike ts us g.number e in
+    let same = group_alike ts us g.place e in
     λ i. record (view_in ts g) { present = record (view_in ts g).present { tickets = (same i).items; serial = (same i).next } }
 
 -- a group whose tickets are as they were, among as many groups or more, has them still
-pub tickets_same : (ts us : TicketsView) (g : GroupView) → length ts.groups ≤ length us.groups → slice_get us.groups g.number ≡ slice_get ts.groups g.number → HasTickets ts g → HasTickets us g
+pub tickets_same : (ts us : TicketsView) (g : GroupView) → length ts.groups ≤ length us.groups → slice_get us.groups g.place ≡ slice_get ts.groups g.place → HasTickets ts g → HasTickets us g
 tickets_same ts us g count e has =
-    let same = group_alike ts us g.number e in
+    let same = group_alike ts us g.place e in
     record {
       there = omega (arith, count, has.there);
       room = ap (λ (x : GroupTickets). x.room) same ∙ has.room;
@@ -95,12 +95,12 @@ tickets_same ts us g count e has =
     }
 
 -- a group whose tickets are as they were has them still, however many groups there are
-pub tickets_there : (ts us : TicketsView) (g : GroupView) → slice_get us.groups g.number ≡ slice_get ts.groups g.number → HasTickets ts g → HasTickets us g
+pub tickets_there : (ts us : TicketsView) (g : GroupView) → slice_get us.groups g.place ≡ slice_get ts.groups g.place → HasTickets ts g → HasTickets us g
 tickets_there ts us g e has =
-    let same = group_alike ts us g.number e in
+    let same = group_alike ts us g.place e in
     record {
-      there = elim ((slice_get_cases ts.groups g.number).1) [
-        | inl w ↦ (let at : slice_get us.groups g.number ≡ Some w.0 = e ∙ w.2 in elim ((slice_get_cases us.groups g.number).1) [
+      there = elim ((slice_get_cases ts.groups g.place).1) [
+        | inl w ↦ (let at : slice_get us.groups g.place ≡ Some w.0 = e ∙ w.2 in elim ((slice_get_cases us.groups g.place).1) [
           | inl k ↦ k.1
           | inr k ↦ absurd (let both : Some w.0 ≡ None = sym at ∙ k.1 in cc)
         ])
@@ -114,28 +114,28 @@ tickets_there ts us g e has =
 -- one change after another
 pub leaves_twice : (ts us vs : TicketsView) (g h k : GroupView) → Leaves ts g us h → Leaves us h vs k → Leaves ts g vs k
 leaves_twice ts us vs g h k l m = record {
-  number = m.number ∙ l.number;
+  place = m.place ∙ l.place;
   props = m.props ∙ l.props;
   limit = m.limit ∙ l.limit;
-  others = λ i differ. m.others i (λ e. differ (e ∙ l.number)) ∙ l.others i differ;
+  others = λ i differ. m.others i (λ e. differ (e ∙ l.place)) ∙ l.others i differ;
   count = m.count ∙ l.count;
-  room = ap (λ n. (group_at vs n).room) (sym l.number) ∙ m.room ∙ ap (λ n. (group_at us n).room) l.number ∙ l.room;
-  serial = λ few. subst (λ n. (group_at vs n).next ≤ k.steps + 1) l.number (m.serial (subst (λ n. (group_at us n).next ≤ h.steps + 1) (sym l.number) (l.serial few)));
+  room = ap (λ n. (group_at vs n).room) (sym l.place) ∙ m.room ∙ ap (λ n. (group_at us n).room) l.place ∙ l.room;
+  serial = λ few. subst (λ n. (group_at vs n).next ≤ k.steps + 1) l.place (m.serial (subst (λ n. (group_at us n).next ≤ h.steps + 1) (sym l.place) (l.serial few)));
 }
 
 -- the group has its tickets still, where there are as many as before
-pub has_left : (ts us : TicketsView) (g h : GroupView) → Leaves ts g us h → length (group_at us h.number).items ≡ length (group_at ts g.number).items → HasTickets ts g → HasTickets us h
+pub has_left : (ts us : TicketsView) (g h : GroupView) → Leaves ts g us h → length (group_at us h.place).items ≡ length (group_at ts g.place).items → HasTickets ts g → HasTickets us h
 has_left ts us g h left many has = record {
-  there = omega (arith, left.number, left.count, has.there);
-  room = ap (λ n. (group_at us n).room) left.number ∙ left.room ∙ has.room ∙ ap (λ (p : GroupProps). p.slots) (sym left.props);
+  there = omega (arith, left.place, left.count, has.there);
+  room = ap (λ n. (group_at us n).room) left.place ∙ left.room ∙ has.room ∙ ap (λ (p : GroupProps). p.slots) (sym left.props);
   few = omega (arith, many, has.few, ap (λ (p : GroupProps). p.slots) left.props);
-  serial = subst (λ n. (group_at us n).next ≤ h.steps + 1) (sym left.number) (left.serial has.serial);
+  serial = subst (λ n. (group_at us n).next ≤ h.steps + 1) (sym left.place) (left.serial has.serial);
 }
 
 -- one ticket of the group was changed, and nothing else of it
-pub view_changed : (ts us : TicketsView) (g : GroupView) (p : Ticket → Bool) (f : Ticket → Ticket) → (group_at us g.number).items ≡ changed_first p f (group_at ts g.number).items → (group_at us g.number).next ≡ (group_at ts g.number).next → view_in us g ≡ with_present (changed p f (view_in ts g).present) (view_in ts g)
+pub view_changed : (ts us : TicketsView) (g : GroupView) (p : Ticket → Bool) (f : Ticket → Ticket) → (group_at us g.place).items ≡ changed_first p f (group_at ts g.place).items → (group_at us g.place).next ≡ (group_at ts g.place).next → view_in us g ≡ with_present (changed p f (view_in ts g).present) (view_in ts g)
 view_changed ts us g p f items next = λ i. record (view_in ts g) { present = record (view_in ts g).present { tickets = items i; serial = next i } }
 
 -- tickets of the group that nobody needs are gone, and nothing else of it was changed
-pub view_released : (ts us : TicketsView) (g : GroupView) → (group_at us g.number).items ≡ filter is_kept (group_at ts g.number).items → (group_at us g.number).next ≡ (group_at ts g.number).next → view_in us g ≡ released_view (view_in ts g)
+pub view_released : (ts us : TicketsView) (g : GroupView) → (group_at us g.place).items ≡ filter is_kept (group_at ts g.place).items → (group_at us g.place).next ≡ (group_at ts g.place).next → view_in us g ≡ released_view (view_in ts g)
 view_released ts us g items next = λ i. record (view_in ts g) { present = record (view_in ts g).present { tickets = items i; serial = next i } }

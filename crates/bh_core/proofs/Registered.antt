@@ -69,14 +69,14 @@ module _ (ts us : TicketsView) (es : List Entry) (place : ℕ) (props : GroupPro
   own = group_read us place (no_tickets_in props.slots) taken.here
 
   -- no group had the place
-  vacant : (i : ℕ) (k : GroupView) → slice_get es i ≡ Some (entry.Live k) → k.number ≢ place
+  vacant : (i : ℕ) (k : GroupView) → slice_get es i ≡ Some (entry.Live k) → k.place ≢ place
   vacant i k e q = (
       let room : (group_at ts place).room ≡ k.props.slots = ap (λ n. (group_at ts n).room) (sym q) ∙ (all.tickets i k e).room in
       omega (arith, room, taken.vacant, all.some i k e))
 
   -- and the others are as they were
-  apart : (i : ℕ) (k : GroupView) → slice_get es i ≡ Some (entry.Live k) → slice_get us.groups k.number ≡ slice_get ts.groups k.number
-  apart i k e = taken.others k.number (vacant i k e)
+  apart : (i : ℕ) (k : GroupView) → slice_get es i ≡ Some (entry.Live k) → slice_get us.groups k.place ≡ slice_get ts.groups k.place
+  apart i k e = taken.others k.place (vacant i k e)
 
   -- it shows a new group's view
   view_new : view_in us g ≡ view (opened props limit)
@@ -120,12 +120,12 @@ module _ (ts us : TicketsView) (es : List Entry) (place : ℕ) (props : GroupPro
   pub groups_pushed : AreGroups us (es ++ entry.Live g ∷ [])
   groups_pushed = record {
     apart = λ i j a b e f differ.
-        push_cases (a.number ≢ b.number) es (entry.Live g) i (entry.Live a) e
-        (λ q. push_cases (a.number ≢ b.number) es (entry.Live g) j (entry.Live b) f
+        push_cases (a.place ≢ b.place) es (entry.Live g) i (entry.Live a) e
+        (λ q. push_cases (a.place ≢ b.place) es (entry.Live g) j (entry.Live b) f
         (λ r. all.apart i j a b q r differ)
-        (λ r s. λ z. vacant i a q (z ∙ ap (λ (x : GroupView). x.number) (same_live b s))))
-        (λ p q. push_cases (a.number ≢ b.number) es (entry.Live g) j (entry.Live b) f
-        (λ r. λ z. vacant j b r (sym z ∙ ap (λ (x : GroupView). x.number) (same_live a q)))
+        (λ r s. λ z. vacant i a q (z ∙ ap (λ (x : GroupView). x.place) (same_live b s))))
+        (λ p q. push_cases (a.place ≢ b.place) es (entry.Live g) j (entry.Live b) f
+        (λ r. λ z. vacant j b r (sym z ∙ ap (λ (x : GroupView). x.place) (same_live a q)))
         (λ r s. absurd (differ (p ∙ sym r))));
     tickets = λ i k e. push_cases (HasTickets us k) es (entry.Live g) i (entry.Live k) e
         (λ q. kept_at i k q)

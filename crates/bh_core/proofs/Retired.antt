@@ -35,14 +35,14 @@ registration g = record { props = g.props; limit = g.limit }
 
 module _ (ts : TicketsView) (es : List Entry) (i : ℕ) (g : GroupView) (all : AreGroups ts es) (here : slice_get es i ≡ Some (entry.Live g)) where
   abbrev pub us : TicketsView
-  us = without_group g.number ts
+  us = without_group g.place ts
 
   abbrev pub ended : List Entry
   ended = set es i (entry.Retired (registration g))
 
   -- the tickets of the others are as they were
-  apart : (j : ℕ) (k : GroupView) → j ≢ i → slice_get es j ≡ Some (entry.Live k) → slice_get us.groups k.number ≡ slice_get ts.groups k.number
-  apart j k differ e = slice_get-set_other ts.groups g.number (no_tickets_in 0) k.number (all.apart j i k g e here differ)
+  apart : (j : ℕ) (k : GroupView) → j ≢ i → slice_get es j ≡ Some (entry.Live k) → slice_get us.groups k.place ≡ slice_get ts.groups k.place
+  apart j k differ e = slice_get-set_other ts.groups g.place (no_tickets_in 0) k.place (all.apart j i k g e here differ)
 
   -- callers see one life changed
   lives_ended : lives_in us ended ≡ set (lives_in ts es) i (retired g.props g.limit)
@@ -62,9 +62,9 @@ module _ (ts : TicketsView) (es : List Entry) (i : ℕ) (g : GroupView) (all : A
 
   slots_ended : slots_of us ≡ slots_in (lives_in us ended)
   slots_ended =
-      let own = read_there ts g.number (all.tickets i g here).there in
-      let room : own.0.room ≡ g.props.slots = sym (ap (λ (x : GroupTickets). x.room) (group_read ts g.number own.0 own.1)) ∙ (all.tickets i g here).room in
-      let fewer = rooms_set ts.groups g.number own.0 (no_tickets_in 0) own.1 in
+      let own = read_there ts g.place (all.tickets i g here).there in
+      let room : own.0.room ≡ g.props.slots = sym (ap (λ (x : GroupTickets). x.room) (group_read ts g.place own.0 own.1)) ∙ (all.tickets i g here).room in
+      let fewer = rooms_set ts.groups g.place own.0 (no_tickets_in 0) own.1 in
       let less = slots_set (lives_in ts es) i (living (view_in ts g)) (retired g.props g.limit) (life_at ts es i (entry.Live g) here) in
       let after : slots_in (lives_in us ended) ≡ slots_in (set (lives_in ts es) i (retired g.props g.limit)) = ap slots_in lives_ended in
       omega (arith, room, fewer, less, after, all.slots)

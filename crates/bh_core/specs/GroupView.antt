@@ -14,7 +14,7 @@ use Rattle.bh_tickets.specs.TicketsView.{TicketsView, group_at}
 -- what a group has beside its tickets
 pub record GroupView : Type 0 where
   -- by which its tickets are known
-  pub number : ℕ
+  pub place : ℕ
   pub props : GroupProps
   pub limit : ℕ
   pub steps : ℕ
@@ -24,16 +24,16 @@ pub record GroupView : Type 0 where
 
 -- a new group
 abbrev pub new_group : ℕ → GroupProps → ℕ → GroupView
-new_group number props limit = record { number = number; props = props; limit = limit; steps = 0; latest = 0; commands = map new_command props.commands }
+new_group place props limit = record { place = place; props = props; limit = limit; steps = 0; latest = 0; commands = map new_command props.commands }
 
 -- what a group's fields show
 abbrev pub group_view : Inside → GroupView
-group_view g = record { number = g.number; props = g.props; limit = g.limit; steps = g.steps; latest = g.latest; commands = g.commands.items }
+group_view g = record { place = g.place; props = g.props; limit = g.limit; steps = g.steps; latest = g.latest; commands = g.commands.items }
 
 -- what a group shows together with its tickets
 abbrev pub view_in : TicketsView → GroupView → View
 view_in ts g = record {
-  present = record { props = g.props; limit = g.limit; steps = g.steps; latest = g.latest; serial = (group_at ts g.number).next; tickets = (group_at ts g.number).items; circuits = map circuit_in g.commands };
+  present = record { props = g.props; limit = g.limit; steps = g.steps; latest = g.latest; serial = (group_at ts g.place).next; tickets = (group_at ts g.place).items; circuits = map circuit_in g.commands };
   pasts = map (past_in g.latest) g.commands;
 }
 
@@ -52,17 +52,17 @@ pub record IsReady (g : Inside) : Type 0 where
 
 -- the group's tickets are there, in as many slots as it has, and there were no more tickets than steps
 pub record HasTickets (ts : TicketsView) (g : GroupView) : Type 0 where
-  pub there : g.number < length ts.groups
-  pub room : (group_at ts g.number).room ≡ g.props.slots
-  pub few : length (group_at ts g.number).items ≤ g.props.slots
-  pub serial : (group_at ts g.number).next ≤ g.steps + 1
+  pub there : g.place < length ts.groups
+  pub room : (group_at ts g.place).room ≡ g.props.slots
+  pub few : length (group_at ts g.place).items ≤ g.props.slots
+  pub serial : (group_at ts g.place).next ≤ g.steps + 1
 
 -- the tickets of other groups are as they were, and so is what the group's own rest on
 pub record Leaves (ts : TicketsView) (g : GroupView) (us : TicketsView) (h : GroupView) : Type 0 where
-  pub number : h.number ≡ g.number
+  pub place : h.place ≡ g.place
   pub props : h.props ≡ g.props
   pub limit : us.limit ≡ ts.limit
-  pub others : (i : ℕ) → i ≢ g.number → slice_get us.groups i ≡ slice_get ts.groups i
+  pub others : (i : ℕ) → i ≢ g.place → slice_get us.groups i ≡ slice_get ts.groups i
   pub count : length us.groups ≡ length ts.groups
-  pub room : (group_at us g.number).room ≡ (group_at ts g.number).room
-  pub serial : (group_at ts g.number).next ≤ g.steps + 1 → (group_at us g.number).next ≤ h.steps + 1
+  pub room : (group_at us g.place).room ≡ (group_at ts g.place).room
+  pub serial : (group_at ts g.place).next ≤ g.steps + 1 → (group_at us g.place).next ≤ h.steps + 1

@@ -28,7 +28,7 @@ groups_view c = record { slot_limit = c.tickets.limit; lives = lives_in c.ticket
 
 -- each group that is not retired has tickets of its own, and the slots are those of these groups
 pub record AreGroups (ts : TicketsView) (es : List Entry) : Type 0 where
-  pub apart : (i j : ℕ) (g h : GroupView) → slice_get es i ≡ Some (entry.Live g) → slice_get es j ≡ Some (entry.Live h) → i ≢ j → g.number ≢ h.number
+  pub apart : (i j : ℕ) (g h : GroupView) → slice_get es i ≡ Some (entry.Live g) → slice_get es j ≡ Some (entry.Live h) → i ≢ j → g.place ≢ h.place
   pub tickets : (i : ℕ) (g : GroupView) → slice_get es i ≡ Some (entry.Live g) → HasTickets ts g
   pub some : (i : ℕ) (g : GroupView) → slice_get es i ≡ Some (entry.Live g) → 0 < g.props.slots
   pub steady : (i : ℕ) (g : GroupView) → slice_get es i ≡ Some (entry.Live g) → IsSteady (view_in ts g)

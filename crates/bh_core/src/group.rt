@@ -25,8 +25,8 @@ use std::marker::Model;
 /// A group beside its tickets, with storage for all that its steps can bring.
 #[derive(Drop)]
 pub struct Group {
-    /// By which its tickets are known.
-    number: usize,
+    /// Where its tickets stand among those of all groups.
+    place: usize,
     props: GroupProps,
     limit: u64,
     steps: u64,
@@ -47,14 +47,14 @@ impl Model for Group {
 
 impl Group {
     /// A new group with these commands, which have no past, that may do so many steps.
-    pub fn new(number: usize, props: GroupProps, limit: u64, commands: Vec<Command>) -> Self
+    pub fn new(place: usize, props: GroupProps, limit: u64, commands: Vec<Command>) -> Self
         requires props { IsServed props }
         requires limit { limit ≤ 2 ^ 40 }
         requires commands { commands.items ≡ map new_command props.commands }
-        ensures { result ≡ new_group number props limit }
+        ensures { result ≡ new_group place props limit }
     {
         Group {
-            number,
+            place,
             props,
             limit,
             steps: 0,
@@ -71,11 +71,11 @@ impl Group {
         Registration { props, limit }
     }
 
-    /// The number by which its tickets are known.
-    pub fn number(&self) -> usize
-        ensures { result ≡ self.now.number }
+    /// Where its tickets stand among those of all groups.
+    pub fn place(&self) -> usize
+        ensures { result ≡ self.now.place }
     {
-        self.number
+        self.place
     }
 
     /// One step at the moment, in place. Like every function of an operation it writes the reply where the caller keeps it,
@@ -99,7 +99,7 @@ impl Group {
         }
         self.begin(now);
         self.act(tickets, op, reply);
-        tickets.release(self.number);
+        tickets.release(self.place);
     }
 
     /// How many commands the group has.
@@ -173,7 +173,7 @@ impl Group {
         ensures done { IsDone (view_in tickets.old self.now) (op.Close context) reply.new (view_in tickets.new self.now) }
         ensures left { Leaves tickets.old self.now tickets.new self.now }
     {
-        *reply = Reply::Closed(tickets.close(self.number, context));
+        *reply = Reply::Closed(tickets.close(self.place, context));
     }
 
     /// The metrics of the command at the step's moment.
@@ -190,9 +190,9 @@ impl Group {
             errors: rolling.health.errors,
             total: rolling.health.total,
             percent: percent(rolling.health),
-            busy: tickets.busy_count(self.number, command),
-            queued: tickets.queued_count(self.number, command),
-            free: self.slots() - tickets.len(self.number),
+            busy: tickets.busy_count(self.place, command),
+            queued: tickets.queued_count(self.place, command),
+            free: self.slots() - tickets.len(self.place),
         });
     }
 

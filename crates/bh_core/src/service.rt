@@ -143,7 +143,7 @@ impl Core {
             return Err(RetireError::NoGroup);
         }
         let place = match &self.groups[group.0 as usize] {
-            Entry::Live(found) => found.number(),
+            Entry::Live(found) => found.place(),
             Entry::Retired(_) => return Err(RetireError::NoGroup),
         };
         if self.tickets.any_used(place) {

@@ -145,7 +145,7 @@ service.groups = ["a"]
 {"op":"collect","group":"a","now":4,"ticket":1} -> {"cause":"failure","fallback":"failed","reply":"error"}"#;
 
 /// Circuits open and close.
-const CIRCUITS: &str = r#"half of two runs fail and open the circuit of their own group
+const CIRCUITS: &str = r#"half of two runs fail and open the circuit of their command
 service.groups = ["a", "b"]
 hystrix.command.default.circuitBreaker.requestVolumeThreshold = 2
 hystrix.command.default.circuitBreaker.errorThresholdPercentage = 50

@@ -268,13 +268,13 @@ impl<'e, R: Threads + Wait + Clock + Sync, L: OpenListener<Stream = TcpStream> +
             Ok(false) => return Ok(()),
             Err(_) => return Err(ConnectionFault::Port(PortError::Memory)),
         }
-        let served = self.converse(&stream);
+        let served = self.answer_lines(&stream);
         self.acceptor.leave(self.rt, number);
         served
     }
 
     /// Answers the control lines of a connection.
-    fn converse(&self, stream: &TcpStream) -> Result<(), ConnectionFault> {
+    fn answer_lines(&self, stream: &TcpStream) -> Result<(), ConnectionFault> {
         let _ = stream.set_nodelay(true);
         let idle = self.acceptor.idle();
         if stream

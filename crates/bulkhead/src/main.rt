@@ -1,4 +1,4 @@
-//! `bulkhead`: a command service whose groups have slots, workers and a circuit of their own.
+//! `bulkhead`: a command service in groups, each with slots and workers of its own, and a circuit breaker for each command.
 #![tactic(auto)]
 
 #[cfg(test)]

@@ -57,15 +57,15 @@ impl Group {
         ensures left { Leaves tickets.old self.old tickets.new self.new }
     {
         let due = self.due_rule(command);
-        let count = tickets.time_out(self.number, &due);
+        let count = tickets.time_out(self.place, &due);
         self.record_timeouts(command, count);
         count
     }
 
     /// Tells each circuit breaker whose test call is due.
     fn time_out_tests(&mut self, tickets: &Tickets)
-        requires there { self.old.number < length tickets.now.groups }
-        requires known { AreKnown self.old.props (group_at tickets.now self.old.number).items }
+        requires there { self.old.place < length tickets.now.groups }
+        requires known { AreKnown self.old.props (group_at tickets.now self.old.place).items }
         ensures view { view_in tickets.now self.new ≡ view_tests_timed_out (view_in tickets.now self.old) }
         ensures left { (ts : TicketsView) → Leaves ts self.old ts self.new }
     {
@@ -76,8 +76,8 @@ impl Group {
 
     /// Tells the command's circuit breaker where its test call is due.
     fn time_out_test(&mut self, tickets: &Tickets, command: u8)
-        requires there { self.old.number < length tickets.now.groups }
-        requires tickets { AreKnown self.old.props (group_at tickets.now self.old.number).items }
+        requires there { self.old.place < length tickets.now.groups }
+        requires tickets { AreKnown self.old.props (group_at tickets.now self.old.place).items }
         requires known { command < command_count self.old.props }
         ensures view { view_in tickets.now self.new ≡ view_test_timed_out command (view_in tickets.now self.old) }
         ensures left { (ts : TicketsView) → Leaves ts self.old ts self.new }
@@ -91,12 +91,12 @@ impl Group {
 
     /// Whether a ticket of the serial is due, of whichever command.
     fn is_ticket_due(&self, tickets: &Tickets, serial: Serial) -> bool
-        requires there { self.now.number < length tickets.now.groups }
-        requires tickets { AreKnown self.now.props (group_at tickets.now self.now.number).items }
-        ensures { result ≡ list_any (λ t. t.serial == serial) (filter (is_due (view_in tickets.now self.now).present) (group_at tickets.now self.now.number).items) }
+        requires there { self.now.place < length tickets.now.groups }
+        requires tickets { AreKnown self.now.props (group_at tickets.now self.now.place).items }
+        ensures { result ≡ list_any (λ t. t.serial == serial) (filter (is_due (view_in tickets.now self.now).present) (group_at tickets.now self.now.place).items) }
     {
         for command in 0..self.command_count() {
-            if tickets.is_due(self.number, serial, &self.due_rule(command)) {
+            if tickets.is_due(self.place, serial, &self.due_rule(command)) {
                 return true;
             }
         }

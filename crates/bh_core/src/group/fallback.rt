@@ -22,14 +22,14 @@ impl Group {
         ensures done { IsDone (view_in tickets.old self.old) (op.Collect serial) reply.new (view_in tickets.new self.new) }
         ensures left { Leaves tickets.old self.old tickets.new self.new }
     {
-        match tickets.find_held(self.number, serial) {
+        match tickets.find_held(self.place, serial) {
             None => *reply = Reply::NoTicket,
             Some(slot) => {
-                let ticket = tickets.get(self.number, slot);
+                let ticket = tickets.get(self.place, slot);
                 let command = ticket.command;
                 match ticket.state {
                     TicketState::Answered(answer) => {
-                        tickets.release_holder(self.number, slot);
+                        tickets.release_holder(self.place, slot);
                         *reply = Reply::Answered(answer);
                         return;
                     }
@@ -57,7 +57,7 @@ impl Group {
     )
         requires has { HasTickets tickets.old self.old }
         requires bounded { IsBounded (view_in tickets.old self.old) }
-        requires held { IsFirstAt (is_held_at serial) (group_at tickets.old self.old.number) slot }
+        requires held { IsFirstAt (is_held_at serial) (group_at tickets.old self.old.place) slot }
         requires known { command < command_count self.old.props }
         ensures done { IsDoneBy (view_in tickets.old self.old) (collected_in (ticket.NeedsFallback cause) command serial (view_in tickets.old self.old).present) reply.new (view_in tickets.new self.new) }
         ensures left { Leaves tickets.old self.old tickets.new self.new }
@@ -65,20 +65,20 @@ impl Group {
         let own = self.props.command(command);
         if !own.fallback_on {
             let answer = error(cause, FallbackFault::Disabled);
-            tickets.answer_holder(self.number, slot, &answer);
+            tickets.answer_holder(self.place, slot, &answer);
             self.record(command, EventKind::ExceptionThrown);
             *reply = Reply::Answered(answer);
             return;
         }
-        if tickets.in_fallback_count(self.number, command) >= own.fallback_permits {
+        if tickets.in_fallback_count(self.place, command) >= own.fallback_permits {
             let answer = error(cause, FallbackFault::Rejected);
-            tickets.answer_holder(self.number, slot, &answer);
+            tickets.answer_holder(self.place, slot, &answer);
             self.record(command, EventKind::FallbackRejection);
             self.record(command, EventKind::ExceptionThrown);
             *reply = Reply::Answered(answer);
             return;
         }
-        tickets.start_fallback(self.number, slot, cause);
+        tickets.start_fallback(self.place, slot, cause);
         *reply = Reply::RunFallback(cause);
     }
 
@@ -95,10 +95,10 @@ impl Group {
         ensures done { IsDone (view_in tickets.old self.old) (op.FallbackDone serial end.now) reply.new (view_in tickets.new self.new) }
         ensures left { Leaves tickets.old self.old tickets.new self.new }
     {
-        match tickets.find_in_fallback(self.number, serial) {
+        match tickets.find_in_fallback(self.place, serial) {
             None => *reply = Reply::NotInFallback,
             Some(slot) => {
-                let ticket = tickets.get(self.number, slot);
+                let ticket = tickets.get(self.place, slot);
                 let command = ticket.command;
                 match ticket.state {
                     TicketState::InFallback(cause) => {
@@ -125,12 +125,12 @@ impl Group {
         requires has { HasTickets tickets.old self.old }
         requires bounded { IsBounded (view_in tickets.old self.old) }
         requires known { command < command_count self.old.props }
-        requires found { IsFirstAt (is_in_fallback_at serial) (group_at tickets.old self.old.number) slot }
+        requires found { IsFirstAt (is_in_fallback_at serial) (group_at tickets.old self.old.place) slot }
         ensures done { IsDoneBy (view_in tickets.old self.old) (fallback_done_in (ticket.InFallback cause) command serial end.now (view_in tickets.old self.old).present) reply.new (view_in tickets.new self.new) }
         ensures left { Leaves tickets.old self.old tickets.new self.new }
     {
         let answer = fallback_answer(end, cause);
-        tickets.answer(self.number, slot, &answer);
+        tickets.answer(self.place, slot, &answer);
         match end {
             FallbackEnd::Success(_) => {
                 self.record(command, EventKind::FallbackSuccess);

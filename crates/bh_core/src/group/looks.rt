@@ -49,7 +49,7 @@ impl Group {
         if self.is_worn() {
             return false;
         }
-        self.pool_busy_count(tickets) < self.workers() && tickets.any_queued(self.number)
+        self.pool_busy_count(tickets) < self.workers() && tickets.any_queued(self.place)
     }
 
     /// Whether a `Collect` of the serial would be answered `Pending`, at whatever moment.
@@ -60,9 +60,9 @@ impl Group {
         if self.is_worn() {
             return false;
         }
-        match tickets.find_held(self.number, serial) {
+        match tickets.find_held(self.place, serial) {
             None => false,
-            Some(slot) => is_unanswered(tickets.get(self.number, slot)),
+            Some(slot) => is_unanswered(tickets.get(self.place, slot)),
         }
     }
 
@@ -71,7 +71,7 @@ impl Group {
         requires { HasTickets tickets.now self.now }
         ensures { result ≡ false → (view_in tickets.now self.now).present.tickets ≡ [] }
     {
-        tickets.len(self.number) > 0
+        tickets.len(self.place) > 0
     }
 
     /// Whether an `Expire` at the moment would be answered `Expired` of more than 0.
@@ -89,7 +89,7 @@ impl Group {
                 moment,
                 ..self.due_rule(command)
             };
-            if tickets.any_due(self.number, &due) {
+            if tickets.any_due(self.place, &due) {
                 return true;
             }
         }

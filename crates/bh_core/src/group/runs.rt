@@ -27,14 +27,14 @@ impl Group {
             *reply = Reply::Idle;
             return;
         }
-        match tickets.first_queued(self.number) {
+        match tickets.first_queued(self.place) {
             None => *reply = Reply::Idle,
             Some(slot) => {
-                let ticket = tickets.get(self.number, slot);
+                let ticket = tickets.get(self.place, slot);
                 let serial = ticket.serial;
                 let command = ticket.command;
                 let arg = ticket.arg;
-                tickets.start_run(self.number, slot);
+                tickets.start_run(self.place, slot);
                 *reply = Reply::Assigned {
                     serial,
                     command,
@@ -47,7 +47,7 @@ impl Group {
     /// How many workers of the group's thread pool are at a run.
     pub fn pool_busy_count(&self, tickets: &Tickets) -> u64
         requires has { HasTickets tickets.now self.now }
-        requires known { AreKnown self.now.props (group_at tickets.now self.now.number).items }
+        requires known { AreKnown self.now.props (group_at tickets.now self.now.place).items }
         ensures { result ≡ pool_busy_count (view_in tickets.now self.now).present }
     {
         let mut count = 0;
@@ -65,7 +65,7 @@ impl Group {
         ensures count { result ≡ worker_count command (view_in tickets.now self.now).present }
     {
         match self.props.command(command).strategy {
-            Strategy::Thread => tickets.busy_count(self.number, command),
+            Strategy::Thread => tickets.busy_count(self.place, command),
             Strategy::Semaphore => 0,
         }
     }
@@ -140,17 +140,17 @@ impl Group {
         ensures done { IsDoneBy (view_in tickets.old self.old) (run_ended (find (is_busy_at serial) (view_in tickets.old self.old).present.tickets) serial state.now end kind (view_in tickets.old self.old).present) reply.new (view_in tickets.new self.new) }
         ensures left { Leaves tickets.old self.old tickets.new self.new }
     {
-        match tickets.find_busy(self.number, serial) {
+        match tickets.find_busy(self.place, serial) {
             None => *reply = Reply::NotRunning,
             Some(slot) => {
-                let ticket = tickets.get(self.number, slot);
+                let ticket = tickets.get(self.place, slot);
                 let command = ticket.command;
                 if !is_running(ticket) {
-                    tickets.stop_run(self.number, slot);
+                    tickets.stop_run(self.place, slot);
                     *reply = Reply::Late;
                     return;
                 }
-                tickets.end_run(self.number, slot, state);
+                tickets.end_run(self.place, slot, state);
                 self.record(command, kind);
                 self.tell_circuit(command, serial, end);
                 *reply = Reply::Done;

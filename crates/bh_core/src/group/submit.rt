@@ -36,14 +36,14 @@ impl Group {
     fn find_cached(&self, tickets: &Tickets, request: &Request) -> Option<u32>
         requires has { HasTickets tickets.now self.now }
         requires known { request.now.command < command_count self.now.props }
-        ensures { IsJoinable (view_in tickets.now self.now).present (group_at tickets.now self.now.number) request.now result }
+        ensures { IsJoinable (view_in tickets.now self.now).present (group_at tickets.now self.now.place) request.now result }
     {
         if !self.props.command(request.command).cache_on {
             return None;
         }
         match &request.cache {
             Some((context, key)) => tickets.find_cached(
-                self.number,
+                self.place,
                 request.command,
                 *context,
                 key,
@@ -57,12 +57,12 @@ impl Group {
         requires has { HasTickets tickets.old self.old }
         requires bounded { IsBounded (view_in tickets.old self.old) }
         requires known { request.now.command < command_count self.old.props }
-        requires found { IsJoinable (view_in tickets.old self.old).present (group_at tickets.old self.old.number) request.now (Some slot) }
+        requires found { IsJoinable (view_in tickets.old self.old).present (group_at tickets.old self.old.place) request.now (Some slot) }
         ensures done { IsDone (view_in tickets.old self.old) (op.Submit request.now) reply.new (view_in tickets.new self.new) }
         ensures left { Leaves tickets.old self.old tickets.new self.new }
     {
-        let serial = tickets.get(self.number, slot).serial;
-        tickets.add_holder(self.number, slot);
+        let serial = tickets.get(self.place, slot).serial;
+        tickets.add_holder(self.place, slot);
         self.record(request.command, EventKind::ResponseFromCache);
         *reply = Reply::Joined(serial);
     }
@@ -75,7 +75,7 @@ impl Group {
         ensures done { IsDoneBy (view_in tickets.old self.old) (submitted None request.now (rolling_now (view_in tickets.old self.old) request.now.command) (view_in tickets.old self.old).present) reply.new (view_in tickets.new self.new) }
         ensures left { Leaves tickets.old self.old tickets.new self.new }
     {
-        if tickets.len(self.number) >= self.slots() {
+        if tickets.len(self.place) >= self.slots() {
             *reply = Reply::GroupFull;
             return;
         }
@@ -84,7 +84,7 @@ impl Group {
             self.latest,
             self.props.command(request.command),
             health,
-            tickets.next_serial(self.number),
+            tickets.next_serial(self.place),
         );
         match said {
             Admit::Short => self.fall_back_from(
@@ -95,8 +95,8 @@ impl Group {
                 false,
                 reply,
             ),
-            Admit::Test => self.place(tickets, request, true, reply),
-            Admit::Pass => self.place(tickets, request, false, reply),
+            Admit::Test => self.run_or_queue(tickets, request, true, reply),
+            Admit::Pass => self.run_or_queue(tickets, request, false, reply),
         }
     }
 
@@ -121,7 +121,7 @@ impl Group {
     }
 
     /// The request runs, or waits for a worker, where there is room for it.
-    fn place(&mut self, tickets: &mut Tickets, request: &Request, test: bool, reply: &mut Reply)
+    fn run_or_queue(&mut self, tickets: &mut Tickets, request: &Request, test: bool, reply: &mut Reply)
         requires has { HasTickets tickets.old self.old }
         requires bounded { IsBounded (view_in tickets.old self.old) }
         requires known { request.now.command < command_count self.old.props }
@@ -133,7 +133,7 @@ impl Group {
             self.reject(tickets, request, test, reply);
             return;
         }
-        let serial = tickets.next_serial(self.number);
+        let serial = tickets.next_serial(self.place);
         match self.props.command(request.command).strategy {
             Strategy::Semaphore => {
                 self.add_ticket(tickets, request, &TicketState::Running, true, test);
@@ -151,16 +151,16 @@ impl Group {
     /// Whether a permit of the command is free, or the pool of the group takes one more.
     fn is_admitted(&self, tickets: &Tickets, command: u8) -> bool
         requires has { HasTickets tickets.now self.now }
-        requires tickets { AreKnown self.now.props (group_at tickets.now self.now.number).items }
+        requires tickets { AreKnown self.now.props (group_at tickets.now self.now.place).items }
         requires known { command < command_count self.now.props }
         ensures { result ≡ is_admitted (view_in tickets.now self.now).present command (props_of command self.now.props).strategy }
     {
         let props = self.props.command(command);
         match props.strategy {
-            Strategy::Semaphore => tickets.busy_count(self.number, command) < props.semaphore,
+            Strategy::Semaphore => tickets.busy_count(self.place, command) < props.semaphore,
             Strategy::Thread => pool_admits(
                 self.pool_busy_count(tickets),
-                tickets.waiting_count(self.number),
+                tickets.waiting_count(self.place),
                 self.props.core,
                 self.props.max_queue,
                 self.props.queue_threshold,
@@ -179,7 +179,7 @@ impl Group {
     {
         self.tell_circuit(
             request.command,
-            tickets.next_serial(self.number),
+            tickets.next_serial(self.place),
             End::Error,
         );
         match self.props.command(request.command).strategy {
@@ -225,7 +225,7 @@ impl Group {
         ensures done { IsDoneBy (view_in tickets.old self.old) (due_fallback cause event request.now test (view_in tickets.old self.old).present) reply.new (view_in tickets.new self.new) }
         ensures left { Leaves tickets.old self.old tickets.new self.new }
     {
-        let serial = tickets.next_serial(self.number);
+        let serial = tickets.next_serial(self.place);
         self.add_ticket(
             tickets,
             request,
@@ -254,7 +254,7 @@ impl Group {
         ensures left { Leaves tickets.old self.now tickets.new self.now }
     {
         let ticket = Ticket {
-            serial: tickets.next_serial(self.number),
+            serial: tickets.next_serial(self.place),
             command: request.command,
             arg: request.arg,
             cache: request.cache,
@@ -265,6 +265,6 @@ impl Group {
             cached: self.props.command(request.command).cache_on && request.cache.is_some(),
             test,
         };
-        tickets.push(self.number, &ticket);
+        tickets.push(self.place, &ticket);
     }
 }

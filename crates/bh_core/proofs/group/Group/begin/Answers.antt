@@ -38,5 +38,5 @@ returns-clause-bounded c = λ ts has kept.
       serial = own.serial;
       step = omega arith;
       known = steady.known;
-      held = (let number : g.steps ≡ g.steps + 1 - 1 = omega arith in subst (λ m. HeldBy m (group_at ts g.number).items) number steady.held);
+      held = (let number : g.steps ≡ g.steps + 1 - 1 = omega arith in subst (λ m. HeldBy m (group_at ts g.place).items) number steady.held);
     }

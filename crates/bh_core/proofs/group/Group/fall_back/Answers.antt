@@ -14,10 +14,10 @@ use Rattle.bh_tickets.specs.Changes.{fallback_started}
 use Rattle.bh_tickets.specs.TicketsView.{group_at}
 
 pub answer_holder-requires-clause-held : goal.answer_holder-requires-clause-held
-answer_holder-requires-clause-held c = held_first (group_at c.args.tickets.now c.self.inside.number) c.args.serial c.args.slot (rw (← c.self.view_is) at c.requires.held)
+answer_holder-requires-clause-held c = held_first (group_at c.args.tickets.now c.self.inside.place) c.args.serial c.args.slot (rw (← c.self.view_is) at c.requires.held)
 
 pub answer_holder-requires-then-in_fallback_count-own-clause-held : goal.answer_holder-requires-then-in_fallback_count-own-clause-held
-answer_holder-requires-then-in_fallback_count-own-clause-held c = held_first (group_at c.args.tickets.now c.self.inside.number) c.args.serial c.args.slot (rw (← c.self.view_is) at c.requires.held)
+answer_holder-requires-then-in_fallback_count-own-clause-held c = held_first (group_at c.args.tickets.now c.self.inside.place) c.args.serial c.args.slot (rw (← c.self.view_is) at c.requires.held)
 
 pub returns-clause-done : goal.returns-clause-done
 returns-clause-done c =

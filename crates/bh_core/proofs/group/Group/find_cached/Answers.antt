@@ -10,7 +10,7 @@ pub returns-in-Some : goal.returns-in-Some
 returns-in-Some c =
     let ts = c.args.tickets.now in
     let v : View = view_in ts (group_view c.self.inside) in
-    rw (← c.self.view_is, c.in-Some.is) (joinable_is v.present (group_at ts c.self.inside.number) (record c.args.request.now { cache = Some (c.in-Some.context, c.in-Some.key) }) c.find_cached.result refl (sym (ap (λ (p : CommandProps). p.cache_on) c.command.ensures) ∙ c.if-not-command.false) c.find_cached.ensures.found c.find_cached.ensures.none)
+    rw (← c.self.view_is, c.in-Some.is) (joinable_is v.present (group_at ts c.self.inside.place) (record c.args.request.now { cache = Some (c.in-Some.context, c.in-Some.key) }) c.find_cached.result refl (sym (ap (λ (p : CommandProps). p.cache_on) c.command.ensures) ∙ c.if-not-command.false) c.find_cached.ensures.found c.find_cached.ensures.none)
 
 pub returns-in-None : goal.returns-in-None
 returns-in-None c =

@@ -8,4 +8,4 @@ use Rattle.bh_tickets.specs.TicketsView.{group_at}
 
 -- none is due at the step's moment among those of the commands before the place
 abbrev pub invariant-loop-command : goal.invariant-loop-command
-invariant-loop-command l = list_any (λ t. true) (filter (is_due_below l.command (begun l.fn.now (view_in l.fn.tickets l.fn.self).present)) (group_at l.fn.tickets l.fn.self.number).items) ≡ false
+invariant-loop-command l = list_any (λ t. true) (filter (is_due_below l.command (begun l.fn.now (view_in l.fn.tickets l.fn.self).present)) (group_at l.fn.tickets l.fn.self.place).items) ≡ false

@@ -13,13 +13,13 @@ use Rattle.bh_core.proofs.Below.{all_below, any_first, any_more, any_one, is_due
 use Rattle.bh_core.proofs.group.Group.is_ticket_due.Goals as goal
 
 pub loop-command-init : goal.loop-command-init
-loop-command-init c = any_first (λ t. t.serial == c.args.serial) (view_in c.args.tickets.now c.args.self.now).present (group_at c.args.tickets.now c.args.self.now.number).items
+loop-command-init c = any_first (λ t. t.serial == c.args.serial) (view_in c.args.tickets.now c.args.self.now).present (group_at c.args.tickets.now c.args.self.now.place).items
 
 pub returns-then-is_due : goal.returns-then-is_due
 returns-then-is_due c =
     let g : Present = (view_in c.args.tickets.now c.args.self.now).present in
     let ts : List Ticket = g.tickets in
-    let asked : c.is_due.result ≡ list_any (λ t. t.serial == c.args.serial) (filter (is_due_by c.due_rule.result) ts) = c.is_due.ensures ∙ ap (λ (k : GroupView). list_any (λ (t : Ticket). t.serial == c.args.serial) (filter (is_due_by c.due_rule.result) (group_at c.args.tickets.now k.number).items)) c.self.view_is in
+    let asked : c.is_due.result ≡ list_any (λ t. t.serial == c.args.serial) (filter (is_due_by c.due_rule.result) ts) = c.is_due.ensures ∙ ap (λ (k : GroupView). list_any (λ (t : Ticket). t.serial == c.args.serial) (filter (is_due_by c.due_rule.result) (group_at c.args.tickets.now k.place).items)) c.self.view_is in
     let found : list_any (λ t. t.serial == c.args.serial) (filter (is_due_by (due_rule_of c.loop-command.command g)) ts) ≡ true =
     ap (λ (r : DueRule). list_any (λ (t : Ticket). t.serial == c.args.serial) (filter (is_due_by r) ts)) (sym (c.due_rule.ensures c.args.tickets.now)) ∙ sym asked ∙ c.if-is_due.true in
     sym (any_one (λ t. t.serial == c.args.serial) c.loop-command.command g ts found)
@@ -28,7 +28,7 @@ pub loop-command-preserved : goal.loop-command-preserved
 loop-command-preserved c =
     let g : Present = (view_in c.args.tickets.now c.args.self.now).present in
     let ts : List Ticket = g.tickets in
-    let asked : c.is_due.result ≡ list_any (λ t. t.serial == c.args.serial) (filter (is_due_by c.due_rule.result) ts) = c.is_due.ensures ∙ ap (λ (k : GroupView). list_any (λ (t : Ticket). t.serial == c.args.serial) (filter (is_due_by c.due_rule.result) (group_at c.args.tickets.now k.number).items)) c.self.view_is in
+    let asked : c.is_due.result ≡ list_any (λ t. t.serial == c.args.serial) (filter (is_due_by c.due_rule.result) ts) = c.is_due.ensures ∙ ap (λ (k : GroupView). list_any (λ (t : Ticket). t.serial == c.args.serial) (filter (is_due_by c.due_rule.result) (group_at c.args.tickets.now k.place).items)) c.self.view_is in
     let none : list_any (λ t. t.serial == c.args.serial) (filter (is_due_by (due_rule_of c.loop-command.command g)) ts) ≡ false =
     ap (λ (r : DueRule). list_any (λ (t : Ticket). t.serial == c.args.serial) (filter (is_due_by r) ts)) (sym (c.due_rule.ensures c.args.tickets.now)) ∙ sym asked ∙ c.if-is_due.false in
     any_more (λ t. t.serial == c.args.serial) c.loop-command.command g ts c.loop-command.invariant none

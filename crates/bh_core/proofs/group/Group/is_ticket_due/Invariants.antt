@@ -8,4 +8,4 @@ use Rattle.bh_tickets.specs.TicketsView.{group_at}
 
 -- no ticket of the serial is due among those of the commands before the place
 abbrev pub invariant-loop-command : goal.invariant-loop-command
-invariant-loop-command l = list_any (λ t. t.serial == l.serial) (filter (is_due_below l.command (view_in l.fn.tickets l.fn.self).present) (group_at l.fn.tickets l.fn.self.number).items) ≡ false
+invariant-loop-command l = list_any (λ t. t.serial == l.serial) (filter (is_due_below l.command (view_in l.fn.tickets l.fn.self).present) (group_at l.fn.tickets l.fn.self.place).items) ≡ false

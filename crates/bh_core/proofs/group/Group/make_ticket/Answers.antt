@@ -42,8 +42,8 @@ fall_back_from-requires-clause-bounded c =
     let bounded : IsBounded d = rw (← c.self.view_is) at c.requires.bounded in
     subst IsBounded (sym (view_asked c.args.tickets.now g n x y c.index_mut.ensures.value refl)) (still_bounded n y.circuit d bounded)
 
-pub place-requires-clause-bounded : goal.place-requires-clause-bounded
-place-requires-clause-bounded c =
+pub run_or_queue-requires-clause-bounded : goal.run_or_queue-requires-clause-bounded
+run_or_queue-requires-clause-bounded c =
     let g = group_view c.self.inside in
     let n = c.args.request.now.command in
     let x : Command = c.index_mut.result.now in
@@ -52,8 +52,8 @@ place-requires-clause-bounded c =
     let bounded : IsBounded d = rw (← c.self.view_is) at c.requires.bounded in
     subst IsBounded (sym (view_asked c.args.tickets.now g n x y c.index_mut.ensures.value refl)) (still_bounded n y.circuit d bounded)
 
-pub place-requires-in-Pass-clause-bounded : goal.place-requires-in-Pass-clause-bounded
-place-requires-in-Pass-clause-bounded c =
+pub run_or_queue-requires-in-Pass-clause-bounded : goal.run_or_queue-requires-in-Pass-clause-bounded
+run_or_queue-requires-in-Pass-clause-bounded c =
     let g = group_view c.self.inside in
     let n = c.args.request.now.command in
     let x : Command = c.index_mut.result.now in
@@ -96,11 +96,11 @@ returns-in-Test-clause-done c =
     let circuit = sym (read_at circuit_in cs n x new_circuit inside c.index_mut.ensures.value) in
     let said = (λ i. asked (c.command.ensures i) g.latest c.health_asked-health.result (c.next_serial.ensures i) (circuit i)) ∙ asks in
     let free : length d.present.tickets < d.present.props.slots = omega (arith, c.if-len-slots.false, c.len.ensures, (rw (← c.self.view_is) at c.slots.ensures)) in
-    let new : View = view_in c.place.new.tickets c.place.new.self in
-    let did : IsDoneBy (view_in c.args.tickets.now (record g { commands = set cs n y })) (circuit_said admit.Test request (view_in c.args.tickets.now (record g { commands = set cs n y })).present) c.place.new.reply new = c.place.ensures.done in
-    rw (← c.self.view_is) (asked_done d request (rolling_now d n) admit.Test y.circuit c.place.new.reply new free
+    let new : View = view_in c.run_or_queue.new.tickets c.run_or_queue.new.self in
+    let did : IsDoneBy (view_in c.args.tickets.now (record g { commands = set cs n y })) (circuit_said admit.Test request (view_in c.args.tickets.now (record g { commands = set cs n y })).present) c.run_or_queue.new.reply new = c.run_or_queue.ensures.done in
+    rw (← c.self.view_is) (asked_done d request (rolling_now d n) admit.Test y.circuit c.run_or_queue.new.reply new free
     (c.in-Test.ensures.says ∙ ap (λ (a : Asked). a.says) said) (c.admit-said.ensures.leaves ∙ ap (λ (a : Asked). a.circuit) said)
-    (subst (λ (v : View). IsDoneBy v (circuit_said admit.Test request v.present) c.place.new.reply new) (view_asked c.args.tickets.now g n x y c.index_mut.ensures.value refl) did))
+    (subst (λ (v : View). IsDoneBy v (circuit_said admit.Test request v.present) c.run_or_queue.new.reply new) (view_asked c.args.tickets.now g n x y c.index_mut.ensures.value refl) did))
 
 pub returns-in-Pass-clause-done : goal.returns-in-Pass-clause-done
 returns-in-Pass-clause-done c =
@@ -116,8 +116,8 @@ returns-in-Pass-clause-done c =
     let circuit = sym (read_at circuit_in cs n x new_circuit inside c.index_mut.ensures.value) in
     let said = (λ i. asked (c.command.ensures i) g.latest c.health_asked-health.result (c.next_serial.ensures i) (circuit i)) ∙ asks in
     let free : length d.present.tickets < d.present.props.slots = omega (arith, c.if-len-slots.false, c.len.ensures, (rw (← c.self.view_is) at c.slots.ensures)) in
-    let new : View = view_in c.place-in-Pass.new.tickets c.place-in-Pass.new.self in
-    let did : IsDoneBy (view_in c.args.tickets.now (record g { commands = set cs n y })) (circuit_said admit.Pass request (view_in c.args.tickets.now (record g { commands = set cs n y })).present) c.place-in-Pass.new.reply new = c.place-in-Pass.ensures.done in
-    rw (← c.self.view_is) (asked_done d request (rolling_now d n) admit.Pass y.circuit c.place-in-Pass.new.reply new free
+    let new : View = view_in c.run_or_queue-in-Pass.new.tickets c.run_or_queue-in-Pass.new.self in
+    let did : IsDoneBy (view_in c.args.tickets.now (record g { commands = set cs n y })) (circuit_said admit.Pass request (view_in c.args.tickets.now (record g { commands = set cs n y })).present) c.run_or_queue-in-Pass.new.reply new = c.run_or_queue-in-Pass.ensures.done in
+    rw (← c.self.view_is) (asked_done d request (rolling_now d n) admit.Pass y.circuit c.run_or_queue-in-Pass.new.reply new free
     (c.in-Pass.ensures.says ∙ ap (λ (a : Asked). a.says) said) (c.admit-said.ensures.leaves ∙ ap (λ (a : Asked). a.circuit) said)
-    (subst (λ (v : View). IsDoneBy v (circuit_said admit.Pass request v.present) c.place-in-Pass.new.reply new) (view_asked c.args.tickets.now g n x y c.index_mut.ensures.value refl) did))
+    (subst (λ (v : View). IsDoneBy v (circuit_said admit.Pass request v.present) c.run_or_queue-in-Pass.new.reply new) (view_asked c.args.tickets.now g n x y c.index_mut.ensures.value refl) did))

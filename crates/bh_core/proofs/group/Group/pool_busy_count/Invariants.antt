@@ -8,6 +8,6 @@ use Rattle.bh_tickets.specs.TicketsView.{group_at}
 -- the runs of the commands before the place are counted
 abbrev pub invariant-loop-command : goal.invariant-loop-command
 invariant-loop-command l = record {
-  counted : l.count ≡ count_by (below l.command (λ t. t.busy && runs_in_pool l.fn.self.props t)) (group_at l.fn.tickets l.fn.self.number).items;
+  counted : l.count ≡ count_by (below l.command (λ t. t.busy && runs_in_pool l.fn.self.props t)) (group_at l.fn.tickets l.fn.self.place).items;
   few : l.count ≤ 4096 * l.command;
 }

@@ -11,16 +11,16 @@ pub returns-in-Thread-clause-count : goal.returns-in-Thread-clause-count
 returns-in-Thread-clause-count c =
     let g = c.self.inside in
     let own : props_of c.args.command g.props ≡ c.command.result.now = sym c.command.ensures in
-    rw (← c.self.view_is) (c.busy_count.ensures ∙ pool_has c.args.command g.props (group_at c.args.tickets.now g.number).items (ap (λ (p : CommandProps). p.strategy) own ∙ c.in-Thread.is))
+    rw (← c.self.view_is) (c.busy_count.ensures ∙ pool_has c.args.command g.props (group_at c.args.tickets.now g.place).items (ap (λ (p : CommandProps). p.strategy) own ∙ c.in-Thread.is))
 
 pub returns-in-Semaphore-clause-count : goal.returns-in-Semaphore-clause-count
 returns-in-Semaphore-clause-count c =
     let g = c.self.inside in
     let own : props_of c.args.command g.props ≡ c.command.result.now = sym c.command.ensures in
-    rw (← c.self.view_is) (pool_lacks c.args.command g.props (group_at c.args.tickets.now g.number).items (ap (λ (p : CommandProps). p.strategy) own ∙ c.in-Semaphore.is))
+    rw (← c.self.view_is) (pool_lacks c.args.command g.props (group_at c.args.tickets.now g.place).items (ap (λ (p : CommandProps). p.strategy) own ∙ c.in-Semaphore.is))
 
 pub returns-in-Thread-clause-few : goal.returns-in-Thread-clause-few
 returns-in-Thread-clause-few c =
     let g = c.self.inside in
-    let some = count_few (λ t. is_of c.args.command t && t.busy) (group_at c.args.tickets.now g.number).items in
+    let some = count_few (λ t. is_of c.args.command t && t.busy) (group_at c.args.tickets.now g.place).items in
     omega (arith, c.busy_count.ensures, some, (rw (← c.self.view_is) at c.requires.has.few), c.self.invariant.served.slots)

@@ -15,7 +15,7 @@ use Rattle.bh_tickets.specs.TicketsView.{TicketsView, group_at, is_used}
 pub any_used-requires : goal.any_used-requires
 any_used-requires c =
     let here : slice_get c.self.inside.groups.items c.args.group.0 ≡ Some (entry.Live c.in-Live.found) = entry_here c.self.inside.groups.items c.args.group.0 c.index.result.now (omega arith) c.index.ensures ∙ ap Some c.in-Live.is in
-    omega (arith, (c.self.invariant.tickets c.args.group.0 c.in-Live.found here).there, c.number-place.ensures)
+    omega (arith, (c.self.invariant.tickets c.args.group.0 c.in-Live.found here).there, c.place-place.ensures)
 
 pub invariant_of-self : goal.invariant_of-self
 invariant_of-self c =
@@ -23,11 +23,11 @@ invariant_of-self c =
     let es = c.self.inside.groups.items in
     let i = c.args.group.0 in
     let here : slice_get es i ≡ Some (entry.Live c.in-Live.found) = entry_here es i c.index.result.now (omega arith) c.index.ensures ∙ ap Some c.in-Live.is in
-    let gone = c.retire_group.ensures ∙ ap (λ n. without_group n ts) c.number-place.ensures in
+    let gone = c.retire_group.ensures ∙ ap (λ n. without_group n ts) c.place-place.ensures in
     let read : c.index_mut.result.now ≡ entry.Live c.in-Live.found = (let both : Some c.index_mut.result.now ≡ Some (entry.Live c.in-Live.found) = sym (entry_here es i c.index_mut.result.now (omega arith) c.index_mut.ensures.value) ∙ here in cc) in
     let entry_is = c.retire.ensures ∙ ap retired_entry read in
     subst (λ (us : TicketsView). AreGroups us (set es i c.retire.new.self)) (sym gone)
-    (subst (λ (e : Entry). AreGroups (without_group c.in-Live.found.number ts) (set es i e)) (sym entry_is) (groups_left ts es i c.in-Live.found c.self.invariant here))
+    (subst (λ (e : Entry). AreGroups (without_group c.in-Live.found.place ts) (set es i e)) (sym entry_is) (groups_left ts es i c.in-Live.found c.self.invariant here))
 
 pub returns-clause-ended : goal.returns-clause-ended
 returns-clause-ended c =
@@ -35,7 +35,7 @@ returns-clause-ended c =
     let es = c.self.inside.groups.items in
     let i = c.args.group.0 in
     let here : slice_get es i ≡ Some (entry.Live c.in-Live.found) = entry_here es i c.index.result.now (omega arith) c.index.ensures ∙ ap Some c.in-Live.is in
-    let gone = c.retire_group.ensures ∙ ap (λ n. without_group n ts) c.number-place.ensures in
+    let gone = c.retire_group.ensures ∙ ap (λ n. without_group n ts) c.place-place.ensures in
     let read : c.index_mut.result.now ≡ entry.Live c.in-Live.found = (let both : Some c.index_mut.result.now ≡ Some (entry.Live c.in-Live.found) = sym (entry_here es i c.index_mut.result.now (omega arith) c.index_mut.ensures.value) ∙ here in cc) in
     let entry_is = c.retire.ensures ∙ ap retired_entry read in
     rw (← c.self.view_is) (view_in ts c.in-Live.found, ap shown_by (life_at ts es i (entry.Live c.in-Live.found) here), (λ k. groups_in (gone k) (set es i (entry_is k))) ∙ groups_ended ts es i c.in-Live.found c.self.invariant here)
@@ -56,5 +56,5 @@ returns-clause-busy c =
     let here : slice_get es i ≡ Some (entry.Live c.in-Live.found) = entry_here es i c.index.result.now (omega arith) c.index.ensures ∙ ap Some c.in-Live.is in
     λ v shown.
     let same : v ≡ view_in ts c.in-Live.found = shown_is ts es i c.in-Live.found v here (rw (← c.self.view_is) at shown) in
-    let free : is_in_use v ≡ false = ap is_in_use same ∙ ap (λ n. list_any is_used (group_at ts n).items) (sym c.number-place.ensures) ∙ sym c.any_used.ensures ∙ c.if-any_used.false in
+    let free : is_in_use v ≡ false = ap is_in_use same ∙ ap (λ n. list_any is_used (group_at ts n).items) (sym c.place-place.ensures) ∙ sym c.any_used.ensures ∙ c.if-any_used.false in
     ((λ e. absurd cc), (λ used. absurd (let both : false ≡ true = sym free ∙ used in cc)))
