@@ -27,7 +27,7 @@ program=${1:-$work/crates/lives/out/lives}
 build() {
     local name
     mkdir -p "$work/crates/lives/src"
-    for name in bh_base bh_rolling bh_admit bh_circuit bh_index_lists bh_slot_arena bh_cache bh_chains bh_tickets bh_core; do
+    for name in bh_base bh_rolling bh_admit bh_circuit bh_index_lists bh_slot_arena bh_cache bh_tickets bh_core; do
         grep "^$name:" "$here/../crates.txt" >>"$work/crates.txt"
         cp -a "$here/../crates/$name" "$work/crates/"
     done

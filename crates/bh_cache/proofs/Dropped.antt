@@ -14,7 +14,7 @@ use Rattle.bh_cache.specs.Slots.{Slots, count_below, has, has_one, is_on, is_liv
 use Rattle.bh_cache.proofs.Counts.{count_all, count_listed, count_none, count_point}
 use Rattle.bh_cache.proofs.Listed.{listed_map}
 use Rattle.bh_cache.proofs.Placed.{frame_refl, frame_trans, live_same}
-use Rattle.bh_cache.proofs.Places.{has_append, take_one_more}
+use Rattle.bh_cache.proofs.Members.{has_append, take_one_more}
 use Rattle.bh_cache.proofs.Order.{count_same}
 
 -- ---- one ticket

@@ -8,7 +8,7 @@ use Rattle.bh_cache.specs.declared.lists.GroupLists.{GroupLists}
 use Rattle.bh_cache.specs.Cache.{IsEarliest, earlier, earliest}
 use Rattle.bh_cache.specs.Slots.{Slots, has, has_one, is_live, serial_in, ticket_at, tickets_of}
 use Rattle.bh_cache.proofs.Listed.{Distinct, find_least, find_none, from_listed, in_listed, rising}
-use Rattle.bh_cache.proofs.Places.{drop_at, get_within}
+use Rattle.bh_cache.proofs.Members.{drop_at, get_within}
 
 or_left : (b c : Bool) → b ≡ true → (b || c) ≡ true
 or_left b c e = ap (λ d. d || c) e

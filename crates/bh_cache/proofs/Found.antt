@@ -12,8 +12,8 @@ use Rattle.bh_cache.specs.Cache.{earliest}
 use Rattle.bh_cache.specs.Chains.{AreOn, IsChained, list_by_name, list_by_serial, list_of_name, name_chain, serial_chain}
 use Rattle.bh_cache.specs.Slots.{Slots, IsArena, has_one, has_serial_in, is_on, is_live, serial_on, ticket_at}
 use Rattle.bh_cache.proofs.Earliest.{IsBest, best_among, earliest_best}
-use Rattle.bh_cache.proofs.Placed.{name_chain_not_uncached, serial_chain_not_free}
-use Rattle.bh_cache.proofs.Places.{has_contained, has_reverse}
+use Rattle.bh_cache.proofs.Placed.{name_chain_not_unnamed, serial_chain_not_free}
+use Rattle.bh_cache.proofs.Members.{has_contained, has_reverse}
 use Rattle.bh_cache.proofs.Walks.{find_off, find_on}
 
 module _ (a : Slots) (g : GroupLists) (f first last : ℕ) (to : Option Ticket → ℕ) (are : AreOn f first last to a g) where
@@ -103,7 +103,7 @@ module _ (g : GroupLists) (name : ℕ × List ℕ) where
   on_name : (command : ℕ) (t : Ticket) → is_cached_as command name t ≡ true → list_by_name g (Some t) ≡ name_chain g name
   on_name command t e = of (t.command == command) e
     where
-      by : (b : Bool) (o : Option (ℕ × List ℕ)) → (b && elim o [ None ↦ false | Some given ↦ (given.0 == name.0) && pointwise nat_eq given.1 name.1 ]) ≡ true → (if b then list_of_name g o else g.uncached) ≡ name_chain g name
+      by : (b : Bool) (o : Option (ℕ × List ℕ)) → (b && elim o [ None ↦ false | Some given ↦ (given.0 == name.0) && pointwise nat_eq given.1 name.1 ]) ≡ true → (if b then list_of_name g o else g.unnamed) ≡ name_chain g name
       by false o e = absurd cc
       by true None e = absurd cc
       by true (Some given) e = ap (name_chain g) (same_name name given e)
@@ -117,14 +117,14 @@ pub name_best : (a : Slots) (g : GroupLists) (command : ℕ) (name : ℕ × List
     → IsBest (is_cached_as command name) a.payloads (is_live a g) r
 name_best a g command name chained arena r is =
     let p : Ticket → Bool = is_cached_as command name in
-    let k = name_chain_not_uncached a g chained.lists name in
+    let k = name_chain_not_unnamed a g chained.lists name in
     let nothing : IsBest p a.payloads (λ y. false) None = λ y e. absurd cc in
     let along : IsBest p a.payloads (λ y. is_on a 2 (name_chain g name) y) r = subst (IsBest p a.payloads (λ y. is_on a 2 (name_chain g name) y)) (sym is) (earliest_best p a.payloads (slots_on a 2 (name_chain g name)) (λ y. false) None nothing) in
     best_among p a.payloads (λ y. is_on a 2 (name_chain g name) y) (is_live a g)
-    (λ x on. live_on a g 2 g.names g.free2 (list_by_name g) chained.names arena (name_chain g name) x (omega arith) (omega (arith, k, chained.lists.uncached, chained.lists.free2)) (λ q. absurd (omega (arith, k, q, chained.lists.uncached, chained.lists.free2))) on)
+    (λ x on. live_on a g 2 g.names g.unnamed (list_by_name g) chained.names arena (name_chain g name) x (omega arith) (omega (arith, k, chained.lists.unnamed)) (λ q. absurd (omega (arith, k, q, chained.lists.unnamed))) on)
     (λ x live q. back x (slice_get a.payloads x) live refl q)
     r along
   where
     back : (x : ℕ) (o : Option Ticket) → is_live a g x ≡ true → slice_get a.payloads x ≡ o → has_one (is_cached_as command name) o ≡ true → is_on a 2 (name_chain g name) x ≡ true
     back x None live is e = absurd cc
-    back x (Some t) live is e = ap (λ l. is_on a 2 l x) (sym (on_name g name command t e)) ∙ on_live a g 2 g.names g.free2 (list_by_name g) chained.names x t live is
+    back x (Some t) live is e = ap (λ l. is_on a 2 l x) (sym (on_name g name command t e)) ∙ on_live a g 2 g.names g.unnamed (list_by_name g) chained.names x t live is

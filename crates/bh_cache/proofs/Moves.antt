@@ -7,7 +7,7 @@ use Rattle.std.proofs.lemmas.List.{length-map}
 use Rattle.bh_index_lists.specs.Lists.{without}
 use Rattle.bh_slot_arena.specs.Lists.{moved}
 use Rattle.bh_slot_arena.specs.Slots.{lists_in, slots_on, with_moved}
-use Rattle.bh_cache.proofs.Places.{has_append}
+use Rattle.bh_cache.proofs.Members.{has_append}
 use Rattle.bh_cache.specs.Slots.{Slots, has, is_on}
 
 -- a list without a slot has each other slot that it had, and not this one

@@ -6,7 +6,7 @@ use Rattle.bh_base.specs.declared.ticket.Ticket.{Ticket}
 use Rattle.bh_cache.specs.declared.lists.GroupLists.{GroupLists}
 use Rattle.bh_slot_arena.specs.Lists.{IsPartition}
 use Rattle.bh_slot_arena.specs.Slots.{lists_in, slots_on}
-use Rattle.bh_cache.proofs.Places.{drop_at, has_place}
+use Rattle.bh_cache.proofs.Members.{drop_at, has_place}
 use Rattle.bh_cache.specs.Slots.{Slots, has, is_on, is_live, is_live_list, has_serial_in, serial_on, Once, IsArena}
 
 module _ (p : ℕ → Bool) (xs : List ℕ) (i x : ℕ) (at : slice_get xs i ≡ Some x) where

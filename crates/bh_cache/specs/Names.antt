@@ -1,4 +1,4 @@
--- How serials and cache names are spread over sixteen chains.
+-- How serials are spread over sixteen chains, and cache names over the sixteen of their request context.
 use Rattle.std.specs.Prelude.{ℕ, ◌+◌, ◌*◌, ◌^◌, ◌/◌, ◌%◌, List, [], ◌∷◌}
 
 -- neighbours fall on different chains

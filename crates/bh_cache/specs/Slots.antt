@@ -121,4 +121,4 @@ pub record IsFrame (g : GroupLists) (a b : Slots) : Type 0 where
 pub record IsApart (g h : GroupLists) : Type 0 where
   pub apart : (l : ℕ) → IsOwn g l → IsOwn h l → ⊥
   pub serials : (l : ℕ) → (g.serials ≤ l) × (l ≤ g.free1) → (h.serials ≤ l) × (l ≤ h.free1) → ⊥
-  pub names : (l : ℕ) → (g.names ≤ l) × (l ≤ g.free2) → (h.names ≤ l) × (l ≤ h.free2) → ⊥
+  pub names : (l : ℕ) → (g.names ≤ l) × (l ≤ g.unnamed) → (h.names ≤ l) × (l ≤ h.unnamed) → ⊥

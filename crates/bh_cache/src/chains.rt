@@ -1,15 +1,15 @@
-//! The chains on which a group's tickets are found: sixteen by serial and sixteen by cache name.
+//! The chains on which a group's tickets are found: sixteen by serial, and as many as the group has by cache name.
 
 ghost use Rattle.std.specs.Prelude.{◌≡◌, ◌+◌, ◌<◌, ◌^◌, Some, None, length, slice_get};
-ghost use Rattle.bh_cache.specs.Chains.{HasChains, list_by_name, name_chain, serial_chain, with_placed};
+ghost use Rattle.bh_cache.specs.Chains.{HasChains, context_chain, is_named, list_by_name, name_chain, serial_chain, with_placed, with_placed_where};
 
 use crate::lists::GroupLists;
-use crate::names::place_of_name;
+use crate::places::{place_among, place_at};
 use bh_base::{Serial, Text, Ticket};
 use bh_slot_arena::Arena;
 
-/// Moves the slot of a ticket to the ends of the chain of its serial and of the chain of its cache name, or of the
-/// list of tickets that are not cached, and changes nothing else.
+/// Moves the slot of a ticket to the ends of the chain of its serial and of the chain of its cache name, or, where it is
+/// not cached, of the list of slots without a cached ticket, and changes nothing else.
 pub fn place(arena: &mut Arena<Ticket, 3>, lists: &GroupLists, slot: u32)
     requires lists { HasChains arena.old lists.now }
     requires slot { slot < length arena.old.payloads }
@@ -22,15 +22,51 @@ pub fn place(arena: &mut Arena<Ticket, 3>, lists: &GroupLists, slot: u32)
     arena.move_to_back(2, slot, names);
 }
 
-/// Moves a slot that has no ticket any more to the ends of the lists of such slots in the second and the third family,
-/// and changes nothing else.
+/// Moves a slot that has no ticket any more to the ends of the list of such slots in the second family, and of that of
+/// slots without a cached ticket in the third, and changes nothing else.
 pub fn place_free(arena: &mut Arena<Ticket, 3>, lists: &GroupLists, slot: u32)
     requires lists { HasChains arena.old lists.now }
     requires slot { slot < length arena.old.payloads }
     ensures { arena.new ≡ with_placed lists.now slot None arena.old }
 {
     arena.move_to_back(1, slot, lists.free1);
-    arena.move_to_back(2, slot, lists.free2);
+    arena.move_to_back(2, slot, lists.unnamed);
+}
+
+/// Moves the slot of a ticket that had none before as `place` does. One that is not cached stays where it is in the third
+/// family: on the list of slots without a cached ticket it lies already.
+pub fn place_new(arena: &mut Arena<Ticket, 3>, lists: &GroupLists, slot: u32)
+    requires lists { HasChains arena.old lists.now }
+    requires slot { slot < length arena.old.payloads }
+    ensures { arena.new ≡ with_placed_where (is_named (slice_get arena.old.payloads slot)) lists.now slot (slice_get arena.old.payloads slot) arena.old }
+{
+    if is_named(arena.get(slot)) {
+        place(arena, lists, slot);
+        return;
+    }
+    let chain = serial_chain(lists, arena.get(slot).serial);
+    arena.move_to_back(1, slot, chain);
+}
+
+/// Moves the slot whose ticket has just gone as `place_free` does. One that was not cached stays where it is in the third
+/// family: on the list of slots without a cached ticket it lies already.
+pub fn place_gone(arena: &mut Arena<Ticket, 3>, lists: &GroupLists, slot: u32)
+    requires lists { HasChains arena.old lists.now }
+    requires slot { slot < length arena.old.payloads }
+    ensures { arena.new ≡ with_placed_where (is_named (slice_get arena.old.payloads slot)) lists.now slot None arena.old }
+{
+    if is_named(arena.get(slot)) {
+        place_free(arena, lists, slot);
+        return;
+    }
+    arena.move_to_back(1, slot, lists.free1);
+}
+
+/// Whether the ticket lies on a chain by cache name.
+fn is_named(ticket: &Ticket) -> bool
+    ensures { result ≡ is_named (Some ticket.now) }
+{
+    ticket.cached && ticket.cache.is_some()
 }
 
 /// The chain of a serial.
@@ -42,22 +78,33 @@ pub(crate) fn serial_chain(lists: &GroupLists, serial: Serial) -> usize
     lists.serials + (serial % 16) as usize
 }
 
+/// One of the sixteen chains of a request context.
+pub(crate) fn context_chain(lists: &GroupLists, context: u64, step: usize) -> usize
+    requires some { lists.now.names < lists.now.unnamed }
+    requires step { step < 16 }
+    ensures chain { result ≡ context_chain lists.now context step }
+    ensures to { result < lists.now.unnamed }
+{
+    let lists = *lists;
+    lists.names + place_at(lists.unnamed - lists.names, context, step)
+}
+
 /// The chain of a cache name.
 pub(crate) fn name_chain(lists: &GroupLists, context: u64, key: &Text<32>) -> usize
-    requires { lists.now.uncached ≡ lists.now.names + 16 }
+    requires { lists.now.names < lists.now.unnamed }
     ensures { result ≡ name_chain lists.now (context, key.now) }
 {
     let lists = *lists;
-    lists.names + place_of_name(context, key)
+    lists.names + place_among(lists.unnamed - lists.names, context, key)
 }
 
 /// The list of the third family for a ticket.
 fn list_by_name(lists: &GroupLists, ticket: &Ticket) -> usize
-    requires { lists.now.uncached ≡ lists.now.names + 16 }
+    requires { lists.now.names < lists.now.unnamed }
     ensures { result ≡ list_by_name lists.now (Some ticket.now) }
 {
     match &ticket.cache {
         Some((context, key)) if ticket.cached => name_chain(lists, *context, key),
-        _ => lists.uncached,
+        _ => lists.unnamed,
     }
 }

@@ -16,11 +16,8 @@ pub struct GroupLists {
     pub serials: usize,
     /// Of the second family: slots that have no ticket.
     pub free1: usize,
-    /// Of the third family: chains of cached tickets, by request context and cache key: sixteen, or in `bh_chains` as many
-    /// as go up to `uncached`.
+    /// Of the third family: chains of cached tickets, by request context and cache key: as many as go up to `unnamed`.
     pub names: usize,
-    /// Of the third family: tickets that are not cached.
-    pub uncached: usize,
-    /// Of the third family: slots that have no ticket; in `bh_chains` the same list as `uncached`.
-    pub free2: usize,
+    /// Of the third family: slots without a cached ticket, be it that they have none or that theirs is not cached.
+    pub unnamed: usize,
 }

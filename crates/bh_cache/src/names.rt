@@ -1,4 +1,4 @@
-//! How cache names are spread over sixteen chains.
+//! How cache names are spread over the sixteen chains of their request context.
 
 ghost use Rattle.std.specs.Prelude.{◌≡◌};
 ghost use Rattle.bh_cache.specs.Names.{place_of_name};
@@ -11,7 +11,7 @@ const BYTE_SPREAD: u64 = 1099511628211;
 /// An odd multiplier near 2^64 divided by the golden ratio, which brings neighbours far apart (Knuth).
 const TOP_SPREAD: u64 = 11400714819323198485;
 
-/// The place, from 0 to 15, of a request context and a cache key among the chains of cached tickets.
+/// The place, from 0 to 15, of a request context and a cache key among the sixteen chains of the context.
 pub fn place_of_name(context: u64, key: &Text<32>) -> usize
     ensures { result ≡ place_of_name (context, key.now) }
 {

@@ -18,18 +18,17 @@ use Rattle.bh_tickets.proofs.InTime.{times_more}
 use Rattle.bh_tickets.proofs.InTurn.{IsTurned, turns_less, turns_more}
 use Rattle.bh_tickets.proofs.Since.{since_more, since_own}
 use Rattle.bh_tickets.proofs.ByCommand.{counts_more, has_room}
-use Rattle.bh_chains.specs.Notes.{is_noted}
+use Rattle.bh_cache.specs.Notes.{is_noted}
 use Rattle.bh_cache.proofs.Order.{order_same, order_without, order_append, front_on, front_none, count_le, count_same}
 use Rattle.bh_cache.proofs.Counts.{count_point}
-use Rattle.bh_cache.proofs.Places.{get_set, has_reverse}
+use Rattle.bh_cache.proofs.Members.{get_set, has_reverse}
 use Rattle.bh_tickets.proofs.Touched.{IsTouched, touched_both, payload_other, payload_slot, at_other, at_slot, touched_arena, touched_frame, owned_same}
 use Rattle.bh_cache.proofs.Moves.{has_without, list_to}
 use Rattle.bh_tickets.proofs.Own.{come_arranged, come_tickets, live_for}
 use Rattle.bh_tickets.proofs.Others.{each_list, own_for}
 use Rattle.bh_tickets.proofs.Chained.{chains_placed, moved_keeps, placed_on, touched_placed}
-use Rattle.bh_cache.specs.Chains.{IsChainFrame}
-use Rattle.bh_chains.specs.Chains.{IsChained, is_named, list_by_name, with_placed_where}
-use Rattle.bh_chains.proofs.Placed.{unnamed_list}
+use Rattle.bh_cache.specs.Chains.{IsChainFrame, IsChained, is_named, list_by_name, with_placed_where}
+use Rattle.bh_cache.proofs.Placed.{unnamed_list}
 
 -- ---- tickets lie in live slots
 
@@ -178,7 +177,7 @@ module _ (a b : Slots) (s : GroupSlots) (x : ℕ) (v : Ticket) (arena : IsArena 
   chains : IsChained b s.lists × IsChainFrame s.lists a b
   chains = chains_placed (is_named (Some v)) a (with_moved 0 x (list_for s.lists v.state) (with_payload x v a)) b s.lists x (list_for s.lists v.state) v (Some v) before (moved_keeps a x (list_for s.lists v.state) v) serials names group.chained owned_slot owned_list
       (sym (ap (λ c. if c then Some v else None) (live_for s.lists v.state)))
-      (λ off. unnamed_list a s.lists group.chained.lists (Some v) off ∙ ap (list_by_name s.lists) (sym was)) is
+      (λ off. unnamed_list s.lists (Some v) off ∙ ap (list_by_name s.lists) (sym was)) is
 
   recount : (q : Ticket → Bool) → count_at b s.lists q ≡ count_at a s.lists q + one (q v)
   recount q =

@@ -5,12 +5,10 @@ use Rattle.std.proofs.lemmas.Bool.{cases_eq}
 use Rattle.bh_base.specs.declared.ticket.Ticket.{Ticket}
 use Rattle.bh_slot_arena.specs.Slots.{lists_in, slots_on, with_payload, with_moved}
 use Rattle.bh_cache.specs.declared.lists.GroupLists.{GroupLists}
-use Rattle.bh_cache.specs.Chains.{IsChainFrame, AreOn, list_by_serial, serial_chain}
-use Rattle.bh_chains.specs.Chains.{HasChains, IsChained, list_by_name, list_of_name, with_placed_where}
+use Rattle.bh_cache.specs.Chains.{IsChainFrame, AreOn, HasChains, IsChained, list_by_serial, serial_chain, list_by_name, list_of_name, with_placed_where}
 use Rattle.bh_cache.specs.Slots.{Slots, has, is_live_list, is_on, is_owned, ticket_at, Once, IsApart, IsArena}
 use Rattle.bh_cache.proofs.Moves.{families_count, family_stays}
-use Rattle.bh_cache.proofs.Placed.{IsUnplaced}
-use Rattle.bh_chains.proofs.Placed.{chained_same, chained_where, families_where, first_where, frame_where, name_list_within, serial_list_within}
+use Rattle.bh_cache.proofs.Placed.{IsUnplaced, chained_same, chained_where, families_where, first_where, frame_where, name_list_within, serial_list_within}
 use Rattle.bh_tickets.specs.Same.{KeepsOwn}
 use Rattle.bh_tickets.proofs.Touched.{IsTouched, at_other, at_slot, owned_same}
 
@@ -67,8 +65,7 @@ freed_keeps a x to = record {
 pub chains_there : (a b : Slots) (g : GroupLists) → KeepsChains a b → HasChains a g → HasChains b g
 chains_there a b g keeps has' = record {
   free1 = has'.free1;
-  uncached = has'.uncached;
-  free2 = has'.free2;
+  unnamed = has'.unnamed;
   serials_there = omega (arith, has'.serials_there, ap (λ (ls : List (List ℕ)). length ls) keeps.serials);
   names_there = omega (arith, has'.names_there, ap (λ (ls : List (List ℕ)). length ls) keeps.names);
 }
@@ -99,7 +96,7 @@ same_serial_list g t v e = ap (serial_chain g) e
 
 -- one that keeps its name and is cached as before, too
 same_name_list : (g : GroupLists) (t v : Ticket) → v.cache ≡ t.cache → v.cached ≡ t.cached → list_by_name g (Some v) ≡ list_by_name g (Some t)
-same_name_list g t v e f = λ i. if f i then list_of_name g (e i) else g.uncached
+same_name_list g t v e f = λ i. if f i then list_of_name g (e i) else g.unnamed
 
 -- a slot that was touched lies on its chains still, where its ticket keeps serial and name
 pub chains_touched : (a b : Slots) (g : GroupLists) (x to : ℕ) (t v : Ticket) → IsTouched a b x to v → KeepsChains a b → IsChained a g → is_owned a g x ≡ true → (eqb g.free to || is_live_list g to) ≡ true
@@ -127,19 +124,18 @@ on_kept family first last to a b g keeps within owned at are = record {
 }
 
 -- a group's slots lie on its chains still, where these, its slots and its tickets are as before
-pub chains_kept : (a b : Slots) (g : GroupLists) → KeepsOwn 1 g.serials g.free1 a b → KeepsOwn 2 g.names g.free2 a b → ((x : ℕ) → is_owned b g x ≡ is_owned a g x) → ((x : ℕ) → ticket_at b g x ≡ ticket_at a g x) → IsChained a g → IsChained b g
+pub chains_kept : (a b : Slots) (g : GroupLists) → KeepsOwn 1 g.serials g.free1 a b → KeepsOwn 2 g.names g.unnamed a b → ((x : ℕ) → is_owned b g x ≡ is_owned a g x) → ((x : ℕ) → ticket_at b g x ≡ ticket_at a g x) → IsChained a g → IsChained b g
 chains_kept a b g serials names owned at chained =
     let there = chained.lists in
     record {
       lists = record {
         free1 = there.free1;
-        uncached = there.uncached;
-        free2 = there.free2;
+        unnamed = there.unnamed;
         serials_there = omega (arith, there.serials_there, serials.count);
         names_there = omega (arith, there.names_there, names.count);
       };
       serials = on_kept 1 g.serials g.free1 (list_by_serial g) a b g serials (λ o. serial_list_within a g there o) owned at chained.serials;
-      names = on_kept 2 g.names g.free2 (list_by_name g) a b g names (λ o. name_list_within a g there o) owned at chained.names;
+      names = on_kept 2 g.names g.unnamed (list_by_name g) a b g names (λ o. name_list_within a g there o) owned at chained.names;
     }
 
 -- as for each group but the one that changed
@@ -149,7 +145,7 @@ serials_apart g h a b frame apart = record {
   lists = λ l from to. frame.serials.lists l (λ other. apart.serials l other (from, to));
 }
 
-pub names_apart : (g h : GroupLists) (a b : Slots) → IsChainFrame g a b → IsApart g h → KeepsOwn 2 h.names h.free2 a b
+pub names_apart : (g h : GroupLists) (a b : Slots) → IsChainFrame g a b → IsApart g h → KeepsOwn 2 h.names h.unnamed a b
 names_apart g h a b frame apart = record {
   count = omega (arith, frame.names.count);
   lists = λ l from to. frame.names.lists l (λ other. apart.names l other (from, to));

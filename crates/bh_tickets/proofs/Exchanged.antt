@@ -30,9 +30,9 @@ pub found_names : (chains number : ℕ) (a : Slots) (ns : List NameLists) → Ha
 found_names chains number a ns there = record { there = there; whole = λ p ss w. w; view = λ p ss w. refl }
 
 -- new ones, behind the others
-pub made_names : (c : ℕ) → 0 < c → (a b : Slots) (ns : List NameLists) (x : NameLists) → HasNewLists 0 0 (c + 1) a b → x.names ≡ length (lists_in a 2) → x.uncached ≡ length (lists_in a 2) + c → GetsNames c (length ns) a ns b (ns ++ x ∷ [])
-made_names c some a b ns x more names uncached = record {
-  there = record { entry = x; here = names_end ns x; many = omega (arith, names, uncached) };
+pub made_names : (c : ℕ) → 0 < c → (a b : Slots) (ns : List NameLists) (x : NameLists) → HasNewLists 0 0 (c + 1) a b → x.names ≡ length (lists_in a 2) → x.unnamed ≡ length (lists_in a 2) + c → GetsNames c (length ns) a ns b (ns ++ x ∷ [])
+made_names c some a b ns x more names unnamed = record {
+  there = record { entry = x; here = names_end ns x; many = omega (arith, names, unnamed) };
   whole = λ p ss w.
       let still = more_whole a b (Some p) ss ns grown w in
       record {
@@ -40,7 +40,7 @@ made_names c some a b ns x more names uncached = record {
         slots = still.slots;
         free = still.free;
         first = still.first;
-        names = left_made a b (p ∷ ss) ns c x some more names uncached (λ j s e. (w.all.each j s e).chained.lists.names_there) w.names;
+        names = left_made a b (p ∷ ss) ns c x some more names unnamed (λ j s e. (w.all.each j s e).chained.lists.names_there) w.names;
       };
   view = λ p ss w. view_more a b ss (groups_in w) grown;
 }
@@ -94,8 +94,7 @@ module _ (b : Slots) (p : GroupSlots) (ss : List GroupSlots) (ms : List NameList
     there = was.there;
     chains = record {
       free1 = was.chains.free1;
-      uncached = lists.some;
-      free2 = refl;
+      unnamed = lists.some;
       serials_there = was.chains.serials_there;
       names_there = lists.there;
     };
@@ -157,14 +156,14 @@ module _ (b : Slots) (p : GroupSlots) (ss : List GroupSlots) (ms : List NameList
 
   given : AreEmpty b (names_of g)
   given = record {
-    some = was.chains.uncached;
-    there = omega (arith, was.chains.names_there, was.chains.free2);
+    some = was.chains.unnamed;
+    there = was.chains.names_there;
     empty = λ l low high. none_on (slots_on b 2 l) (λ x. off l x low high (is_on b 2 l x) refl);
   }
     where
-      off : (l x : ℕ) → g.names ≤ l → l ≤ g.uncached → (c : Bool) → is_on b 2 l x ≡ c → c ≡ false
+      off : (l x : ℕ) → g.names ≤ l → l ≤ g.unnamed → (c : Bool) → is_on b 2 l x ≡ c → c ≡ false
       off l x low high false e = refl
-      off l x low high true e = absurd (not_free x (was.names.owned l x low (omega (arith, high, was.chains.free2)) e))
+      off l x low high true e = absurd (not_free x (was.names.owned l x low high e))
 
   there : slice_get (set ms number (names_of g)) number ≡ Some (names_of g)
   there = names_same ms number (names_of g) (names_lt ms number n found)
@@ -175,9 +174,6 @@ module _ (b : Slots) (p : GroupSlots) (ss : List GroupSlots) (ms : List NameList
   left : (j : ℕ) (k : NameLists) → (j ≡ number → ⊥) → slice_get (set ms number (names_of g)) j ≡ Some k → slice_get ms j ≡ Some k
   left j k ne e = sym (names_other ms number j (names_of g) ne) ∙ e
 
-  wider : (l : ℕ) → (g.names ≤ l) × (l ≤ g.uncached) → (g.names ≤ l) × (l ≤ g.free2)
-  wider l own = (own.0, omega (arith, own.1, was.chains.free2))
-
   -- they are those of no group now
   names : AreLeft b (set qs i r) (set ms number (names_of g))
   names = record {
@@ -186,21 +182,21 @@ module _ (b : Slots) (p : GroupSlots) (ss : List GroupSlots) (ms : List NameList
       | inr ne ↦ w.names.each j k (left j k ne e)
     ];
     beside = λ j l k t e f. elim (cases_eq j number) [
-      | inl q ↦ subst (λ (z : NameLists). AreApart t.lists.names t.lists.free2 z.names z.uncached) (sym (now_given j k q e)) (elim (cases_eq l i) [
-        | inl z ↦ subst (λ (y : GroupSlots). AreApart y.lists.names y.lists.free2 g.names g.uncached) (sym (now_r l t z f)) (λ m own other. w.names.beside number i n s found is m (wider m other) own)
-        | inr nl ↦ λ m own other. (w.all.apart l i t s (old l t nl f) is nl).names m own (wider m other)
+      | inl q ↦ subst (λ (z : NameLists). AreApart t.lists.names t.lists.unnamed z.names z.unnamed) (sym (now_given j k q e)) (elim (cases_eq l i) [
+        | inl z ↦ subst (λ (y : GroupSlots). AreApart y.lists.names y.lists.unnamed g.names g.unnamed) (sym (now_r l t z f)) (λ m own other. w.names.beside number i n s found is m other own)
+        | inr nl ↦ λ m own other. (w.all.apart l i t s (old l t nl f) is nl).names m own other
       ])
       | inr ne ↦ elim (cases_eq l i) [
-        | inl z ↦ subst (λ (y : GroupSlots). AreApart y.lists.names y.lists.free2 k.names k.uncached) (sym (now_r l t z f)) (w.names.apart number j n k found (left j k ne e) (λ y. ne (sym y)))
+        | inl z ↦ subst (λ (y : GroupSlots). AreApart y.lists.names y.lists.unnamed k.names k.unnamed) (sym (now_r l t z f)) (w.names.apart number j n k found (left j k ne e) (λ y. ne (sym y)))
         | inr nl ↦ w.names.beside j l k t (left j k ne e) (old l t nl f)
       ]
     ];
     apart = λ j l k m e f ne. elim (cases_eq j number) [
       | inl q ↦
           let nl : l ≡ number → ⊥ = λ z. ne (q ∙ sym z) in
-          subst (λ (z : NameLists). AreApart z.names z.uncached m.names m.uncached) (sym (now_given j k q e)) (λ y own other. w.names.beside l i m s (left l m nl f) is y (wider y own) other)
+          subst (λ (z : NameLists). AreApart z.names z.unnamed m.names m.unnamed) (sym (now_given j k q e)) (w.names.beside l i m s (left l m nl f) is)
       | inr nj ↦ elim (cases_eq l number) [
-        | inl q ↦ subst (λ (z : NameLists). AreApart k.names k.uncached z.names z.uncached) (sym (now_given l m q f)) (λ y own other. w.names.beside j i k s (left j k nj e) is y (wider y other) own)
+        | inl q ↦ subst (λ (z : NameLists). AreApart k.names k.unnamed z.names z.unnamed) (sym (now_given l m q f)) (λ y own other. w.names.beside j i k s (left j k nj e) is y other own)
         | inr nl ↦ w.names.apart j l k m (left j k nj e) (left l m nl f) ne
       ]
     ];
@@ -253,7 +249,7 @@ exchanged_gets chains place number a b ss rs ns ms ks left got exchanged =
     empty : s.slots.max ≡ 0
     empty = ap (λ (z : GroupSlots). z.slots.max) (some_same s left.entry (sym exchanged.here ∙ left.here)) ∙ left.empty
 
-    many : n.uncached ≡ n.names + chains
+    many : n.unnamed ≡ n.names + chains
     many =
         let same : n ≡ got.there.entry = same_names n got.there.entry (sym exchanged.there ∙ got.there.here) in
-        subst (λ (z : NameLists). z.uncached ≡ z.names + chains) (sym same) got.there.many
+        subst (λ (z : NameLists). z.unnamed ≡ z.names + chains) (sym same) got.there.many

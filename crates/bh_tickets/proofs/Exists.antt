@@ -12,7 +12,7 @@ use Rattle.bh_cache.specs.Cache.{IsEarliest}
 use Rattle.bh_cache.specs.Slots.{Slots, is_on, is_live, ticket_at, tickets_of, list_for, has_serial_in, has, has_one}
 use Rattle.bh_cache.proofs.Listed.{IsIn, from_listed, find_none}
 use Rattle.bh_cache.proofs.Walks.{on_queued, on_running, on_settled}
-use Rattle.bh_cache.proofs.Places.{drop_at, drop_past, drop_end}
+use Rattle.bh_cache.proofs.Members.{drop_at, drop_past, drop_end}
 use Rattle.bh_cache.proofs.Earliest.{earliest_first, none_first as no_first}
 use Rattle.bh_tickets.specs.declared.group_slots.GroupSlots.{GroupSlots}
 use Rattle.bh_tickets.specs.declared.states.DueRule.{DueRule}

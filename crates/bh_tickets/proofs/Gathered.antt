@@ -5,7 +5,7 @@ use Rattle.std.proofs.lemmas.Bool.{cases_eq}
 use Rattle.bh_slot_arena.specs.Lists.{list_at, put_last}
 use Rattle.bh_slot_arena.specs.Slots.{lists_in, slots_on, with_appended}
 use Rattle.bh_cache.specs.Slots.{Slots, has, is_on}
-use Rattle.bh_cache.proofs.Places.{has_append}
+use Rattle.bh_cache.proofs.Members.{has_append}
 use Rattle.bh_tickets.specs.Spare.{IsGathered, on_run}
 use Rattle.bh_tickets.proofs.Vacant.{or_false, or_true}
 

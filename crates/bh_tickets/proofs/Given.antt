@@ -5,11 +5,10 @@ use Rattle.std.proofs.lemmas.Bool.{cases_eq}
 use Rattle.bh_base.specs.declared.ticket.Ticket.{Ticket}
 use Rattle.bh_slot_arena.specs.Slots.{slots_on}
 use Rattle.bh_cache.specs.declared.lists.GroupLists.{GroupLists}
-use Rattle.bh_cache.specs.Chains.{list_by_serial}
-use Rattle.bh_chains.specs.Chains.{list_by_name}
+use Rattle.bh_cache.specs.Chains.{list_by_serial, list_by_name}
 use Rattle.bh_cache.specs.Slots.{Slots, has, is_on, is_owned, ticket_at, count_below, one, IsApart, IsArena, IsOwn}
 use Rattle.bh_cache.proofs.Order.{count_same}
-use Rattle.bh_chains.proofs.Placed.{name_list_within, serial_list_within}
+use Rattle.bh_cache.proofs.Placed.{name_list_within, serial_list_within}
 use Rattle.bh_tickets.specs.declared.group_slots.GroupSlots.{GroupSlots}
 use Rattle.bh_tickets.specs.GroupSlots.{IsGroupSlots}
 use Rattle.bh_tickets.specs.Same.{IsSame}
@@ -81,10 +80,10 @@ module _ (a : Slots) (s : GroupSlots) (group : IsGroupSlots a s) where
 
   -- so many lists of the third family
   abbrev named : ℕ
-  named = s.lists.free2 - s.lists.names + 1
+  named = s.lists.unnamed - s.lists.names + 1
 
-  named_to : s.lists.names + named ≡ s.lists.free2 + 1
-  named_to = omega (arith, group.chained.lists.uncached, group.chained.lists.free2)
+  named_to : s.lists.names + named ≡ s.lists.unnamed + 1
+  named_to = omega (arith, group.chained.lists.unnamed)
 
   run_third : (x : ℕ) → on_run a 2 s.lists.names named x ≡ is_owned a s.lists x
   run_third x = both_ways (on_run a 2 s.lists.names named x) (is_owned a s.lists x)
@@ -93,15 +92,15 @@ module _ (a : Slots) (s : GroupSlots) (group : IsGroupSlots a s) where
       on_run_in a 2 s.lists.names named (list_by_name s.lists (ticket_at a s.lists x)) x k.0 (omega (arith, k.1, named_to)) (group.chained.names.placed x e))
 
 module _ (a c d b : Slots) (s : GroupSlots) (to : GroupLists) (group : IsGroupSlots a s) (vacant : IsVacant a to) (apart : IsApart s.lists to) (arena : IsArena a 0) (after : IsArena b 0)
-    (one_ : IsGathered 0 s.lists.free 4 to.free a c) (two : IsGathered 1 s.lists.serials 17 to.free1 c d) (three : IsGathered 2 s.lists.names (named a s group) to.free2 d b) where
+    (one_ : IsGathered 0 s.lists.free 4 to.free a c) (two : IsGathered 1 s.lists.serials 17 to.free1 c d) (three : IsGathered 2 s.lists.names (named a s group) to.unnamed d b) where
   first : IsEmptied 0 s.lists.free 4 to.free a b
   first = emptied 0 s.lists.free 4 to.free a a c b refl one_ (three.others 0 (λ e. absurd (omega (arith, e))) ∙ two.others 0 (λ e. absurd (omega (arith, e))))
 
   second : IsEmptied 1 s.lists.serials 17 to.free1 a b
   second = emptied 1 s.lists.serials 17 to.free1 a c d b (one_.others 1 (λ e. absurd (omega (arith, e)))) two (three.others 1 (λ e. absurd (omega (arith, e))))
 
-  third : IsEmptied 2 s.lists.names (named a s group) to.free2 a b
-  third = emptied 2 s.lists.names (named a s group) to.free2 a d b b (two.others 2 (λ e. absurd (omega (arith, e))) ∙ one_.others 2 (λ e. absurd (omega (arith, e)))) three refl
+  third : IsEmptied 2 s.lists.names (named a s group) to.unnamed a b
+  third = emptied 2 s.lists.names (named a s group) to.unnamed a d b b (two.others 2 (λ e. absurd (omega (arith, e))) ∙ one_.others 2 (λ e. absurd (omega (arith, e)))) three refl
 
   payloads : b.payloads ≡ a.payloads
   payloads = three.payloads ∙ two.payloads ∙ one_.payloads
@@ -128,7 +127,7 @@ module _ (a c d b : Slots) (s : GroupSlots) (to : GroupLists) (group : IsGroupSl
         kept = λ l x low high ne e. sym (ap (has x) (second.kept l (λ from til. apart.serials l (from, omega (arith, til, group.chained.lists.free1)) (low, high)) ne)) ∙ e;
       })
       (record {
-        on = λ x. third.on x ∙ ap (λ z. is_on a 2 to.free2 x || z) (run_third a s group x);
+        on = λ x. third.on x ∙ ap (λ z. is_on a 2 to.unnamed x || z) (run_third a s group x);
         kept = λ l x low high ne e. sym (ap (has x) (third.kept l (λ from til. apart.names l (from, omega (arith, til, named_to a s group)) (low, high)) ne)) ∙ e;
       })
 
@@ -143,8 +142,7 @@ module _ (a c d b : Slots) (s : GroupSlots) (to : GroupLists) (group : IsGroupSl
     there = omega (arith, group.there, there.first);
     chains = record {
       free1 = group.chained.lists.free1;
-      uncached = group.chained.lists.uncached;
-      free2 = group.chained.lists.free2;
+      unnamed = group.chained.lists.unnamed;
       serials_there = omega (arith, group.chained.lists.serials_there, there.second);
       names_there = omega (arith, group.chained.lists.names_there, there.third);
     };
@@ -194,7 +192,7 @@ module _ (a c d b : Slots) (s : GroupSlots) (to : GroupLists) (group : IsGroupSl
     };
     names = record {
       count = omega (arith, third.lists);
-      lists = λ l low high. third.kept l (λ from til. p.names l (from, omega (arith, til, named_to a s group)) (low, high)) (λ e. q.names l (omega (arith, e, vacant.chains.free2), omega (arith, e)) (low, high));
+      lists = λ l low high. third.kept l (λ from til. p.names l (from, omega (arith, til, named_to a s group)) (low, high)) (λ e. q.names l (omega (arith, e, vacant.chains.unnamed), omega (arith, e)) (low, high));
     };
   }
 

@@ -1,22 +1,21 @@
 -- A ticket is changed in place.
 use Rattle.std.proofs.Common.{◌≡◌, ℕ, ◌<◌, ◌⊎◌, true, false, Some, refl, ◌∙◌, sym, ap, subst, arith}
-use Rattle.std.specs.Prelude.{◌≢◌, Bool, slice_get}
+use Rattle.std.specs.Prelude.{◌≢◌, Bool, slice_get, if◌then◌else◌}
 use Rattle.std.proofs.lemmas.Bool.{eq-eqb}
-use Rattle.std.specs.Prelude.{if◌then◌else◌}
 use Rattle.bh_base.specs.declared.ticket.Ticket.{Ticket}
 use Rattle.bh_base.specs.Tickets.{is_kept}
 use Rattle.bh_slot_arena.specs.Slots.{with_payload, with_moved}
 use Rattle.bh_cache.specs.Slots.{Slots, ticket_at, list_for, IsArena}
 use Rattle.bh_tickets.specs.declared.changes.TicketChange.{TicketChange}
 use Rattle.bh_tickets.specs.declared.group_slots.GroupSlots.{GroupSlots}
-use Rattle.bh_chains.specs.declared.notes.Noted.{Noted}
-use Rattle.bh_chains.specs.Notes.{IsNoted}
+use Rattle.bh_cache.specs.declared.notes.Noted.{Noted}
+use Rattle.bh_cache.specs.Notes.{IsNoted}
 use Rattle.bh_tickets.specs.Changes.{IsAllowed, changed_by}
 use Rattle.bh_tickets.specs.GroupSlots.{CanBe, IsGroupSlots, IsPut, counted_in, counted_out}
 use Rattle.bh_tickets.proofs.Changed.{cache_kept, cached_kept, command_kept, serial_kept, submitted_kept, waits_kept}
 use Rattle.bh_tickets.proofs.InTurn.{IsTurned}
 use Rattle.bh_tickets.proofs.Puts.{put_from, was_is, within_slots}
-use Rattle.bh_cache.proofs.Places.{get_set}
+use Rattle.bh_cache.proofs.Members.{get_set}
 
 some_same : (t u : Ticket) → Some t ≡ Some u → t ≡ u
 some_same t u e = cc

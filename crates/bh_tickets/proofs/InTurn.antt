@@ -9,7 +9,7 @@ use Rattle.bh_cache.specs.declared.lists.GroupLists.{GroupLists}
 use Rattle.bh_cache.specs.Slots.{Slots, has, is_on, serial_in, InOrder}
 use Rattle.bh_cache.proofs.Moves.{has_without}
 use Rattle.bh_cache.proofs.Order.{order_append, order_same, order_without}
-use Rattle.bh_cache.proofs.Places.{has_append}
+use Rattle.bh_cache.proofs.Members.{has_append}
 use Rattle.bh_tickets.specs.declared.group_slots.GroupSlots.{GroupSlots}
 use Rattle.bh_tickets.specs.GroupSlots.{AreInTurn, with_start}
 

@@ -21,7 +21,7 @@ pub mod Whole  -- one group of many changes, and what is read of its tickets
 pub mod Finds  -- which ticket a search finds
 pub mod Exists  -- the ticket of a name, and whether a group has a ticket of a kind
 -- Walks along the lists of a group:
-pub mod Along  -- a walk along a list that may take the slot at hand off it
+pub mod Along  -- what a walk along a list does to the tickets of a group, one slot after another
 pub mod TimedAll  -- all of a group's tickets that are due time out
 pub mod SinceAll  -- a walk for tickets that are due finds since when tickets of the command wait or run
 pub mod Rising  -- lists whose tickets lie in the order of their submits

@@ -62,11 +62,10 @@ lists_of n = record {
   serials = 1;
   free1 = 0;
   names = n.names;
-  uncached = n.uncached;
-  free2 = n.uncached;
+  unnamed = n.unnamed;
 }
 
-pub apart_lists : (g : GroupLists) (n : NameLists) → AreApart g.names g.free2 n.names n.uncached → IsApart g (lists_of n)
+pub apart_lists : (g : GroupLists) (n : NameLists) → AreApart g.names g.unnamed n.names n.unnamed → IsApart g (lists_of n)
 apart_lists g n apart = record {
   apart = λ l own other. let low : 1 ≤ l = other.from in let high : l ≤ 0 = other.to in absurd (omega (arith, low, high));
   serials = λ l own other. let low : 1 ≤ l = other.0 in let high : l ≤ 0 = other.1 in absurd (omega (arith, low, high));
@@ -82,7 +81,7 @@ pub record HadLists (ss : List GroupSlots) (r : GroupSlots) : Type 0 where
   pub there : slice_get ss number ≡ Some was
   pub lists : r.lists ≡ was.lists
 
-pub left_same : (a b : Slots) (qs rs : List GroupSlots) (ns : List NameLists) → AreLeft a qs ns → ((i : ℕ) (n : NameLists) → slice_get ns i ≡ Some n → KeepsOwn 2 n.names n.uncached a b)
+pub left_same : (a b : Slots) (qs rs : List GroupSlots) (ns : List NameLists) → AreLeft a qs ns → ((i : ℕ) (n : NameLists) → slice_get ns i ≡ Some n → KeepsOwn 2 n.names n.unnamed a b)
     → ((j : ℕ) (r : GroupSlots) → slice_get rs j ≡ Some r → HadLists qs r) → AreLeft b rs ns
 left_same a b qs rs ns left keeps had = record {
   each = λ i n e.
@@ -95,7 +94,7 @@ left_same a b qs rs ns left keeps had = record {
       };
   beside = λ i j n s e f.
       let h = had j s f in
-      subst (λ (g : GroupLists). AreApart g.names g.free2 n.names n.uncached) (sym h.lists) (left.beside i h.number n h.was e h.there);
+      subst (λ (g : GroupLists). AreApart g.names g.unnamed n.names n.unnamed) (sym h.lists) (left.beside i h.number n h.was e h.there);
   apart = left.apart;
 }
 
@@ -107,27 +106,27 @@ keeps_more n m k a b first last more = record {
 }
 
 pub left_more : (n m k : ℕ) (a b : Slots) (qs : List GroupSlots) (ns : List NameLists) → HasNewLists n m k a b → AreLeft a qs ns → AreLeft b qs ns
-left_more n m k a b qs ns more left = left_same a b qs qs ns left (λ i x e. keeps_more n m k a b x.names x.uncached more) (λ j r e. record { number = j; was = r; there = e; lists = refl })
+left_more n m k a b qs ns more left = left_same a b qs qs ns left (λ i x e. keeps_more n m k a b x.names x.unnamed more) (λ j r e. record { number = j; was = r; there = e; lists = refl })
 
 -- chains that are made are empty, and behind those that were there
-pub left_made : (a b : Slots) (qs : List GroupSlots) (ns : List NameLists) (c : ℕ) (x : NameLists) → 0 < c → HasNewLists 0 0 (c + 1) a b → x.names ≡ length (lists_in a 2) → x.uncached ≡ length (lists_in a 2) + c
-    → ((j : ℕ) (s : GroupSlots) → slice_get qs j ≡ Some s → s.lists.free2 < length (lists_in a 2)) → AreLeft a qs ns → AreLeft b qs (ns ++ x ∷ [])
-left_made a b qs ns c x some more names uncached there left = record {
+pub left_made : (a b : Slots) (qs : List GroupSlots) (ns : List NameLists) (c : ℕ) (x : NameLists) → 0 < c → HasNewLists 0 0 (c + 1) a b → x.names ≡ length (lists_in a 2) → x.unnamed ≡ length (lists_in a 2) + c
+    → ((j : ℕ) (s : GroupSlots) → slice_get qs j ≡ Some s → s.lists.unnamed < length (lists_in a 2)) → AreLeft a qs ns → AreLeft b qs (ns ++ x ∷ [])
+left_made a b qs ns c x some more names unnamed there left = record {
   each = λ i n e. elim (names_append ns x i n e) [
     | inl k ↦ subst (AreEmpty b) (sym k.1) fresh
     | inr k ↦ now.each i n k
   ];
   beside = λ i j n s e f. elim (names_append ns x i n e) [
-    | inl k ↦ subst (λ (z : NameLists). AreApart s.lists.names s.lists.free2 z.names z.uncached) (sym k.1) (λ l own other. let low : x.names ≤ l = other.0 in absurd (omega (arith, there j s f, names, own.1, low)))
+    | inl k ↦ subst (λ (z : NameLists). AreApart s.lists.names s.lists.unnamed z.names z.unnamed) (sym k.1) (λ l own other. let low : x.names ≤ l = other.0 in absurd (omega (arith, there j s f, names, own.1, low)))
     | inr k ↦ now.beside i j n s k f
   ];
   apart = λ i j n m e f ne. elim (names_append ns x i n e) [
     | inl k ↦ elim (names_append ns x j m f) [
       | inl q ↦ absurd (ne (k.0 ∙ sym q.0))
-      | inr q ↦ subst (λ (z : NameLists). AreApart z.names z.uncached m.names m.uncached) (sym k.1) (λ l own other. let low : x.names ≤ l = own.0 in absurd (omega (arith, (left.each j m q).there, names, low, other.1)))
+      | inr q ↦ subst (λ (z : NameLists). AreApart z.names z.unnamed m.names m.unnamed) (sym k.1) (λ l own other. let low : x.names ≤ l = own.0 in absurd (omega (arith, (left.each j m q).there, names, low, other.1)))
     ]
     | inr k ↦ elim (names_append ns x j m f) [
-      | inl q ↦ subst (λ (z : NameLists). AreApart n.names n.uncached z.names z.uncached) (sym q.1) (λ l own other. let low : x.names ≤ l = other.0 in absurd (omega (arith, (left.each i n k).there, names, low, own.1)))
+      | inl q ↦ subst (λ (z : NameLists). AreApart n.names n.unnamed z.names z.unnamed) (sym q.1) (λ l own other. let low : x.names ≤ l = other.0 in absurd (omega (arith, (left.each i n k).there, names, low, own.1)))
       | inr q ↦ now.apart i j n m k q ne
     ]
   ];
@@ -141,7 +140,7 @@ left_made a b qs ns c x some more names uncached there left = record {
 
     fresh : AreEmpty b x
     fresh = record {
-      some = omega (arith, names, uncached, some);
-      there = omega (arith, uncached, count);
+      some = omega (arith, names, unnamed, some);
+      there = omega (arith, unnamed, count);
       empty = λ l low high. ap (λ (ls : List (List ℕ)). get_or ls l []) more.third ∙ append_empty (lists_in a 2) (c + 1) l ∙ get_or_past (lists_in a 2) l [] (omega (arith, names, low));
     }

@@ -7,7 +7,7 @@ use Rattle.bh_slot_arena.specs.Lists.{list_at, put_last}
 use Rattle.bh_slot_arena.specs.Slots.{lists_in, slots_on}
 use Rattle.bh_cache.specs.declared.lists.GroupLists.{GroupLists}
 use Rattle.bh_cache.specs.Slots.{Slots, has, IsApart, IsArena, IsOwn}
-use Rattle.bh_cache.proofs.Places.{has_append}
+use Rattle.bh_cache.proofs.Members.{has_append}
 use Rattle.bh_tickets.specs.Growth.{HasNewLists, IsGrown, lists_from}
 use Rattle.bh_tickets.specs.Same.{IsSame}
 use Rattle.bh_tickets.specs.Spare.{IsVacant, free_slots}
@@ -40,11 +40,8 @@ module _ (c : ℕ) (some : 0 < c) (a b : Slots) (g : GroupLists) (more : HasNewL
   is_names : g.names ≡ length (lists_in a 2)
   is_names = ap (λ (z : GroupLists). z.names) from
 
-  is_uncached : g.uncached ≡ length (lists_in a 2) + c
-  is_uncached = ap (λ (z : GroupLists). z.uncached) from
-
-  is_free2 : g.free2 ≡ length (lists_in a 2) + c
-  is_free2 = ap (λ (z : GroupLists). z.free2) from
+  is_unnamed : g.unnamed ≡ length (lists_in a 2) + c
+  is_unnamed = ap (λ (z : GroupLists). z.unnamed) from
 
   empty_first : (l : ℕ) → length (lists_in a 0) ≤ l → slots_on b 0 l ≡ []
   empty_first l le = ap (λ (ls : List (List ℕ)). get_or ls l []) more.first ∙ append_empty (lists_in a 0) 4 l ∙ get_or_past (lists_in a 0) l [] le
@@ -78,10 +75,9 @@ module _ (c : ℕ) (some : 0 < c) (a b : Slots) (g : GroupLists) (more : HasNewL
     there = omega (arith, is_settled_list, count_first);
     chains = record {
       free1 = omega (arith, is_free1, is_serials);
-      uncached = omega (arith, is_uncached, is_names, some);
-      free2 = omega (arith, is_free2, is_uncached);
+      unnamed = omega (arith, is_unnamed, is_names, some);
       serials_there = omega (arith, is_free1, count_second);
-      names_there = omega (arith, is_free2, count_third);
+      names_there = omega (arith, is_unnamed, count_third);
     };
     live = λ x. live_none b g x
         (not_true (ap (has x) (empty_first g.queued (omega (arith, is_queued_list)))))
@@ -98,7 +94,7 @@ module _ (c : ℕ) (some : 0 < c) (a b : Slots) (g : GroupLists) (more : HasNewL
   }
 
   -- its lists are behind those of groups that were there
-  pub new_apart : (h : GroupLists) → h.settled < length (lists_in a 0) → h.free1 < length (lists_in a 1) → h.free2 < length (lists_in a 2) → IsApart h g
+  pub new_apart : (h : GroupLists) → h.settled < length (lists_in a 0) → h.free1 < length (lists_in a 1) → h.unnamed < length (lists_in a 2) → IsApart h g
   new_apart h p q r = record {
     apart = λ l own other. absurd (omega (arith, p, is_free, own.to, other.from));
     serials = λ l own other. absurd (omega (arith, q, is_serials, own.1, other.0));
@@ -127,13 +123,13 @@ module _ (count : ℕ) (g : GroupLists) (a b : Slots) (grown : IsGrown g count a
   three = family_there a.families 2 (omega (arith, vacant.chains.names_there))
 
   first : lists_in b 0 ≡ put_last come g.free (lists_in a 0)
-  first = ap (λ (z : Slots). lists_in z 0) grown.is ∙ put_first g.free g.free1 g.free2 come a.families three
+  first = ap (λ (z : Slots). lists_in z 0) grown.is ∙ put_first g.free g.free1 g.unnamed come a.families three
 
   second : lists_in b 1 ≡ put_last come g.free1 (lists_in a 1)
-  second = ap (λ (z : Slots). lists_in z 1) grown.is ∙ put_second g.free g.free1 g.free2 come a.families three
+  second = ap (λ (z : Slots). lists_in z 1) grown.is ∙ put_second g.free g.free1 g.unnamed come a.families three
 
-  third : lists_in b 2 ≡ put_last come g.free2 (lists_in a 2)
-  third = ap (λ (z : Slots). lists_in z 2) grown.is ∙ put_third g.free g.free1 g.free2 come a.families three
+  third : lists_in b 2 ≡ put_last come g.unnamed (lists_in a 2)
+  third = ap (λ (z : Slots). lists_in z 2) grown.is ∙ put_third g.free g.free1 g.unnamed come a.families three
 
   put_count : (f to : ℕ) → lists_in b f ≡ put_last come to (lists_in a f) → length (lists_in b f) ≡ length (lists_in a f)
   put_count f to is = ap (λ (ls : List (List ℕ)). length ls) is ∙ length-set (lists_in a f) to (list_at (lists_in a f) to ++ come)
@@ -158,9 +154,9 @@ module _ (count : ℕ) (g : GroupLists) (a b : Slots) (grown : IsGrown g count a
   grown_vacant =
       let free = gained 0 g.free g.free first free_there in
       vacant_gained (λ x. has x come) a b g vacant
-      (record { first = omega (arith, put_count 0 g.free first); second = omega (arith, put_count 1 g.free1 second); third = omega (arith, put_count 2 g.free2 third) })
+      (record { first = omega (arith, put_count 0 g.free first); second = omega (arith, put_count 1 g.free1 second); third = omega (arith, put_count 2 g.unnamed third) })
       (record { on = free.on; kept = λ l x own ne on. sym (ap (has x) (put_other 0 g.free l first ne)) ∙ on })
-      (gained 1 g.serials g.free1 second vacant.chains.serials_there) (gained 2 g.names g.free2 third vacant.chains.names_there)
+      (gained 1 g.serials g.free1 second vacant.chains.serials_there) (gained 2 g.names g.unnamed third vacant.chains.names_there)
 
   -- and so many free slots more
   pub grown_free : free_slots b g ≡ free_slots a g + count
@@ -185,7 +181,7 @@ module _ (count : ℕ) (g : GroupLists) (a b : Slots) (grown : IsGrown g count a
       lists = λ l low high. put_other 1 g.free1 l second (λ e. apart.serials l (omega (arith, vacant.chains.free1, e), omega (arith, e)) (low, high));
     };
     names = record {
-      count = omega (arith, put_count 2 g.free2 third);
-      lists = λ l low high. put_other 2 g.free2 l third (λ e. apart.names l (omega (arith, vacant.chains.free2, e), omega (arith, e)) (low, high));
+      count = omega (arith, put_count 2 g.unnamed third);
+      lists = λ l low high. put_other 2 g.unnamed l third (λ e. apart.names l (omega (arith, vacant.chains.unnamed, e), omega (arith, e)) (low, high));
     };
   }

@@ -12,8 +12,8 @@ use Rattle.bh_tickets.specs.declared.counts.CommandCounts.{CommandCounts}
 use Rattle.bh_tickets.specs.declared.group_slots.GroupSlots.{GroupSlots}
 use Rattle.bh_slot_arena.specs.Slots.{lists_in, slots_on, with_payload, with_moved}
 use Rattle.bh_cache.specs.Slots.{Slots, has, is_on, is_live_list, is_live, is_owned, ticket_at, list_for, serial_in, InOrder, count_below, has_one, one, IsArena}
-use Rattle.bh_chains.specs.declared.notes.Noted.{Noted}
-use Rattle.bh_chains.specs.Notes.{IsNoted, is_noted}
+use Rattle.bh_cache.specs.declared.notes.Noted.{Noted}
+use Rattle.bh_cache.specs.Notes.{IsNoted, is_noted}
 use Rattle.bh_tickets.specs.GroupSlots.{AreInTurn, IsNumbered, IsGroupSlots, CanPut, IsPut, count_at, counted_in, counted_out, is_any}
 use Rattle.bh_tickets.specs.Counts.{AreCounts, HasRoomFor, IsCounted, all_less, all_more, counts_of, is_open, one_less, open_since}
 use Rattle.bh_tickets.proofs.ByCommand.{counts_less, counts_more, has_room, is_counted}
@@ -26,12 +26,12 @@ use Rattle.bh_tickets.specs.Changes.{queued_in}
 use Rattle.bh_cache.proofs.Order.{order_same, order_without, count_le, count_same, one_le}
 use Rattle.bh_cache.proofs.Counts.{count_point}
 use Rattle.bh_tickets.proofs.Touched.{IsTouched, touched_both, touched_set, payload_other, payload_slot, at_other, at_slot, touched_arena, touched_frame, owned_same}
-use Rattle.bh_cache.proofs.Places.{get_within}
+use Rattle.bh_cache.proofs.Members.{get_within}
 use Rattle.bh_tickets.proofs.Own.{changed_arranged, changed_tickets, live_for}
 use Rattle.bh_tickets.proofs.Others.{own_for}
 use Rattle.bh_tickets.proofs.Chained.{KeepsChains, chains_touched, moved_keeps}
 use Rattle.bh_cache.proofs.Placed.{frame_same}
-use Rattle.bh_chains.specs.Chains.{IsChained}
+use Rattle.bh_cache.specs.Chains.{IsChained}
 
 -- a ticket of the group lies in a slot of the group
 pub held_at : (a : Slots) (g : GroupLists) (x : ℕ) (t : Ticket) → ticket_at a g x ≡ Some t → (is_live a g x ≡ true) × (slice_get a.payloads x ≡ Some t)

@@ -101,7 +101,7 @@ module _ (c : ℕ) (some : 0 < c) (a b : Slots) (g : GroupLists) (more : HasNewL
   left_added ns left = record {
     each = now.each;
     beside = λ i j n s e f. elim (get_append qs (no_slot_taken g 0) j s f) [
-      | inl k ↦ subst (λ (z : GroupSlots). AreApart z.lists.names z.lists.free2 n.names n.uncached) (sym k.1)
+      | inl k ↦ subst (λ (z : GroupSlots). AreApart z.lists.names z.lists.unnamed n.names n.unnamed) (sym k.1)
           (λ l own other. let low : g.names ≤ l = own.0 in absurd (omega (arith, (left.each i n e).there, low, other.1, ap (λ (z : GroupLists). z.names) from)))
       | inr k ↦ now.beside i j n s e k.1
     ];
@@ -133,7 +133,7 @@ made_spare c some a b g p none more from = record {
 -- ---- a place
 
 -- one that a retired group left, which has so many chains
-pub left_gets : (chains place : ℕ) (a : Slots) (ss : List GroupSlots) (ns : List NameLists) (left : IsLeft place ss) → left.entry.lists.uncached ≡ left.entry.lists.names + chains → GetsPlace chains place a ss ns a ss ns
+pub left_gets : (chains place : ℕ) (a : Slots) (ss : List GroupSlots) (ns : List NameLists) (left : IsLeft place ss) → left.entry.lists.unnamed ≡ left.entry.lists.names + chains → GetsPlace chains place a ss ns a ss ns
 left_gets chains place a ss ns left many = record {
   gets = λ p w. record {
     entry = left.entry;
@@ -165,7 +165,7 @@ new_gets c some a b g ss ns more from = record {
     entry = no_slot_taken g 0;
     here = at_end ss (no_slot_taken g 0);
     empty = refl;
-    many = omega (arith, ap (λ (z : GroupLists). z.uncached) from, ap (λ (z : GroupLists). z.names) from);
+    many = omega (arith, ap (λ (z : GroupLists). z.unnamed) from, ap (λ (z : GroupLists). z.names) from);
     whole = record {
       all = whole_added c some a b g more from (p ∷ ss) w.all;
       slots = omega (arith, ap (λ (ps : List Ticket). length ps) more.payloads, w.slots, rooms_first p ss, rooms_first p (ss ++ no_slot_taken g 0 ∷ []), room_same);
@@ -260,8 +260,8 @@ module _ (slots : ℕ) (a : Slots) (g : GroupLists) (spare : Option GroupSlots) 
           names = left_same a b (ready.part ∷ ss) (no_slot_taken g (free_slots b g) ∷ ss) ns w.names keeps had;
         }
           where
-            keeps : (k : ℕ) (n : NameLists) → slice_get ns k ≡ Some n → KeepsOwn 2 n.names n.uncached a b
-            keeps k n e = (grown_same count g a b grown ready_vacant (lists_of n) w.all.arena (apart_lists g n (subst (λ (z : GroupLists). AreApart z.names z.free2 n.names n.uncached) ready.lists (w.names.beside k 0 n ready.part e refl)))).names
+            keeps : (k : ℕ) (n : NameLists) → slice_get ns k ≡ Some n → KeepsOwn 2 n.names n.unnamed a b
+            keeps k n e = (grown_same count g a b grown ready_vacant (lists_of n) w.all.arena (apart_lists g n (subst (λ (z : GroupLists). AreApart z.names z.unnamed n.names n.unnamed) ready.lists (w.names.beside k 0 n ready.part e refl)))).names
 
             had : (j : ℕ) (s : GroupSlots) → slice_get (no_slot_taken g (free_slots b g) ∷ ss) j ≡ Some s → HadLists (ready.part ∷ ss) s
             had zero s e = record { number = 0; was = ready.part; there = refl; lists = ap (λ (z : GroupSlots). z.lists) (sym (some_same (no_slot_taken g (free_slots b g)) s e)) ∙ sym ready.lists }

@@ -12,9 +12,9 @@ use Rattle.bh_cache.specs.Listed.{listed}
 use Rattle.bh_cache.specs.Slots.{Slots, has, is_live, is_live_list, is_on, list_for, ticket_at, IsArena}
 use Rattle.bh_cache.proofs.Listed.{listed_filter, option_filter}
 use Rattle.bh_tickets.specs.declared.group_slots.GroupSlots.{GroupSlots}
-use Rattle.bh_chains.specs.declared.notes.FewSlots.{FewSlots}
-use Rattle.bh_chains.specs.declared.notes.Noted.TheVariants as noted
-use Rattle.bh_chains.specs.Notes.{is_noted, nothing}
+use Rattle.bh_cache.specs.declared.notes.FewSlots.{FewSlots}
+use Rattle.bh_cache.specs.declared.notes.Noted.TheVariants as noted
+use Rattle.bh_cache.specs.Notes.{is_noted, nothing}
 use Rattle.bh_tickets.specs.GroupSlots.{IsGroupSlots, IsGroupChange, IsReleased, IsReleasedAt, if_kept}
 use Rattle.bh_tickets.specs.Sweeps.{IsReleasedFrom, IsSwept}
 use Rattle.bh_tickets.proofs.Along.{change_trans, has_one_slot, swept_more}

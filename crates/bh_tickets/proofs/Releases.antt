@@ -7,8 +7,8 @@ use Rattle.bh_base.specs.declared.ticket.Ticket.{Ticket}
 use Rattle.bh_base.specs.Tickets.{is_queued, is_kept}
 use Rattle.bh_index_lists.specs.Lists.{without}
 use Rattle.bh_tickets.specs.declared.group_slots.GroupSlots.{GroupSlots}
-use Rattle.bh_chains.specs.declared.notes.Noted.TheVariants as noted
-use Rattle.bh_chains.specs.Notes.{is_noted}
+use Rattle.bh_cache.specs.declared.notes.Noted.TheVariants as noted
+use Rattle.bh_cache.specs.Notes.{is_noted}
 use Rattle.bh_slot_arena.specs.Slots.{slots_on, with_moved}
 use Rattle.bh_cache.specs.Slots.{Slots, is_on, is_live, is_live_list, is_owned, ticket_at, list_for, InOrder, count_below, has_one, one, IsArena}
 use Rattle.bh_tickets.specs.GroupSlots.{IsGroupSlots, IsGroupChange, IsReleasedAt, if_kept, count_at, counted_out, is_any}
@@ -25,10 +25,8 @@ use Rattle.bh_tickets.proofs.Own.{gone_arranged, not_live_free}
 use Rattle.bh_tickets.proofs.Others.{own_for, frame_refl}
 use Rattle.bh_tickets.proofs.Puts.{held_at, within_slots}
 use Rattle.bh_tickets.proofs.Chained.{chains_placed, freed_keeps, payloads_placed, touched_placed}
-use Rattle.bh_cache.proofs.Placed.{frame_refl as chain_frame_refl}
-use Rattle.bh_cache.specs.Chains.{IsChainFrame}
-use Rattle.bh_chains.specs.Chains.{IsChained, is_named, list_by_name, with_placed_where}
-use Rattle.bh_chains.proofs.Placed.{unnamed_list}
+use Rattle.bh_cache.proofs.Placed.{frame_refl as chain_frame_refl, unnamed_list}
+use Rattle.bh_cache.specs.Chains.{IsChainFrame, IsChained, is_named, list_by_name, with_placed_where}
 
 -- what is there is read
 pub there_at : (a : Slots) (s : GroupSlots) (x : ℕ) (t : Ticket) → is_some (ticket_at a s.lists x) ≡ true → Some t ≡ slice_get a.payloads x → ticket_at a s.lists x ≡ Some t
@@ -93,7 +91,7 @@ module _ (a b : Slots) (s : GroupSlots) (x : ℕ) (t : Ticket) (arena : IsArena 
   chains : IsChained b s.lists × IsChainFrame s.lists a b
   chains = chains_placed (is_named (Some t)) a (with_moved 0 x s.lists.free a) b s.lists x s.lists.free t None before (freed_keeps a x s.lists.free) serials names group.chained owned_slot owned_list
       (sym (ap (λ c. if c then Some t else None) (not_live_free s.lists group.numbered)))
-      (λ off. sym (ap (list_by_name s.lists) here ∙ unnamed_list a s.lists group.chained.lists (Some t) off)) is
+      (λ off. sym (ap (list_by_name s.lists) here ∙ unnamed_list s.lists (Some t) off)) is
 
   gone : ticket_at b s.lists x ≡ None
   gone = at_slot a b x s.lists.free t touched s.lists ∙ ap (λ c. if c then Some t else None) (not_live_free s.lists group.numbered)

@@ -11,7 +11,7 @@ use Rattle.bh_slot_arena.specs.Slots.{slots_on}
 use Rattle.bh_cache.specs.declared.lists.GroupLists.{GroupLists}
 use Rattle.bh_cache.specs.Slots.{Slots, has, has_one, is_live_list, serial_in, ticket_at, InOrder, IsArena}
 use Rattle.bh_cache.proofs.Order.{first_least}
-use Rattle.bh_cache.proofs.Places.{has_append, has_at}
+use Rattle.bh_cache.proofs.Members.{has_append, has_at}
 use Rattle.bh_cache.proofs.Walks.{on_live_list}
 use Rattle.bh_tickets.specs.declared.group_slots.GroupSlots.{GroupSlots}
 use Rattle.bh_tickets.specs.declared.states.DueRule.{DueRule}

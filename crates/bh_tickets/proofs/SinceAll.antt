@@ -11,7 +11,7 @@ use Rattle.bh_base.specs.Tickets.{is_of}
 use Rattle.bh_slot_arena.specs.Slots.{slots_on}
 use Rattle.bh_cache.specs.declared.lists.GroupLists.{GroupLists}
 use Rattle.bh_cache.specs.Slots.{Slots, has, is_on, list_for, ticket_at, IsArena}
-use Rattle.bh_cache.proofs.Places.{has_append, take_one_more}
+use Rattle.bh_cache.proofs.Members.{has_append, take_one_more}
 use Rattle.bh_tickets.specs.declared.counts.CommandCounts.{CommandCounts}
 use Rattle.bh_tickets.specs.declared.group_slots.GroupSlots.{GroupSlots}
 use Rattle.bh_tickets.specs.declared.states.DueRule.{DueRule}

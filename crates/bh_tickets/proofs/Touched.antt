@@ -9,7 +9,7 @@ use Rattle.bh_slot_arena.specs.Lists.{moved}
 use Rattle.bh_cache.specs.declared.lists.GroupLists.{GroupLists}
 use Rattle.bh_slot_arena.specs.Slots.{lists_in, slots_on, with_payload, with_moved}
 use Rattle.bh_cache.proofs.Moves.{has_without, list_not_to, list_to, lists_count, on_moved, without_absent}
-use Rattle.bh_cache.proofs.Places.{get_set, has_append}
+use Rattle.bh_cache.proofs.Members.{get_set, has_append}
 use Rattle.bh_cache.specs.Slots.{Slots, has, is_on, is_live_list, is_owned, ticket_at, Once, IsArena, IsOwn, IsFrame}
 
 -- ---- no slot comes twice
@@ -41,26 +41,6 @@ once_append x (y ∷ ys) out h = (has_append y ys (x ∷ []) ∙ ap (λ b. b || 
 
     apart : (eqb x y || false) ≡ false
     apart = grind (arith, nat_tests, out)
-
--- what a walk leaves behind as it moves the slot at hand away
-pub without_at : (x : ℕ) (pre rest : List ℕ) → Once (pre ++ x ∷ rest) → without x (pre ++ x ∷ rest) ≡ pre ++ rest
-without_at x [] rest h = ap (λ b. cond (not b) (x ∷ without x rest) (without x rest)) (eq-eqb x x refl) ∙ without_absent x rest h.0
-without_at x (y ∷ pre) rest h =
-    ap (λ b. cond (not b) (y ∷ without x (pre ++ x ∷ rest)) (without x (pre ++ x ∷ rest))) (ne_eqb y x (λ e. twice e (has_append y pre (x ∷ rest) ∙ ap (λ b. has y pre || b) (found e) ∙ or_right (has y pre))))
-    ∙ ap (λ zs. y ∷ zs) (without_at x pre rest h.1)
-  where
-    or_right : (b : Bool) → (b || true) ≡ true
-    or_right true = refl
-    or_right false = refl
-
-    found : y ≡ x → has y (x ∷ rest) ≡ true
-    found e = ap (λ b. b || has y rest) (eq-eqb x y (sym e))
-
-    twice : y ≡ x → has y (pre ++ x ∷ rest) ≡ true → ⊥
-    twice e t = no_such (sym t ∙ h.0)
-      where
-        no_such : true ≡ false → ⊥
-        no_such e = cc
 
 -- the slot x has the ticket v now, and lies on the list `to`
 pub record IsTouched (a b : Slots) (x to : ℕ) (v : Ticket) : Type 0 where

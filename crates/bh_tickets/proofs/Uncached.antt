@@ -5,13 +5,12 @@ use Rattle.std.specs.Option.{option_map}
 use Rattle.bh_base.specs.declared.ticket.Ticket.{Ticket}
 use Rattle.bh_base.specs.Tickets.{is_cached_in, is_queued, is_kept}
 use Rattle.bh_slot_arena.specs.Slots.{lists_in, slots_on}
-use Rattle.bh_cache.specs.Cache.{uncached_in}
-use Rattle.bh_chains.specs.Cache.{IsDropped}
+use Rattle.bh_cache.specs.Cache.{IsDropped, uncached_in}
 use Rattle.bh_cache.specs.Slots.{Slots, has, is_on, is_live, is_owned, ticket_at, list_for, serial_in, InOrder, Once, count_below, has_one, IsArena, IsOwn, IsFrame}
 use Rattle.bh_cache.proofs.Order.{order_same, count_same}
 use Rattle.bh_tickets.specs.declared.group_slots.GroupSlots.{GroupSlots}
-use Rattle.bh_chains.specs.declared.notes.Noted.{Noted}
-use Rattle.bh_chains.specs.Notes.{AreNoted, is_noted}
+use Rattle.bh_cache.specs.declared.notes.Noted.{Noted}
+use Rattle.bh_cache.specs.Notes.{AreNoted, is_noted}
 use Rattle.bh_tickets.specs.GroupSlots.{IsArranged, IsGroupSlots, IsUncached, count_at, is_any}
 use Rattle.bh_tickets.specs.Counts.{busy_of, in_fallback_of, is_open, open_since, queued_of}
 use Rattle.bh_tickets.proofs.InTime.{times_kept}

@@ -136,7 +136,7 @@ groups_in {spare = Some p} whole = record {
 left_kept : (a b : Slots) (qs : List GroupSlots) (ns : List NameLists) (i : ℕ) (s r : GroupSlots) → AreLeft a qs ns → slice_get qs i ≡ Some s → IsGroupChange a s b r → AreLeft b (set qs i r) ns
 left_kept a b qs ns i s r left is change = left_same a b qs (set qs i r) ns left keeps had
   where
-    keeps : (j : ℕ) (n : NameLists) → slice_get ns j ≡ Some n → KeepsOwn 2 n.names n.uncached a b
+    keeps : (j : ℕ) (n : NameLists) → slice_get ns j ≡ Some n → KeepsOwn 2 n.names n.unnamed a b
     keeps j n e = names_apart s.lists (lists_of n) a b change.chains (apart_lists s.lists n (left.beside j i n s e is))
 
     had : (j : ℕ) (k : GroupSlots) → slice_get (set qs i r) j ≡ Some k → HadLists qs k

@@ -2,7 +2,7 @@
 use Rattle.std.specs.Prelude.{eqb, if◌then◌else◌, ◌≡◌, ℕ, ◌+◌, ◌-◌, ◌<◌, ◌≤◌, ◌^◌, ◌&&◌, ◌||◌, [], ◌∷◌, ◌++◌, filter, map, Bool, nat_le, nat_lt, true, false, length, replicate, slice_get, Option, Some, None, List, count_by, drop, max}
 use Rattle.std.specs.List.{list_any}
 use Rattle.bh_base.specs.declared.ticket.Ticket.{Ticket}
-use Rattle.bh_base.specs.Tickets.{is_queued, is_kept}
+use Rattle.bh_base.specs.Tickets.{is_queued, is_kept, is_cached_in}
 use Rattle.bh_index_lists.specs.Lists.{without}
 use Rattle.bh_tickets.specs.declared.states.DueRule.{DueRule}
 use Rattle.bh_tickets.specs.declared.changes.TicketChange.{TicketChange}
@@ -12,11 +12,9 @@ use Rattle.std.specs.Option.{option_map}
 use Rattle.bh_cache.specs.declared.lists.GroupLists.{GroupLists}
 use Rattle.bh_tickets.specs.declared.group_slots.GroupSlots.{GroupSlots}
 use Rattle.bh_tickets.specs.declared.order.TicketOrder.{TicketOrder}
-use Rattle.bh_base.specs.Tickets.{is_cached_in}
 use Rattle.bh_cache.specs.Cache.{uncached_in}
-use Rattle.bh_cache.specs.Chains.{IsChainFrame}
-use Rattle.bh_chains.specs.Chains.{IsChained}
-use Rattle.bh_chains.specs.Notes.{is_noted, nothing}
+use Rattle.bh_cache.specs.Chains.{IsChainFrame, IsChained}
+use Rattle.bh_cache.specs.Notes.{is_noted, nothing}
 use Rattle.bh_cache.specs.Listed.{now_is}
 use Rattle.bh_slot_arena.specs.Slots.{lists_in, slots_on}
 use Rattle.bh_cache.specs.Slots.{Slots, has, is_on, is_owned, ticket_at, tickets_of, list_for, count_below, has_one, one, serial_in, InOrder, IsArena, IsFrame}

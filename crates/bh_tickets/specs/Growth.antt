@@ -15,8 +15,7 @@ lists_from chains n m k = record {
   serials = m;
   free1 = m + 16;
   names = k;
-  uncached = k + chains;
-  free2 = k + chains;
+  unnamed = k + chains;
 }
 
 -- how many chains by cache name a group with so many slots has
@@ -43,11 +42,11 @@ pub record HasMoreLists (a b : Slots) : Type 0 where
 pub record IsReadyFor (g : GroupLists) (count : ℕ) (a : Slots) : Type 0 where
   pub first : g.free < length (lists_in a 0)
   pub second : g.free1 < length (lists_in a 1)
-  pub third : g.free2 < length (lists_in a 2)
+  pub third : g.unnamed < length (lists_in a 2)
   pub within : length a.payloads + count ≤ a.limit
 
 -- so many slots more, on the lists of free slots
 pub record IsGrown (g : GroupLists) (count : ℕ) (a b : Slots) : Type 0 where
   pub blank : Ticket
-  pub is : b ≡ with_new_slots count (g.free ∷ g.free1 ∷ g.free2 ∷ []) blank a
+  pub is : b ≡ with_new_slots count (g.free ∷ g.free1 ∷ g.unnamed ∷ []) blank a
   pub arena : IsArena b 0

@@ -9,11 +9,11 @@ use Rattle.bh_tickets.specs.GroupSlots.{no_slot_taken}
 
 -- the chains by cache name of a group
 abbrev pub names_of : GroupLists → NameLists
-names_of g = record { names = g.names; uncached = g.uncached }
+names_of g = record { names = g.names; unnamed = g.unnamed }
 
 -- the lists of a group, with these chains by cache name in the place of its own
 abbrev pub with_names : NameLists → GroupLists → GroupLists
-with_names n g = record g { names = n.names; uncached = n.uncached; free2 = n.uncached }
+with_names n g = record g { names = n.names; unnamed = n.unnamed }
 
 -- no number is both from the first to the last of the one and of the other
 abbrev pub AreApart : ℕ → ℕ → ℕ → ℕ → Type 0
@@ -21,21 +21,21 @@ AreApart first last from to = (l : ℕ) → (first ≤ l) × (l ≤ last) → (f
 
 -- the lists are there, and no slot lies on them
 pub record AreEmpty (a : Slots) (n : NameLists) : Type 0 where
-  pub some : n.names < n.uncached
-  pub there : n.uncached < length (lists_in a 2)
-  pub empty : (l : ℕ) → n.names ≤ l → l ≤ n.uncached → slots_on a 2 l ≡ []
+  pub some : n.names < n.unnamed
+  pub there : n.unnamed < length (lists_in a 2)
+  pub empty : (l : ℕ) → n.names ≤ l → l ≤ n.unnamed → slots_on a 2 l ≡ []
 
 -- the chains are those of no group, and no two of them have a list in common
 pub record AreLeft (a : Slots) (ss : List GroupSlots) (ns : List NameLists) : Type 0 where
   pub each : (i : ℕ) (n : NameLists) → slice_get ns i ≡ Some n → AreEmpty a n
-  pub beside : (i j : ℕ) (n : NameLists) (s : GroupSlots) → slice_get ns i ≡ Some n → slice_get ss j ≡ Some s → AreApart s.lists.names s.lists.free2 n.names n.uncached
-  pub apart : (i j : ℕ) (n m : NameLists) → slice_get ns i ≡ Some n → slice_get ns j ≡ Some m → i ≢ j → AreApart n.names n.uncached m.names m.uncached
+  pub beside : (i j : ℕ) (n : NameLists) (s : GroupSlots) → slice_get ns i ≡ Some n → slice_get ss j ≡ Some s → AreApart s.lists.names s.lists.unnamed n.names n.unnamed
+  pub apart : (i j : ℕ) (n m : NameLists) → slice_get ns i ≡ Some n → slice_get ns j ≡ Some m → i ≢ j → AreApart n.names n.unnamed m.names m.unnamed
 
 -- those of the number are so many
 pub record HasNames (chains number : ℕ) (ns : List NameLists) : Type 0 where
   pub entry : NameLists
   pub here : slice_get ns number ≡ Some entry
-  pub many : entry.uncached ≡ entry.names + chains
+  pub many : entry.unnamed ≡ entry.names + chains
 
 -- the group at the place, which has no slot now, and the chains of the number are exchanged
 pub record IsExchanged (place number : ℕ) (ss : List GroupSlots) (ns : List NameLists) (rs : List GroupSlots) (ms : List NameLists) : Type 0 where

@@ -2,7 +2,7 @@
 use Rattle.std.specs.Prelude.{◌≡◌, ◌≢◌, ℕ, zero, suc, ◌+◌, ◌<◌, ◌≤◌, Bool, true, false, ◌||◌, List, [], length, Option, Some, slice_get}
 use Rattle.bh_slot_arena.specs.Slots.{lists_in, slots_on}
 use Rattle.bh_cache.specs.declared.lists.GroupLists.{GroupLists}
-use Rattle.bh_chains.specs.Chains.{HasChains}
+use Rattle.bh_cache.specs.Chains.{HasChains}
 use Rattle.bh_cache.specs.Slots.{Slots, is_live, is_on, IsApart}
 use Rattle.bh_tickets.specs.declared.group_slots.GroupSlots.{GroupSlots}
 use Rattle.bh_tickets.specs.declared.names.NameLists.{NameLists}
@@ -26,7 +26,7 @@ pub record IsVacant (a : Slots) (g : GroupLists) : Type 0 where
   pub chains : HasChains a g
   pub live : (x : ℕ) → is_live a g x ≡ false
   pub serials : AreFreeOn 1 g.serials g.free1 a g
-  pub names : AreFreeOn 2 g.names g.free2 a g
+  pub names : AreFreeOn 2 g.names g.unnamed a g
 
 -- how many slots of the group have no ticket
 abbrev pub free_slots : Slots → GroupLists → ℕ
@@ -102,7 +102,7 @@ pub record IsPlaced (chains place : ℕ) (a : Slots) (p : GroupSlots) (ss : List
   pub entry : GroupSlots
   pub here : slice_get rs place ≡ Some entry
   pub empty : entry.slots.max ≡ 0
-  pub many : entry.lists.uncached ≡ entry.lists.names + chains
+  pub many : entry.lists.unnamed ≡ entry.lists.names + chains
   pub whole : IsWhole b (Some p) rs ms
   pub vacant : (group_at (view_of a ss) place).room ≡ 0
   pub others : (g : ℕ) → g ≢ place → slice_get (groups_of b rs) g ≡ slice_get (groups_of a ss) g

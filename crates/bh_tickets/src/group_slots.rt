@@ -15,8 +15,7 @@ use crate::order::TicketOrder;
 use crate::states::{DueRule, is_due, is_kept, is_queued};
 use bh_admit::Permits;
 use bh_base::{Serial, Ticket, TicketState};
-use bh_cache::GroupLists;
-use bh_chains::{Noted, drop_context, nothing, place_gone, place_new, with_slot};
+use bh_cache::{GroupLists, Noted, drop_context, nothing, place_gone, place_new, with_slot};
 use bh_slot_arena::Arena;
 
 /// What a group keeps of its tickets beside their slots.

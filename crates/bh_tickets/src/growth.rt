@@ -53,8 +53,7 @@ pub fn add_lists(arena: &mut Arena<Ticket, 3>, chains: usize) -> Result<GroupLis
         serials,
         free1: serials + 16,
         names,
-        uncached: names + chains,
-        free2: names + chains,
+        unnamed: names + chains,
     })
 }
 
@@ -71,7 +70,7 @@ pub fn add_slots(
     if arena
         .add_slots(
             count,
-            [lists.free, lists.free1, lists.free2],
+            [lists.free, lists.free1, lists.unnamed],
             blank_ticket(),
         )
         .is_err()

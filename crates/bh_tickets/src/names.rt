@@ -10,12 +10,12 @@ use bh_cache::GroupLists;
 use bh_slot_arena::Arena;
 use std::alloc::AllocError;
 
-/// Chains by cache name, without a slot on them: the lists of the third family from `names` up to `uncached`, which is
+/// Chains by cache name, without a slot on them: the lists of the third family from `names` up to `unnamed`, which is
 /// that of slots without a cached ticket.
 #[derive(Clone, Copy, Debug)]
 pub struct NameLists {
     pub names: usize,
-    pub uncached: usize,
+    pub unnamed: usize,
 }
 
 /// The number of chains that no group has and that are so many. They are made where there are none. Refused, nothing has
@@ -39,7 +39,7 @@ pub fn ready_names(
     let number = left.len();
     left.push_reserved(NameLists {
         names,
-        uncached: names + chains,
+        unnamed: names + chains,
     });
     Ok(number)
 }
@@ -50,7 +50,7 @@ fn number_of(left: &[NameLists], chains: usize) -> Option<usize>
     ensures { IfSome result (λ number. HasNames chains number left.now) }
 {
     for (number, lists) in left.iter().enumerate() {
-        if lists.uncached.saturating_sub(lists.names) == chains {
+        if lists.unnamed.saturating_sub(lists.names) == chains {
             return Some(number);
         }
     }
@@ -80,7 +80,7 @@ fn names_of(lists: &GroupLists) -> NameLists
 {
     NameLists {
         names: lists.names,
-        uncached: lists.uncached,
+        unnamed: lists.unnamed,
     }
 }
 
@@ -90,7 +90,6 @@ fn with_names(lists: &GroupLists, names: &NameLists) -> GroupLists
 {
     let mut now = *lists;
     now.names = names.names;
-    now.uncached = names.uncached;
-    now.free2 = names.uncached;
+    now.unnamed = names.unnamed;
     now
 }

@@ -13,8 +13,7 @@ use crate::group_slots::GroupSlots;
 use crate::growth::{add_lists, add_slots, blank_ticket, chains_for};
 use crate::names::{NameLists, exchange, ready_names};
 use bh_base::Ticket;
-use bh_cache::GroupLists;
-use bh_chains::place_free;
+use bh_cache::{GroupLists, place_free};
 use bh_slot_arena::Arena;
 use std::alloc::AllocError;
 
@@ -100,7 +99,7 @@ fn fit_place(
     ensures err { OnErr result (StaysWhole arena.old groups.old.items names.old.items arena.new groups.new.items names.new.items) }
 {
     let lists = groups[place].lists;
-    if lists.uncached.saturating_sub(lists.names) == chains {
+    if lists.unnamed.saturating_sub(lists.names) == chains {
         return Ok(place);
     }
     let number = ready_names(arena, names, chains)?;
@@ -188,11 +187,17 @@ pub fn give_slots(arena: &mut Arena<Ticket, 3>, group: &GroupSlots, to: &GroupLi
     let from = group.lists;
     is_number(from.settled);
     is_number(from.free1);
-    is_number(from.free2);
+    is_number(from.unnamed);
     arena.partition(0);
     gather(arena, 0, from.free, 4, to.free);
     gather(arena, 1, from.serials, 17, to.free1);
-    gather(arena, 2, from.names, from.free2 - from.names + 1, to.free2);
+    gather(
+        arena,
+        2,
+        from.names,
+        from.unnamed - from.names + 1,
+        to.unnamed,
+    );
     arena.partition(0);
 }
 
@@ -213,7 +218,7 @@ fn gather(arena: &mut Arena<Ticket, 3>, family: usize, first: usize, count: usiz
     ensures { IsGathered family first count to arena.old arena.new }
 {
     arena.partition(family);
-    for place in 0..count {
-        arena.append(family, first + place, to);
+    for offset in 0..count {
+        arena.append(family, first + offset, to);
     }
 }

@@ -3,15 +3,14 @@
 ghost use Rattle.std.specs.Prelude.{◌≡◌, ◌≢◌, ◌<◌, ℕ, [], ◌∷◌, false, true};
 ghost use Rattle.bh_slot_arena.specs.Slots.{slots_on};
 ghost use Rattle.bh_cache.specs.Slots.{IsArena, is_live_list};
-ghost use Rattle.bh_chains.specs.Notes.{is_noted};
+ghost use Rattle.bh_cache.specs.Notes.{is_noted};
 ghost use Rattle.bh_tickets.specs.GroupSlots.{IsGroupSlots, IsReleased, IsRising};
 ghost use Rattle.bh_tickets.specs.Sweeps.{IsReleasedFrom, IsSinceFrom, IsTimedFrom, IsTimedOut};
 
 use crate::group_slots::{GroupSlots, may_be_due, release_at, set_open_since, time_out_at};
 use crate::states::{DueRule, is_young};
 use bh_base::Ticket;
-use bh_cache::GroupLists;
-use bh_chains::{FewSlots, Noted, nothing};
+use bh_cache::{FewSlots, GroupLists, Noted, nothing};
 use bh_slot_arena::Arena;
 
 /// Each of the group's tickets that is due has timed out. How many did. It takes no walk where what is counted of the
@@ -79,8 +78,8 @@ fn release_few(arena: &mut Arena<Ticket, 3>, group: &mut GroupSlots, few: &FewSl
     ensures { IsReleased arena.old group.old arena.new group.new }
 {
     group.needless = Noted::Many;
-    for place in 0..few.count {
-        if let Some(slot) = few.slots.get(place) {
+    for index in 0..few.count {
+        if let Some(slot) = few.slots.get(index) {
             release_noted(arena, group, *slot);
         }
     }
@@ -145,9 +144,9 @@ fn time_out_on(
 {
     arena.partition(0);
     let mut number = 0;
-    let mut place = arena.front(0, list);
+    let mut ahead = arena.front(0, list);
     for _ in 0..arena.len_of(0, list) {
-        let Some(slot) = place else {
+        let Some(slot) = ahead else {
             return number;
         };
         let ticket = arena.get(slot);
@@ -156,7 +155,7 @@ fn time_out_on(
             return number;
         }
         // Before the slot moves.
-        place = arena.next(0, slot);
+        ahead = arena.next(0, slot);
         number += time_out_at(arena, group, slot, due, since);
     }
     number
@@ -170,13 +169,13 @@ fn release_on(arena: &mut Arena<Ticket, 3>, group: &mut GroupSlots, list: usize)
     requires live { is_live_list group.old.lists list ≡ true }
     ensures { IsReleasedFrom (slots_on arena.old 0 list) arena.old group.old arena.new group.new }
 {
-    let mut place = arena.front(0, list);
+    let mut ahead = arena.front(0, list);
     for _ in 0..arena.len_of(0, list) {
-        let Some(slot) = place else {
+        let Some(slot) = ahead else {
             return;
         };
         // Before the slot moves.
-        place = arena.next(0, slot);
+        ahead = arena.next(0, slot);
         release_at(arena, group, slot);
     }
 }

@@ -21,7 +21,7 @@ use crate::states::{DueRule, is_due, is_held, is_in_fallback};
 use crate::sweeps::{release, time_out};
 use crate::walks::{any_due_on, any_used_on};
 use bh_base::{Answer, Cause, Serial, Text, Ticket, TicketState};
-use bh_chains::find_serial_from;
+use bh_cache::find_serial_from;
 use bh_slot_arena::Arena;
 use std::alloc::{AllocError, Global};
 use std::marker::Model;
@@ -232,7 +232,7 @@ impl Tickets {
         ensures none { result ≡ None → find (is_cached_as command (context, key.now)) (group_at self.now group).items ≡ None }
     {
         let entry = &self.groups[group];
-        bh_chains::find(&self.arena, &entry.lists, command, context, key)
+        bh_cache::find(&self.arena, &entry.lists, command, context, key)
     }
 
     /// Whether a ticket waits for a worker.

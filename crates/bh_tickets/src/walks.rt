@@ -19,15 +19,15 @@ fn any_on<F: Fn(&Ticket) -> bool>(arena: &Arena<Ticket, 3>, list: usize, test: F
     ensures { (p : Ticket → Bool) → ((t : Ticket) (b : Bool) → FnReturnsAt F.Fn test t b → b ≡ p t) → result ≡ any_at p arena.now.payloads (slots_on arena.now 0 list) }
 {
     arena.partition(0);
-    let mut place = arena.front(0, list);
+    let mut ahead = arena.front(0, list);
     for _ in 0..arena.len_of(0, list) {
-        let Some(slot) = place else {
+        let Some(slot) = ahead else {
             return false;
         };
         if test(arena.get(slot)) {
             return true;
         }
-        place = arena.next(0, slot);
+        ahead = arena.next(0, slot);
     }
     false
 }
@@ -40,9 +40,9 @@ pub fn any_due_on(arena: &Arena<Ticket, 3>, list: usize, rising: bool, due: &Due
     ensures { result ≡ any_at (is_due_by due.now) arena.now.payloads (slots_on arena.now 0 list) }
 {
     arena.partition(0);
-    let mut place = arena.front(0, list);
+    let mut ahead = arena.front(0, list);
     for _ in 0..arena.len_of(0, list) {
-        let Some(slot) = place else {
+        let Some(slot) = ahead else {
             return false;
         };
         let ticket = arena.get(slot);
@@ -52,7 +52,7 @@ pub fn any_due_on(arena: &Arena<Ticket, 3>, list: usize, rising: bool, due: &Due
         if rising && is_young(ticket, due) {
             return false;
         }
-        place = arena.next(0, slot);
+        ahead = arena.next(0, slot);
     }
     false
 }

@@ -12,13 +12,13 @@ loop-preserved c =
     let p = is_cached_as c.args.command (c.args.context, c.args.key.now) in
     let ps = c.args.arena.now.payloads in
     let xs = slots_on c.args.arena.now 2 c.args.chain in
-    let at : slice_get xs c.loop.counter ≡ Some c.in-Some.slot = sym c.loop.invariant.place ∙ c.in-Some.is in
-    let place = c.next-place.ensures c.args.chain c.loop.counter at in
+    let at : slice_get xs c.loop.counter ≡ Some c.in-Some.slot = sym c.loop.invariant.ahead ∙ c.in-Some.is in
+    let ahead = c.next-ahead.ensures c.args.chain c.loop.counter at in
     elim c.if-has_name.branch [
       | then-has_name w ↦ record {
         end = c.loop.invariant.end;
         here = omega (arith, c.loop.invariant.end);
-        place = place;
+        ahead = ahead;
         within = subst (λ (o : Option ℕ). IfSome o (λ slot. slot < length ps)) (sym w.found-is) w.earlier.ensures.within;
         rest =
             c.loop.invariant.rest ∙ step_found p ps c.loop.found xs c.loop.counter c.in-Some.slot c.get.result.now at (sym c.get.ensures) (sym c.has_name.ensures ∙ w.if-has_name.true)
@@ -27,7 +27,7 @@ loop-preserved c =
       | else-has_name w ↦ record {
         end = c.loop.invariant.end;
         here = omega (arith, c.loop.invariant.end);
-        place = place;
+        ahead = ahead;
         within = subst (λ (o : Option ℕ). IfSome o (λ slot. slot < length ps)) (sym w.found-is) c.loop.invariant.within;
         rest =
             c.loop.invariant.rest ∙ step_passed p ps c.loop.found xs c.loop.counter c.in-Some.slot c.get.result.now at (sym c.get.ensures) (sym c.has_name.ensures ∙ w.if-has_name.false)

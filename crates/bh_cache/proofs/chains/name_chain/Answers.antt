@@ -1,6 +1,6 @@
-use Rattle.std.proofs.Common.{arith}
-use Rattle.bh_cache.proofs.Placed.{name_place_within}
+use Rattle.std.proofs.Common.{arith, ◌-◌}
+use Rattle.bh_cache.proofs.Placed.{place_within}
 use Rattle.bh_cache.proofs.chains.name_chain.Goals as goal
 
 pub overflow_add-result : goal.overflow_add-result
-overflow_add-result c = let k = name_place_within (c.args.context, c.args.key.now) in omega (arith, k, c.place_of_name.ensures)
+overflow_add-result c = let k = place_within (c.args.lists.now.unnamed - c.args.lists.now.names) (c.args.context, c.args.key.now) (omega arith) in omega (arith, k, c.place_among.ensures)

@@ -1,6 +1,6 @@
 use Rattle.std.proofs.Common.{◌≡◌, ℕ, ◌+◌, ◌*◌, ◌%◌, ◌^◌, ◌<◌, List, [], length, get_or, drop, ap, sym, ◌∙◌, arith, add-one, drop-cons}
 use Rattle.bh_cache.specs.Names.{mixed, place_of_name, top_bits}
-use Rattle.bh_cache.proofs.Places.{drop_end}
+use Rattle.bh_cache.proofs.Members.{drop_end}
 use Rattle.bh_cache.proofs.names.place_of_name.Goals as goal
 
 one_more : (h i : ℕ) (key : List ℕ) → i < length key → mixed h (drop i key) ≡ mixed ((h + get_or key i 0) % 2 ^ 64 * 1099511628211 % 2 ^ 64) (drop (i + 1) key)

@@ -8,6 +8,6 @@ abbrev pub invariant-loop : goal.invariant-loop
 invariant-loop l = record {
   end : l.end ≡ length (slots_on l.arena 1 l.chain);
   here : l.counter ≤ length (slots_on l.arena 1 l.chain);
-  place : l.place ≡ slice_get (reverse (slots_on l.arena 1 l.chain)) l.counter;
+  ahead : l.ahead ≡ slice_get (reverse (slots_on l.arena 1 l.chain)) l.counter;
   rest : serial_on l.arena 1 l.chain l.serial ≡ find (λ x. has_serial_in l.serial (slice_get l.arena.payloads x)) (drop l.counter (reverse (slots_on l.arena 1 l.chain)));
 }

@@ -3,7 +3,7 @@ use Rattle.bh_base.specs.Tickets.{is_queued}
 use Rattle.bh_cache.specs.Slots.{list_for}
 use Rattle.bh_tickets.specs.declared.counts.CommandCounts.{CommandCounts}
 use Rattle.bh_tickets.specs.declared.group_slots.GroupSlots.{GroupSlots}
-use Rattle.bh_chains.specs.Notes.{IsNoted}
+use Rattle.bh_cache.specs.Notes.{IsNoted}
 use Rattle.bh_tickets.specs.GroupSlots.{counted_in}
 use Rattle.bh_tickets.proofs.InPlace.{change_from, here_is, read_known}
 use Rattle.bh_tickets.proofs.InTurn.{turned}

@@ -5,7 +5,7 @@ use Rattle.std.specs.Prelude.{slice_get}
 use Rattle.bh_base.specs.declared.ticket.Ticket.{Ticket}
 use Rattle.bh_tickets.specs.declared.group_slots.GroupSlots.{GroupSlots}
 use Rattle.bh_slot_arena.specs.Slots.{with_moved}
-use Rattle.bh_chains.specs.Chains.{is_named, with_placed_where}
+use Rattle.bh_cache.specs.Chains.{is_named, with_placed_where}
 use Rattle.bh_cache.specs.Slots.{Slots}
 use Rattle.bh_tickets.specs.GroupSlots.{is_any}
 use Rattle.bh_tickets.proofs.Puts.{counted_at, counted_there}

@@ -11,7 +11,7 @@ returns-clause-ok c =
     let b = c.add_lists.new.self in
     let ns = c.args.left.now.items in
     let n = c.in_ok-names.names in
-    let made : NameLists = record { names = n; uncached = n + c.args.chains } in
+    let made : NameLists = record { names = n; unnamed = n + c.args.chains } in
     let more = more_third 0 0 (c.args.chains + 1) a a b (omega (arith, c.partition.ensures.families)) (more_none a) c.in_ok-names.ensures.ok in
     let items : c.push_reserved.new.self.items ≡ ns ++ made ∷ [] = c.push_reserved.ensures.items ∙ ap (λ (xs : List NameLists). xs ++ made ∷ []) c.reserve.ensures.items in
     let size : c.len-number.result ≡ length c.reserve.new.self.items = search rules in

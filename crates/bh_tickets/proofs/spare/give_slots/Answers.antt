@@ -10,7 +10,7 @@ pub gather-requires-2-clause-few : goal.gather-requires-2-clause-few
 gather-requires-2-clause-few c = omega (arith, c.is_number-2.ensures, c.requires.giver.chained.lists.free1)
 
 pub gather-requires-3-clause-few : goal.gather-requires-3-clause-few
-gather-requires-3-clause-few c = omega (arith, c.is_number-3.ensures, c.requires.giver.chained.lists.uncached, c.requires.giver.chained.lists.free2)
+gather-requires-3-clause-few c = omega (arith, c.is_number-3.ensures, c.requires.giver.chained.lists.unnamed)
 
 pub returns : goal.returns
 returns c =

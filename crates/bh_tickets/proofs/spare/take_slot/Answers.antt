@@ -1,6 +1,6 @@
 use Rattle.std.proofs.Common.{None, arith, ap, subst, sym, ◌∙◌}
 use Rattle.bh_slot_arena.specs.Slots.{with_moved}
-use Rattle.bh_chains.specs.Chains.{with_placed}
+use Rattle.bh_cache.specs.Chains.{with_placed}
 use Rattle.bh_cache.specs.Slots.{Slots}
 use Rattle.bh_cache.proofs.Walks.{arena_is}
 use Rattle.bh_tickets.specs.Spare.{IsTaken}

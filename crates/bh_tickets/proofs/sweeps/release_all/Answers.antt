@@ -1,5 +1,5 @@
 use Rattle.std.proofs.Common.{subst, sym}
-use Rattle.bh_chains.specs.declared.notes.Noted.{Noted}
+use Rattle.bh_cache.specs.declared.notes.Noted.{Noted}
 use Rattle.bh_tickets.specs.GroupSlots.{IsReleased}
 use Rattle.bh_tickets.proofs.ReleasedAll.{released_all}
 use Rattle.bh_tickets.proofs.sweeps.release_all.Goals as goal

@@ -1,6 +1,6 @@
 use Rattle.std.proofs.Common.{sym, ◌∙◌}
 use Rattle.bh_slot_arena.specs.Slots.{slots_on}
-use Rattle.bh_cache.proofs.Places.{has_contained}
+use Rattle.bh_cache.proofs.Members.{has_contained}
 use Rattle.bh_tickets.proofs.Along.{on_live}
 use Rattle.bh_tickets.proofs.ReleasedAll.{released_off, released_slot}
 use Rattle.bh_tickets.proofs.sweeps.release_noted.Goals as goal

@@ -1,14 +1,14 @@
 use Rattle.std.proofs.Common.{◌≡◌, ◌≤◌, length, slice_get, take}
 use Rattle.bh_slot_arena.specs.Slots.{slots_on}
 use Rattle.bh_tickets.specs.Sweeps.{IsSinceFrom, IsTimedFrom}
-use Rattle.bh_tickets.proofs.Along.{IsAlong}
+use Rattle.bh_cache.proofs.Along.{IsAlong}
 use Rattle.bh_tickets.proofs.sweeps.time_out_on.Given as goal
 
 abbrev pub invariant-loop : goal.invariant-loop
 invariant-loop l = record {
   end : l.end ≡ length (slots_on l.initial.arena 0 l.list);
   here : l.counter ≤ length (slots_on l.initial.arena 0 l.list);
-  place : l.place ≡ slice_get (slots_on l.initial.arena 0 l.list) l.counter;
+  ahead : l.ahead ≡ slice_get (slots_on l.initial.arena 0 l.list) l.counter;
   along : IsAlong (slots_on l.arena 0 l.list) (slots_on l.initial.arena 0 l.list) l.counter;
   timed : IsTimedFrom (take l.counter (slots_on l.initial.arena 0 l.list)) l.initial.arena l.initial.group l.due l.number l.arena l.group;
   since : IsSinceFrom (take l.counter (slots_on l.initial.arena 0 l.list)) l.initial.arena l.initial.group l.due l.initial.since l.since;

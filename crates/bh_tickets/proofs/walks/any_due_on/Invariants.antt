@@ -8,6 +8,6 @@ abbrev pub invariant-loop : goal.invariant-loop
 invariant-loop l = record {
   end : l.end ≡ length (slots_on l.arena 0 l.list);
   here : l.counter ≤ length (slots_on l.arena 0 l.list);
-  place : l.place ≡ slice_get (slots_on l.arena 0 l.list) l.counter;
+  ahead : l.ahead ≡ slice_get (slots_on l.arena 0 l.list) l.counter;
   rest : any_at (is_due_by l.due) l.arena.payloads (slots_on l.arena 0 l.list) ≡ any_at (is_due_by l.due) l.arena.payloads (drop l.counter (slots_on l.arena 0 l.list));
 }

@@ -7,17 +7,17 @@ use Rattle.bh_tickets.proofs.walks.any_on.Goals as goal
 
 pub returns-then-test : goal.returns-then-test
 returns-then-test g c = λ p tells.
-    let at = sym c.loop.invariant.place ∙ c.in-Some.is in
+    let at = sym c.loop.invariant.ahead ∙ c.in-Some.is in
     let passes = ap (has_one p) (sym c.get.ensures) ∙ sym (tells c.get.result.now c.test.result (record { shown = c.get.result; shows = refl; says = record { met = c.test.ensures } })) ∙ c.if-test.true in
     sym (c.loop.invariant.rest p tells ∙ any_here (λ x. has_one p (slice_get c.args.arena.now.payloads x)) (slots_on c.args.arena.now 0 c.args.list) c.loop.counter c.in-Some.slot at passes)
 
 pub loop-preserved : goal.loop-preserved
 loop-preserved g c =
-    let at = sym c.loop.invariant.place ∙ c.in-Some.is in
+    let at = sym c.loop.invariant.ahead ∙ c.in-Some.is in
     record {
       end = c.loop.invariant.end;
       here = omega (arith, c.loop.invariant.end);
-      place = c.next-place.ensures c.args.list c.loop.counter at;
+      ahead = c.next-ahead.ensures c.args.list c.loop.counter at;
       rest = λ p tells.
           let fails = ap (has_one p) (sym c.get.ensures) ∙ sym (tells c.get.result.now c.test.result (record { shown = c.get.result; shows = refl; says = record { met = c.test.ensures } })) ∙ c.if-test.false in
           c.loop.invariant.rest p tells ∙ any_next (λ x. has_one p (slice_get c.args.arena.now.payloads x)) (slots_on c.args.arena.now 0 c.args.list) c.loop.counter c.in-Some.slot at fails;

@@ -9,6 +9,6 @@ abbrev pub invariant-loop : goal.invariant-loop
 invariant-loop g l = record {
   end : l.end ≡ length (slots_on l.arena 0 l.list);
   here : l.counter ≤ length (slots_on l.arena 0 l.list);
-  place : l.place ≡ slice_get (slots_on l.arena 0 l.list) l.counter;
+  ahead : l.ahead ≡ slice_get (slots_on l.arena 0 l.list) l.counter;
   rest : (p : Ticket → Bool) → ((t : Ticket) (b : Bool) → FnReturnsAt (g.F.Fn) l.test t b → b ≡ p t) → any_at p l.arena.payloads (slots_on l.arena 0 l.list) ≡ any_at p l.arena.payloads (drop l.counter (slots_on l.arena 0 l.list));
 }

@@ -1,6 +1,0 @@
-pub mod Along
-pub mod Dropped
-pub mod DroppedChains
-pub mod Found
-pub mod Noting
-pub mod Placed

@@ -1,5 +1,0 @@
-pub mod Cache
-pub mod Chains
-pub mod Drops
-pub mod Notes
-pub mod Places
