@@ -4,9 +4,15 @@
 # turns in one run.
 #
 #   bench/python.sh [ROUNDS]     25 where none are given; the library is built by bindings/build.sh where it is not there
+#
+# It runs by Debian's Python where that one alone has the circuitbreaker.
 set -euo pipefail
 
 here=$(cd "$(dirname "$0")" && pwd)
 [ -n "${BULKHEAD_LIBRARY:-}" ] || [ -f "$here/../bindings/out/libbulkhead.so" ] || "$here/../bindings/build.sh"
-echo "load: $(cut -d ' ' -f 1-3 /proc/loadavg), $(nproc) processors, $(python3 --version)"
-PYTHONPATH=$here/../python/src exec python3 "$here/python/calls.py" "${1:-25}"
+python=python3
+if ! python3 -c 'import circuitbreaker' 2>/dev/null && /usr/bin/python3 -c 'import circuitbreaker' 2>/dev/null; then
+    python=/usr/bin/python3
+fi
+echo "load: $(cut -d ' ' -f 1-3 /proc/loadavg), $(nproc) processors, $("$python" --version)"
+PYTHONPATH=$here/../python/src exec "$python" "$here/python/calls.py" "${1:-25}"

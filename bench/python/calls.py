@@ -1,4 +1,7 @@
-"""What a call costs, by turns: each way a few times, and that again for so many rounds."""
+"""What a call costs, by turns: each way a few times, and that again for so many rounds.
+
+What one thread does is done in spells of a millisecond or so, many of which pass on a busy machine with nobody between.
+"""
 
 from __future__ import annotations
 
@@ -25,6 +28,16 @@ hystrix.command.permits.execution.isolation.strategy = "SEMAPHORE"
 hystrix.threadpool.default = {{coreSize = 10, maxQueueSize = 64, queueSizeRejectionThreshold = 64}}
 """
 THREADS, SHARE = 32, 50
+# how many spells of one thread a round has
+SPELLS = 20
+# of which way how much is asked, and beside which other one: a difference in microseconds, or a ratio
+COMPARED = (
+    ("under SEMAPHORE", "the bare function", "more"),
+    ("through a pool, executed", "ThreadPoolExecutor(10)", "more"),
+    ("through a pool, queued and waited for", "ThreadPoolExecutor(10)", "more"),
+    ("32 threads, 8 pools", "32 threads, 8 executors", "times"),
+    ("32 threads, 8 pools, functions of 1 ms", "32 threads, 8 executors, functions of 1 ms", "times"),
+)
 
 
 def function(value: int) -> int:
@@ -36,7 +49,7 @@ def short(value: int) -> int:
     return value
 
 
-def many(calls: list[Callable[[int], Any]], count: int) -> Callable[[], int]:
+def threads(calls: list[Callable[[int], Any]], count: int) -> Callable[[], int]:
     """32 threads, each of which calls one of the eight."""
 
     def run() -> int:
@@ -44,10 +57,10 @@ def many(calls: list[Callable[[int], Any]], count: int) -> Callable[[], int]:
             for number in range(count):
                 call(number)
 
-        threads = [threading.Thread(target=work, args=(calls[number % 8],)) for number in range(THREADS)]
-        for thread in threads:
+        begun = [threading.Thread(target=work, args=(calls[number % 8],)) for number in range(THREADS)]
+        for thread in begun:
             thread.start()
-        for thread in threads:
+        for thread in begun:
             thread.join()
         return THREADS * count
 
@@ -63,44 +76,55 @@ def loop(call: Callable[[int], Any], count: int) -> Callable[[], int]:
     return run
 
 
-def ways() -> dict[str, Callable[[], int]]:
+def ways_of_one() -> dict[str, Callable[[], int]]:
+    """What one thread does."""
     service = bulkhead.open(text=SETTINGS)
     recorded = bulkhead.open(text=SETTINGS)
     recorded.record(Path(tempfile.mkdtemp()) / "record.jsonl")
     permits, of_record = service.command("permits")(function), recorded.command("permits")(function)
-    pools = [service.command(name)(function) for name in POOLS]
-    slow = bulkhead.open(text=SETTINGS)
-    slow_pools = [slow.command(name)(short) for name in POOLS]
-    executors = [ThreadPoolExecutor(10) for _ in POOLS]
-    told: dict[str, Callable[[], int]] = {"the bare function": loop(function, 20_000)}
+    pool, executor = service.command("g0")(function), ThreadPoolExecutor(10)
+    told: dict[str, Callable[[], int]] = {"the bare function": loop(function, 2_000)}
     if circuit is not None:
-        told["circuitbreaker"] = loop(circuit()(function), 5_000)
-    told["under SEMAPHORE"] = loop(permits, 2_000)
-    told["under SEMAPHORE, with a record"] = loop(of_record, 2_000)
-    told["ThreadPoolExecutor(10)"] = loop(lambda value: executors[0].submit(function, value).result(), 1_000)
-    told["through a pool, executed"] = loop(pools[0], 1_000)
-    told["through a pool, queued and waited for"] = loop(lambda value: pools[0].queue(value).result(), 1_000)
-    submits = [lambda value, one=one: one.submit(function, value).result() for one in executors]
-    told["32 threads, 8 executors"] = many(submits, SHARE)
-    told["32 threads, 8 pools"] = many(list(pools), SHARE)
-    submits = [lambda value, one=one: one.submit(short, value).result() for one in executors]
-    told["32 threads, 8 executors, functions of 1 ms"] = many(submits, SHARE)
-    told["32 threads, 8 pools, functions of 1 ms"] = many(list(slow_pools), SHARE)
+        told["circuitbreaker"] = loop(circuit()(function), 1_000)
+    told["under SEMAPHORE"] = loop(permits, 200)
+    told["under SEMAPHORE, with a record"] = loop(of_record, 200)
+    told["ThreadPoolExecutor(10)"] = loop(lambda value: executor.submit(function, value).result(), 50)
+    told["through a pool, executed"] = loop(pool, 50)
+    told["through a pool, queued and waited for"] = loop(lambda value: pool.queue(value).result(), 50)
+    return told
+
+
+def ways_of_many() -> dict[str, Callable[[], int]]:
+    """What 32 threads do."""
+    told: dict[str, Callable[[], int]] = {}
+    for called, about in ((function, ""), (short, ", functions of 1 ms")):
+        service = bulkhead.open(text=SETTINGS)
+        executors = [ThreadPoolExecutor(10) for _ in POOLS]
+        submits = [lambda value, one=one, called=called: one.submit(called, value).result() for one in executors]
+        told[f"32 threads, 8 executors{about}"] = threads(submits, SHARE)
+        told[f"32 threads, 8 pools{about}"] = threads([service.command(name)(called) for name in POOLS], SHARE)
     return told
 
 
 def main() -> None:
     rounds, times = int(sys.argv[1]), {}
-    named = ways()
+    one, many = ways_of_one(), ways_of_many()
     for _ in range(rounds):
-        for name, run in named.items():
-            begun = time.perf_counter()
-            count = run()
-            times.setdefault(name, []).append((time.perf_counter() - begun) / count * 1e6)
+        for named in (*[one] * SPELLS, many):
+            for name, run in named.items():
+                begun = time.perf_counter()
+                count = run()
+                times.setdefault(name, []).append((time.perf_counter() - begun) / count * 1e6)
     width = max(map(len, times))
     print(f"{'microseconds a call':<{width}}  {'least':>8}  {'middle':>8}")
     for name, each in times.items():
         print(f"{name:<{width}}  {min(each):>8.2f}  {statistics.median(each):>8.2f}")
+    print("\nbeside one another, round by round: of the least, and the middle of all rounds")
+    for name, beside, kind in COMPARED:
+        compare = (lambda one, other: one - other) if kind == "more" else (lambda one, other: one / other)
+        least = compare(min(times[name]), min(times[beside]))
+        middle = statistics.median(map(compare, times[name], times[beside]))
+        print(f"{name}: {least:.2f} and {middle:.2f} {kind}{' than' if kind == 'more' else ''} {beside}")
 
 
 main()

@@ -2,13 +2,18 @@
 
 from __future__ import annotations
 
+import contextlib
+import gc
+import logging
 import os
 import subprocess
+import sys
 import tempfile
 import threading
 import time
 import unittest
-from collections.abc import Callable
+import warnings
+from collections.abc import Callable, Iterator
 from pathlib import Path
 from typing import Any, Optional
 
@@ -73,6 +78,22 @@ class Case(unittest.TestCase):
         folder = tempfile.TemporaryDirectory()
         self.addCleanup(folder.cleanup)
         return Path(folder.name)
+
+    @contextlib.contextmanager
+    def silent_loops(self) -> Iterator[None]:
+        """Within it nothing is said of coroutines and tasks that are dropped before their end."""
+        logger = logging.getLogger("asyncio")
+        level, hook = logger.level, sys.unraisablehook
+        logger.setLevel(logging.CRITICAL)
+        sys.unraisablehook = lambda told: None
+        try:
+            with warnings.catch_warnings():
+                warnings.simplefilter("ignore", RuntimeWarning)
+                yield
+                gc.collect()
+        finally:
+            logger.setLevel(level)
+            sys.unraisablehook = hook
 
     def until(self, holds: Callable[[], object], seconds: float = 5) -> None:
         """Waits until something holds that another thread brings about."""

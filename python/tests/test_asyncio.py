@@ -3,8 +3,6 @@
 from __future__ import annotations
 
 import asyncio
-import gc
-import logging
 import threading
 from typing import Any
 
@@ -222,18 +220,15 @@ class Coroutines(Case):
         async def hang() -> None:
             await asyncio.sleep(60)
 
-        logger = logging.getLogger("asyncio")
-        self.addCleanup(logger.setLevel, logger.level)
-        logger.setLevel(logging.CRITICAL)  # of tasks that are destroyed in their midst
-        for _ in range(3):
-            loop = asyncio.new_event_loop()
-            tasks = [loop.create_task(hang.run()) for _ in range(2)]
-            loop.run_until_complete(asyncio.sleep(0.01))
-            self.assertEqual(service.metrics("permits").busy, 2)
-            loop.close()
-            self.assertEqual(service.metrics("permits").busy, 0)
-            del tasks
-            gc.collect()
+        with self.silent_loops():
+            for _ in range(3):
+                loop = asyncio.new_event_loop()
+                tasks = [loop.create_task(hang.run()) for _ in range(2)]
+                loop.run_until_complete(asyncio.sleep(0.01))
+                self.assertEqual(service.metrics("permits").busy, 2)
+                loop.close()
+                self.assertEqual(service.metrics("permits").busy, 0)
+                del tasks
         self.assert_idle(service)
 
     def test_asyncio_run_that_ends_cancels_what_still_runs(self) -> None:

@@ -3,8 +3,7 @@
 from __future__ import annotations
 
 import threading
-import time
-from concurrent.futures import Future, wait
+from concurrent.futures import Future
 from typing import Any
 
 import bulkhead
@@ -29,16 +28,6 @@ class Calls(Case):
         call = service.command("pool")(lambda value: value)
         for value in (None, object(), bulkhead, Own()):
             self.assertIs(call(value), value)
-
-    def test_a_pooled_function_runs_in_a_thread_of_its_group(self) -> None:
-        service = self.open()
-        name = service.command("pool")(lambda: threading.current_thread().name)
-        self.assertEqual(name(), "bulkhead-pool-worker")
-
-    def test_a_function_under_permits_runs_in_the_callers_thread(self) -> None:
-        service = self.open()
-        ident = service.command("permits")(threading.get_ident)
-        self.assertEqual(ident(), threading.get_ident())
 
     def test_a_queued_call_is_a_future(self) -> None:
         service = self.open()
@@ -144,17 +133,6 @@ class Calls(Case):
         self.assertIsInstance(interrupted.exception.__cause__, Beyond)
         self.assert_idle(service)
 
-    def test_a_full_pool_rejects(self) -> None:
-        service, gate = self.open(), Gate()
-        call = service.command("pool")(gate)
-        futures = [call.queue(number) for number in range(4)]
-        with self.assertRaises(bulkhead.PoolRejected):
-            call(5)
-        self.assertIsInstance(call.queue(6).exception(5), bulkhead.PoolRejected)
-        gate.open()
-        self.assertEqual([future.result(5) for future in futures], [0, 1, 2, 3])
-        self.assert_idle(service)
-
     def test_permits_that_are_taken_reject(self) -> None:
         service, gate = self.open(), Gate()
         call = service.command("permits")(gate)
@@ -178,34 +156,6 @@ class Calls(Case):
         self.assertIsInstance(call.queue().exception(5), bulkhead.GroupFull)
         gate.open()
         future.result(5)
-
-    def test_a_call_that_takes_too_long_is_answered_at_its_timeout(self) -> None:
-        service = self.open(
-            SETTINGS + "\n[hystrix.command.pool.execution.isolation.thread]\ntimeoutInMilliseconds = 30\n"
-        )
-        gate = Gate()
-        call = service.command("pool")(gate)
-        begun = time.monotonic()
-        with self.assertRaises(bulkhead.TimedOut) as late:
-            call()
-        self.assertEqual(late.exception.cause, "timeout")
-        self.assertLess(time.monotonic() - begun, 5)
-        self.assertEqual(service.metrics("pool").busy, 1)
-        gate.open()
-        self.assert_idle(service)
-        self.assertEqual(service.metrics("pool").success, 0)
-
-    def test_a_timeout_runs_the_fallback_of_a_future_in_a_thread_of_the_group(self) -> None:
-        service, hand = self.by_hand()
-        gate = Gate()
-        name = service.command("pool", fallback=lambda *, cause: threading.current_thread().name)(gate)
-        future = name.queue()
-        gate.wait()
-        hand.now = 1000
-        self.assertEqual(service.expire(), 1)
-        self.assertEqual(future.result(5), "bulkhead-pool-helper")
-        gate.open()
-        self.assert_idle(service)
 
     def test_a_slow_function_under_permits_falls_back_when_it_comes_back(self) -> None:
         service, hand = self.by_hand()
@@ -240,6 +190,20 @@ class Calls(Case):
         steps = [("closed", "open"), ("open", "half-open"), ("half-open", "closed")]
         self.assertEqual(changes, [("permits", *step) for step in steps])
 
+    def test_on_transition_is_called_outside_of_the_lock(self) -> None:
+        seen: list[Any] = []
+        service, hand = self.by_hand(
+            SETTINGS + "\n[hystrix.command.permits.circuitBreaker]\nrequestVolumeThreshold = 1\n",
+            on_transition=lambda name, *_: seen.append((service.metrics(name).circuit, other())),
+        )
+        other = service.command("pool")(lambda: 7)
+        call = service.command("permits", fallback=lambda *, cause: 0)(lambda: 1 // 0)
+        call()
+        hand.now = 600
+        call()
+        self.assertEqual(seen, [("open", 7)])
+        self.assert_idle(service)
+
     def test_what_on_transition_raises_disturbs_no_call(self) -> None:
         def refuse(*_: str) -> None:
             raise Own
@@ -253,29 +217,6 @@ class Calls(Case):
         hand.now = 600
         with self.assertLogs("bulkhead", "ERROR"), self.assertRaises(bulkhead.ShortCircuited):
             call()
-
-    def test_a_cancelled_future_is_not_run(self) -> None:
-        service, gate, ran = self.open(), Gate(), []
-        call = service.command("pool")(gate)
-        held = [call.queue(), call.queue()]
-        gate.wait(2)
-        other = service.command("more")(ran.append)
-        cancelled = other.queue(1)
-        self.assertTrue(cancelled.cancel())
-        gate.open()
-        wait([*held, cancelled], timeout=5)
-        self.assert_idle(service)
-        self.assertEqual(ran, [])
-
-    def test_a_function_runs_in_a_copy_of_its_callers_variables(self) -> None:
-        from contextvars import ContextVar
-
-        variable: ContextVar[int] = ContextVar("variable", default=0)
-        service = self.open()
-        call = service.command("pool")(lambda: (variable.get(), variable.set(2)) and variable.get())
-        read = service.command("more")(variable.get)
-        variable.set(1)
-        self.assertEqual((read(), call(), variable.get()), (1, 2, 1))
 
     def test_a_command_reads_as_its_function(self) -> None:
         service = self.open()

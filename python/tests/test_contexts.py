@@ -107,6 +107,22 @@ class Contexts(Case):
         self.assertEqual(len(ran), 1)
         self.assert_idle(service)
 
+    def test_a_fallback_gets_the_arguments_of_the_first_caller(self) -> None:
+        service, gate = self.open(), Gate()
+
+        def fail(number: int) -> None:
+            gate()
+            raise ValueError
+
+        call = service.command("pool", key=lambda number: 1, fallback=lambda number, *, cause: number)(fail)
+        with service.context():
+            futures = [call.queue(number) for number in (7, 8, 9)]
+            gate.wait()
+            self.assertTrue(futures[0].cancel())
+            gate.open()
+            self.assertEqual([future.result(5) for future in futures[1:]], [7, 7])
+        self.assert_idle(service)
+
     def test_holders_that_are_gone_run_no_fallback(self) -> None:
         service, gate, ran = self.open(), Gate(), []
 

@@ -2,8 +2,14 @@
 
 from __future__ import annotations
 
+import json
+import subprocess
+import sys
+import threading
+import time
+
 import bulkhead
-from support import SETTINGS, Case
+from support import SETTINGS, Case, Gate
 
 
 class Declarations(Case):
@@ -61,6 +67,45 @@ class Declarations(Case):
         self.assertTrue(issubclass(bulkhead.CommandError, bulkhead.Error))
         self.assertFalse(issubclass(bulkhead.BadRequest, bulkhead.Error))
 
+    def test_moments_are_monotonic_milliseconds(self) -> None:
+        service, path = self.open(), self.folder() / "record.jsonl"
+        service.record(path)
+        call = service.command("permits")(time.sleep)
+        begun = time.monotonic()
+        for _ in range(3):
+            call(0.01)
+        took = 1000 * (time.monotonic() - begun)
+        service.close()
+        moments = [json.loads(line)["now"] for line in path.read_text().splitlines()]
+        self.assertEqual(moments, sorted(moments))
+        self.assertTrue(29 <= moments[-2] - moments[0] <= took + 1, moments)
+
+    def test_a_clock_of_a_tests_own_has_no_timer(self) -> None:
+        before = {thread for thread in threading.enumerate() if thread.name == "bulkhead-timer"}
+        service, hand = self.by_hand()
+        future = service.command("pool")(gate := Gate()).queue()
+        self.assertEqual({thread for thread in threading.enumerate() if thread.name == "bulkhead-timer"} - before, set())
+        hand.now = 999
+        self.assertEqual(service.expire(), 0)
+        hand.now = 1000
+        self.assertEqual(service.expire(), 1)
+        self.assertIsInstance(future.exception(5), bulkhead.TimedOut)
+        gate.open()
+
+    def test_a_clock_that_raises_leaves_nothing(self) -> None:
+        def fail() -> int:
+            raise OSError("no clock")
+
+        service = self.open(clock=fail)
+        with self.assertRaises(OSError):
+            service.command("permits")(lambda: 1)()
+        self.assertEqual(service.runs(), [])
+        service.close()
+
+    def test_the_package_tells_its_version_and_where_its_library_lies(self) -> None:
+        told = subprocess.run([sys.executable, "-m", "bulkhead"], capture_output=True, text=True, check=True)
+        self.assertEqual(told.stdout, f"bulkhead {bulkhead.__version__}, interface 3\n{bulkhead._library.path()}\n")
+
     def test_a_clock_that_gives_no_moment_is_told(self) -> None:
         for moment in (1.5, 1 << 64, "noon", None):
             service = self.open(clock=lambda moment=moment: moment)
@@ -75,4 +120,4 @@ class Declarations(Case):
         call()
         hand.now = 10
         call()
-        self.assertEqual(service.turns.groups[1].latest, 5000)
+        self.assertEqual(service.turns.groups["permits"].latest, 5000)

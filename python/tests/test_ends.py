@@ -5,6 +5,7 @@ from __future__ import annotations
 import asyncio
 import gc
 import os
+import signal
 import subprocess
 import sys
 import threading
@@ -115,9 +116,8 @@ class Ends(Case):
             service.command("permits")(lambda: 1)()
 
     def run_python(self, program: str) -> subprocess.CompletedProcess[str]:
-        return subprocess.run(
-            [sys.executable, "-c", program], capture_output=True, text=True, timeout=20, check=False, env=os.environ
-        )
+        words = [sys.executable, "-W", "ignore", "-c", program]
+        return subprocess.run(words, capture_output=True, text=True, timeout=20, check=False, env=os.environ)
 
     def test_an_interpreter_that_ends_while_functions_run_waits_for_none(self) -> None:
         path = self.folder() / "record.jsonl"
@@ -217,6 +217,35 @@ print(record.is_whole)
         _clock = again
         self.assertEqual(call(), 1)
         self.assertEqual(set(seen), {bulkhead.Reentered})
+        _clock = lambda: 1  # noqa: E731
+        self.assertEqual(call(), 1)
+        self.assert_idle(service)
+
+    def test_a_signal_handler_and_a_finalizer_within_a_turn_are_reentered(self) -> None:
+        seen: list[str] = []
+        service = self.open(clock=lambda: _clock())
+        call = service.command("permits")(lambda: 1)
+
+        class Dropped:
+            def __del__(self) -> None:
+                told("finalizer")
+
+        def told(who: str) -> None:
+            try:
+                call()
+            except bulkhead.Reentered:
+                seen.append(who)
+
+        def within() -> int:
+            signal.raise_signal(signal.SIGUSR1)
+            Dropped()
+            return 1
+
+        before = signal.signal(signal.SIGUSR1, lambda *_: told("handler"))
+        self.addCleanup(signal.signal, signal.SIGUSR1, before)
+        _clock = within
+        self.assertEqual(call(), 1)
+        self.assertEqual(set(seen), {"handler", "finalizer"})
         _clock = lambda: 1  # noqa: E731
         self.assertEqual(call(), 1)
         self.assert_idle(service)

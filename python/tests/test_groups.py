@@ -2,6 +2,8 @@
 
 from __future__ import annotations
 
+import contextlib
+import json
 import threading
 
 import bulkhead
@@ -37,6 +39,25 @@ class Groups(Case):
             service.metrics("tenant-7")
         self.assertEqual(charge(), 1)
 
+    def test_no_step_of_a_retired_group_is_handed_in(self) -> None:
+        service, path = self.open(), self.folder() / "record.jsonl"
+        service.record(path)
+        call = service.command("pool", key=lambda: 1)(lambda: 1)
+        service.register("tenant-7", like="pool")
+        of = call.of("tenant-7")
+        with service.context():
+            of()
+            self.assertTrue(service.retire("tenant-7"))
+            for refused in (of, of.queue().result, lambda: service.retire("tenant-7")):
+                with self.assertRaises(bulkhead.NoSuchGroup):
+                    refused()
+            with contextlib.suppress(bulkhead.NoSuchCommand):
+                service.metrics("tenant-7")
+            service.metrics()
+        service.close()
+        lines = [json.loads(line) for line in path.read_text().splitlines()]
+        self.assertEqual([line["op"] for line in lines if line["group"] == "tenant-7"][-2:], ["collect", "retire"])
+
     def test_a_name_that_comes_again_is_another_group(self) -> None:
         service = self.open()
         charge = service.command("pool")(lambda: 1)
@@ -71,7 +92,7 @@ class Groups(Case):
 
     def test_what_cannot_be_registered_is_refused(self) -> None:
         service = self.open()
-        for name in ("pool", "more", "default", "a b", "x" * 33, ""):
+        for name in ("pool", "more", "default", "a b", "x" * 33, "x" * 2000, "\ud800", ""):
             with self.assertRaises(bulkhead.Refused, msg=name):
                 service.register(name, like="pool")
         with self.assertRaises(bulkhead.NoSuchGroup):

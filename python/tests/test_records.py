@@ -3,6 +3,8 @@
 from __future__ import annotations
 
 import json
+import os
+import threading
 
 import bulkhead
 from support import SETTINGS, Case, needs_program, replayed
@@ -50,6 +52,25 @@ class Records(Case):
         self.assertIsInstance(record.error, OSError)
         self.assertEqual(call(), 1)
         service.close()
+
+    def test_a_disk_that_is_slow_holds_no_call_up(self) -> None:
+        service, folder = self.open(), self.folder()
+        os.mkfifo(folder / "replies")
+        reader = os.open(folder / "replies", os.O_RDONLY | os.O_NONBLOCK)
+        self.addCleanup(os.close, reader)
+        record = service.record(folder / "record.jsonl", replies=folder / "replies")
+        call = service.command("permits")(lambda: 1)
+        for _ in range(2_000):  # some 200 kilobytes, of which the pipe takes 64
+            call()
+        self.until(record._writing.locked)
+        self.assertEqual([call() for _ in range(100)], [1] * 100)
+        self.assertTrue(record.is_whole)
+        os.set_blocking(reader, True)
+        drain = threading.Thread(target=lambda: [*iter(lambda: os.read(reader, 1 << 16), b"")])
+        drain.start()
+        service.close()
+        drain.join()
+        self.assertTrue(record.is_whole)
 
     def test_three_files_are_three(self) -> None:
         service, folder = self.open(), self.folder()

@@ -152,10 +152,10 @@ class Stress(Case):
 
     def assert_circuits(self) -> None:
         """What Python knows of each circuit breaker is what the core says."""
-        for group in self.service.turns.groups:
-            for number, circuit in enumerate(group.circuits):
-                told = self.service.metrics(group.spelled(number)).circuit
-                self.assertEqual(told, ("closed", "open", "half-open")[circuit.state], group.spelled(number))
+        for group in self.service.turns.groups.values():
+            for place in group.places:
+                told = self.service.metrics(place.spelled).circuit
+                self.assertEqual(told, ("closed", "open", "half-open")[place.circuit.state], place.spelled)
 
     def compare(self) -> None:
         folder = self.folder_of_record

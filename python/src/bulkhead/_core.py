@@ -3,33 +3,36 @@
 from __future__ import annotations
 
 from asyncio import AbstractEventLoop
-from collections import deque
-from collections.abc import Iterator
-from itertools import takewhile
-from typing import TYPE_CHECKING, Any, Optional
+from math import inf
+from time import monotonic_ns
+from typing import TYPE_CHECKING, Any, Optional, Union
 
 from . import _library, _words as words
 from ._answers import Answers
+from ._groups import Group, Place
 from ._pools import Worker
-from ._runs import FALLBACK_DUE, LIVE, RETIRED, STOPPED, Group, Run
+from ._runs import FALLBACK_DUE, LIVE, RETIRED, STOPPED, Run
+from ._timer import Timer
 from .errors import NoSuchGroup, Stopped, Worn
 
 if TYPE_CHECKING:
     from collections.abc import Callable
 
-    from ._coroutines import Carried
+    from ._coroutines import Awaiter, Carried
     from .steps import Service as StepService
 
-_KIND_AT = _library.KIND_AT
+_KIND_AT, _COMMAND_AT = _library.KIND_AT, _library.COMMAND_AT
 
 
 class Core(Answers):
     """The lock, the steps, and what is kept of each ticket."""
 
-    def __init__(self, opened: StepService, clock: Callable[[], int]) -> None:
+    def __init__(self, opened: StepService, clock: Optional[Callable[[], int]]) -> None:
         super().__init__(opened, clock)
-        # the tasks that run functions, by their loops
-        self.loops: dict[AbstractEventLoop, dict[Carried, None]] = {}
+        # the tasks that run functions, and those who wait, by their loops
+        self.loops: dict[AbstractEventLoop, dict[Union[Awaiter, Carried], None]] = {}
+        # the moment of the latest step when the timer looked last
+        self._looked_at = -1
 
     def new_worker(self, group: Group) -> Worker:
         """A worker of the group, whose thread starts when it is told."""
@@ -37,10 +40,16 @@ class Core(Answers):
 
     # -- time
 
+    def start_timer(self) -> None:
+        """Starts the thread that times out what is due."""
+        timer = Timer(self)
+        self.alarm, self.alarm_at = timer, inf
+        timer.start()
+
     def expire(self, group: Group) -> int:
         """Times out what is due in a group, and tells how many tickets those were."""
         late: list[Run] = []
-        if not group.over and self.is_open:
+        if not group.over:
             self.step(self._expired, (group, late), group, words.EXPIRE)
         return len(late)
 
@@ -50,21 +59,18 @@ class Core(Answers):
             self.unit = None
             return
         if not late:
-            late += [run for due in group.due for run in _until(due, self.moment) if run.state == LIVE]
-        told = self.told
+            late += _late(group, group.latest)
         for run in late:
+            place = run.place
             if run.task is not None:
-                told += (run.task,)
-            changes = self.circuit_changes(
-                group, run.command, group.circuits[run.command].ended(run.ticket, False)
-            )
+                self.told += (run.task,)
+            changes = self.circuit_changes(place, place.circuit.ended(run.ticket, False))
             if changes:
-                circuit, state, test, told_of = changes
-                circuit.state, circuit.test = state, test
-                told += told_of
+                place.circuit.state, place.circuit.test, told_of = changes
+                self.told += told_of
             if run.state == LIVE:
                 run.state, group.queued = FALLBACK_DUE, group.queued - run.is_queued
-                group.counters[run.command].runs["timeout"] += 1
+                place.counters.runs["timeout"] += 1
         self.todo += late
         self.unit = None
 
@@ -73,22 +79,24 @@ class Core(Answers):
         if not self.is_open:
             raise Stopped("the service is closed")
         now, count = self.now(), 0
-        for group in self.groups:
-            if not group.over and any(run.state == LIVE for due in group.due for run in _until(due, now)):
+        for group in [*self.groups.values()]:
+            if _late(group, now):
                 count += self.expire(group)
                 self.settle()
         return count
 
     def now(self) -> int:
-        """The moment of the clock."""
-        return self._clock()
+        """The moment of the clock, in milliseconds."""
+        return monotonic_ns() // 1_000_000 if self._clock is None else self._clock()
 
-    def read(self, group: Group, command: int) -> bytearray:
-        """Asks for the metrics of a command: the bytes of the reply. Raises `NoSuchGroup` and `Worn`."""
+    def read(self, place: Place) -> bytearray:
+        """Asks for the metrics of a command: the bytes of the reply. Raises `NoSuchGroup`, `Worn` and `Stopped`."""
+        group = place.group
+        if not group.over:
+            self.given[_COMMAND_AT] = place.number
+            self.step(self._was_read, (group,), group, words.READ)
         if group.over == RETIRED:
             raise NoSuchGroup(f"{group.name}: the group was retired")
-        if not group.over:
-            self.step(self._was_read, (group,), group, words.READ, 0, 0, b"", command)
         if group.over == words.WORN:
             raise Worn(f"{group.name}: the group has made all of its steps")
         if group.over:
@@ -100,16 +108,18 @@ class Core(Answers):
             self.is_over(group, words.WORN)
         self.unit = None
 
-    def next_due(self) -> Optional[int]:
-        """The moment at which something may time out first, until which the timer sleeps."""
-        first: Optional[int] = None
-        for group in self.groups:
-            for due in group.due if not group.over else ():
-                while due and due[0].state != LIVE:
-                    due.popleft()
-                if due and (first is None or due[0].due < first):
-                    first = due[0].due
-        self.alarm_at = first
+    def next_due(self) -> float:
+        """The moment at which something may time out first, until which the timer sleeps: infinity where nothing may.
+
+        Where nothing runs, but something did since the last time, it is that of a run that begins now: so the timer is not
+        woken by each call of a service that has one at a time.
+        """
+        groups = self.groups.values()
+        first = min((run.due for group in groups for run in group.runs.values() if run.state == LIVE), default=inf)
+        latest = max((group.latest for group in groups), default=-1)
+        if first == inf and latest > self._looked_at:
+            first = latest + min(place.limit for group in groups for place in group.places)
+        self.alarm_at, self._looked_at = first, latest
         return first
 
     # -- the end
@@ -121,7 +131,7 @@ class Core(Answers):
     def close(self) -> None:
         """Closes the service: everybody who waits is told, workers end, and the memory is given back."""
         if self.is_open:
-            for group in self.groups:
+            for group in [*self.groups.values()]:
                 self.end_group(group, STOPPED)
             self.is_open = False
             if self.alarm is not None:
@@ -135,12 +145,13 @@ class Core(Answers):
     def stop_in_child(self) -> None:
         """In a forked process: the service is its parent's alone, and everything here is `Stopped`."""
         self.is_open = False
-        for group in self.groups:
+        for group in self.groups.values():
             group.over, group.runs = group.over or STOPPED, {}
         if self.record is not None:
             self.record.drop()
         self._opened.forget()
 
 
-def _until(due: deque[Run], moment: int) -> Iterator[Run]:
-    return takewhile(lambda run: run.due <= moment, due)
+def _late(group: Group, moment: int) -> list[Run]:
+    """The runs of a group that are to have ended by a moment."""
+    return [run for run in group.runs.values() if run.state == LIVE and run.due <= moment]

@@ -6,10 +6,10 @@ import asyncio
 import inspect
 from collections.abc import Callable
 from contextlib import suppress
-from typing import TYPE_CHECKING, Any, Optional
+from typing import TYPE_CHECKING, Any, Optional, Union
 
 from . import _words as words
-from ._runs import ANSWERED, UNTOLD, Call, Group, Holder, Run, end_of
+from ._runs import UNTOLD, Holder, Run, end_of
 from .errors import Reentered
 
 if TYPE_CHECKING:
@@ -50,6 +50,12 @@ class Awaiter(Holder):
         if not self._future.done():
             self._future.set_result(None)
 
+    def sweep(self) -> None:
+        """Leaves the ticket, where the loop was closed and nobody goes on in it."""
+        if self._loop.is_closed():
+            self._turns.turn(self._turns.leave, self)
+            forget(self._turns, self._loop, self)
+
 
 class Carried:
     """The task that runs a function. Who is told of it cancels it."""
@@ -58,17 +64,25 @@ class Carried:
         self._turns, self._run, self._loop = turns, run, loop
         self.task: Optional[asyncio.Task[Any]] = None
 
-    def start(self) -> None:
-        """Starts the task. Arguments that do not fit are a failure of the function, as for a plain one."""
-        call = self._run.call
+    def start(self, holder: Awaiter) -> None:
+        """Starts the task, for the holder that owes the run.
+
+        Arguments that do not fit are a failure of the function, as for a plain one.
+        """
+        run = self._run
         try:
-            coroutine = call.function(*call.arguments, **call.named)
+            coroutine = run.body.function(*run.arguments, **run.named)
         except Exception as error:
-            self._turns.turn(self._turns.end, self._run, end_of(error), None, error, None)
+            self._turns.turn(self._turns.end, run, end_of(error), None, error, None)
+            holder.runs_it = False
             return
         self.task = self._loop.create_task(coroutine)
-        self._turns.loops.setdefault(self._loop, {})[self] = None
+        # twice: where an interrupt breaks the loop off at the first, the second is still to come
         self.task.add_done_callback(self._done)
+        self.task.add_done_callback(self._done)
+        of_loop = self._turns.loops[self._loop]
+        # from here on nothing is called
+        of_loop[self], holder.runs_it = None, False
 
     def tell(self, by_timer: bool) -> None:
         """Cancels the task: the run took too long, or nobody waits for it."""
@@ -76,36 +90,55 @@ class Carried:
             with suppress(RuntimeError):  # the loop is closed
                 self._loop.call_soon_threadsafe(self.task.cancel)
 
+    def cancel_unless_wanted(self) -> None:
+        """Cancels the task of a run that nobody waits for any more."""
+        if all(other.is_gone() for other in self._run.waiting):
+            self.tell(False)
+
     def _done(self, task: asyncio.Task[Any]) -> None:
-        self._forget()
         if task.cancelled():
-            ended: tuple[int, Any, Optional[BaseException]]
-            ended = words.FAIL_BAD_REQUEST, None, asyncio.CancelledError()
+            self.end(words.FAIL_BAD_REQUEST, None, asyncio.CancelledError())
+            return
+        error = task.exception()
+        if error is None:
+            self.end(words.FINISH, task.result(), None)
         else:
-            error = task.exception()
-            ended = (words.FINISH, task.result(), None) if error is None else (end_of(error), None, error)
-        self._turns.turn(self._turns.end, self._run, *ended, None)
+            self.end(end_of(error), None, error)
 
-    def _forget(self) -> None:
-        of_loop = self._turns.loops.get(self._loop)
-        if of_loop is not None:
-            of_loop.pop(self, None)
-            if not of_loop:
-                self._turns.loops.pop(self._loop, None)
+    def end(self, operation: int, value: Any, error: Optional[BaseException]) -> None:
+        """Tells how the run ended, unless it was told."""
+        self._turns.turn(self._end, operation, value, error)
+        forget(self._turns, self._loop, self)
 
-    def abandon(self) -> None:
-        """Ends the run of a loop that was closed, so that its permit is free."""
-        self._forget()
-        error = RuntimeError("the event loop was closed")
-        self._turns.turn(self._turns.end, self._run, words.FAIL_BAD_REQUEST, None, error, None)
+    def _end(self, operation: int, value: Any, error: Optional[BaseException]) -> None:
+        if self._run.task is self:
+            self._turns.end(self._run, operation, value, error, None)
+
+    def sweep(self) -> None:
+        """Ends the run of a loop that does not run: where the loop was closed, or an interrupt kept the end from it."""
+        if self._loop.is_closed():
+            self.end(words.FAIL_BAD_REQUEST, None, RuntimeError("the event loop was closed"))
+        elif self.task is not None and self.task.done():
+            self._done(self.task)
 
 
 def sweep(turns: Core) -> None:
-    """Ends the runs of loops that were closed."""
-    for loop, carried in [*turns.loops.items()]:
-        if loop.is_closed():
-            for one in [*carried]:
-                one.abandon()
+    """Brings to its end what loops that do not run have left behind."""
+    for loop, of_loop in [*turns.loops.items()]:
+        if not loop.is_running():
+            for one in [*of_loop]:
+                one.sweep()
+            if not of_loop:
+                turns.loops.pop(loop, None)
+
+
+def forget(turns: Core, loop: asyncio.AbstractEventLoop, one: Union[Awaiter, Carried]) -> None:
+    """Nothing of it is left to be done."""
+    of_loop = turns.loops.get(loop)
+    if of_loop is not None:
+        of_loop.pop(one, None)
+        if not of_loop:
+            turns.loops.pop(loop, None)
 
 
 def _is_own(run: Run) -> bool:
@@ -115,9 +148,7 @@ def _is_own(run: Run) -> bool:
 
 async def execute(
     turns: Core,
-    group: Group,
-    command: int,
-    call: Call,
+    run: Run,
     context: Optional[RequestContext],
     key: Optional[tuple[type, object]],
     leave: Callable[[Holder, BaseException], None],
@@ -128,46 +159,38 @@ async def execute(
     loop = asyncio.get_running_loop()
     holder = Awaiter(turns, loop)
     try:
-        turns.turn(turns.submit, group, command, call, holder, context, key)
-        run = holder.run
-        if run is None:
+        turns.loops.setdefault(loop, {})[holder] = None
+        turns.turn(turns.submit, run, holder, context, key)
+        if holder.run is None:
             return holder.answer()
-        if holder.is_inline:
-            carried = Carried(turns, run, loop)
-            run.task = carried
-            carried.start()
+        run = holder.run
+        if holder.runs_it:
+            run.task = carried = Carried(turns, run, loop)
+            carried.start(holder)
         elif holder.outcome == UNTOLD and _is_own(run):
-            raise Reentered(f"{call.spelled}: the run would wait for itself")
+            raise Reentered(f"{run.place.spelled}: the run would wait for itself")
         await holder.wait()
         if holder.outcome == words.RUN_FALLBACK:
             operation, value = await _fall_back(run)
             turns.turn(turns.end_fallback, run, operation, value, holder)
             await holder.wait()
     except BaseException as error:
+        carried = run.task
         leave(holder, error)
-        _cancel_unless_wanted(holder)
+        if carried is not None:
+            carried.cancel_unless_wanted()
         raise
+    finally:
+        forget(turns, loop, holder)
     return holder.answer()
 
 
 async def _fall_back(run: Run) -> tuple[int, Any]:
     """Runs the fallback, which may be a coroutine function."""
-    call = run.call
-    if call.fallback is None:
-        return words.FALLBACK_MISSING, None
+    operation, value = run.fall_back()
+    if operation != words.FALLBACK_SUCCESS or not inspect.isawaitable(value):
+        return operation, value
     try:
-        value = call.fallback(*call.arguments, **call.named, cause=run.error_due())
-        if inspect.isawaitable(value):
-            value = await value
+        return operation, await value
     except Exception:
         return words.FALLBACK_FAILURE, None
-    return words.FALLBACK_SUCCESS, value
-
-
-def _cancel_unless_wanted(holder: Holder) -> None:
-    """Cancels the task of a run that nobody waits for any more."""
-    run = holder.run
-    if run is None or run.task is None or run.state == ANSWERED:
-        return
-    if all(other.is_gone() for other in run.waiting):
-        run.task.tell(False)

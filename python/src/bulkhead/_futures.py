@@ -2,7 +2,7 @@
 
 from __future__ import annotations
 
-from concurrent.futures import Future
+from concurrent.futures import Future, InvalidStateError
 from typing import TYPE_CHECKING, Any
 
 from . import _words as words
@@ -37,17 +37,15 @@ class FutureHolder(Holder):
     def resolve(self) -> None:
         """Hands the answer to the future. May be called again where it was interrupted."""
         future = self.future
-        if future.cancelled():
-            if not self._has_notified:
+        try:
+            if self.outcome in (words.VALUE, words.FALLBACK_VALUE):
+                future.set_result(self.value)
+            else:
+                future.set_exception(self.exception())
+        except InvalidStateError:  # it was cancelled, or has its answer
+            if future.cancelled() and not self._has_notified:
                 self._has_notified = True
                 future.set_running_or_notify_cancel()
-            return
-        if future.done() or not (future.running() or future.set_running_or_notify_cancel()):
-            return
-        if self.outcome in (words.VALUE, words.FALLBACK_VALUE):
-            future.set_result(self.value)
-        else:
-            future.set_exception(self.exception())
 
     def _fall_back(self) -> None:
         """Runs the fallback in the variables of the ticket's first caller; that turn tells the future again."""

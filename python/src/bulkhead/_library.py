@@ -36,6 +36,10 @@ REPLY_SIZE = METRICS_AT + METRICS.size
 KIND_AT = 0 if sys.byteorder == "little" else 3
 
 
+# a place for the answer to a line, and for its length
+Answer, Length = c_uint8 * ANSWER_ROOM, c_size_t
+
+
 class Held(ctypes.Structure):
     """What a program holds of a service."""
 

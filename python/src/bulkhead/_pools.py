@@ -4,11 +4,11 @@ from __future__ import annotations
 
 import threading
 from collections.abc import Callable
-from contextlib import suppress
 from typing import TYPE_CHECKING, Any, Optional
 
 from . import _library, _words as words
-from ._runs import Caller, Group, Run
+from ._groups import Group
+from ._runs import Caller, Run
 
 if TYPE_CHECKING:
     from ._core import Core
@@ -26,14 +26,18 @@ class Worker:
         self._turns, self._group = turns, group
         self._wake, self._claim = threading.Lock(), threading.Lock()
         self._wake.acquire()
+        # whether the group does not count it yet
+        self.is_new = True
         self._is_idle = self._is_over = False
         self._given: Optional[Run] = None
 
     def tell(self, by_timer: bool) -> None:
         """Wakes its thread, or starts it. One that cannot be started leaves its work to the others."""
         if self._claim.locked():
-            with suppress(RuntimeError):  # awake already
+            try:
                 self._wake.release()
+            except RuntimeError:
+                pass  # awake already
             return
         thread = threading.Thread(target=self._work, name=f"bulkhead-{self._group.name}-worker", daemon=True)
         try:
@@ -46,58 +50,53 @@ class Worker:
             return  # it was told twice, and another thread is at it
         turns = self._turns
         ended: Optional[tuple[Run, End]] = None
-        run: Optional[Run] = None
         while not self._is_over:
-            if run is None:
-                run = turns.turn(self._next, ended)
+            run: Optional[Run] = turns.turn(self._next, ended)
             ended = None
+            if run is None and self._is_idle:
+                self._wake.acquire()
+                run, self._given = self._given, None
             if run is not None:
                 run.thread = threading.get_ident()
                 ended = run, _run(run)
-                run = None
-            elif self._is_idle:
-                self._wake.acquire()
-                run = self._take()
-
-    def _take(self) -> Optional[Run]:
-        """The run that it was given, if it was."""
-        run, self._given = self._given, None
-        return run
 
     def go_on(self, turns: Core) -> None:
         """Asks for a run while the worker sleeps, in the turn of a submit, which spares it a turn of its own."""
-        if self._given is None and self._group.queued and not self._group.over:
-            turns.step(self._started, (), self._group, words.START)
+        group = self._group
+        if self._given is None and group.queued and not group.over:
+            turns.step(self._started, (), group, words.START)
         turns.work_done()
 
     def _next(self, ended: Optional[tuple[Run, End]]) -> Optional[Run]:
         """Tells how a run ended, and asks for the next one."""
-        turns, group = self._turns, self._group
+        turns, group, told = self._turns, self._group, self._turns.told
+        if self._is_idle and self in group.idle:
+            group.idle.remove(self)  # it was woken for nothing
         self._is_idle = False
         if ended is not None:
             run, (operation, value, error) = ended
             turns.end(run, operation, value, error, None)
             turns.settle()
-            told = turns.told
-            if told and not (type(told[0]) is Caller if len(told) == 1 else turns.tells_only(Caller)):
+            if told and not (type(told[0]) is Caller and len(told) == 1 or turns.tells_only(Caller)):
                 return None  # callbacks of futures come before the next run
-        if group.over or not turns.is_open:
+        if group.over:
             self._is_over = True
             return None
         if group.queued and self._given is None:
             turns.step(self._started, (), group, words.START)
-        if self._given is None:
+        given = self._given
+        if given is None:
             self._is_idle = True
-            if self not in group.idle:
-                group.idle += (self,)
-        return self._take()
+            group.idle += (self,)
+        self._given = None
+        return given
 
     def _started(self) -> None:
         turns, group = self._turns, self._group
         kind, _, _, _, ticket, _ = _unpack_reply(turns.reply)
         if kind == words.ASSIGNED:
             run = group.runs[ticket]
-            self._given, run.is_queued, run.started, group.queued = run, False, turns.moment, group.queued - 1
+            self._given, run.is_queued, run.started, group.queued = run, False, group.latest, group.queued - 1
         elif kind == words.WORN:
             turns.is_over(group, kind)
         turns.unit = None
@@ -109,7 +108,7 @@ def _run(run: Run) -> End:
     if waiting and waiting[0].is_gone() and not run.is_cached and all([holder.is_gone() for holder in waiting]):
         return words.FAIL_BAD_REQUEST, None, None
     assert run.variables is not None, "a run of a worker"
-    ended: End = run.variables.run(run.call.run)
+    ended: End = run.variables.run(run.perform)
     return ended
 
 

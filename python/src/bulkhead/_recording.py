@@ -12,8 +12,8 @@ from .errors import Error
 from .steps import metrics_in
 
 if TYPE_CHECKING:
-    from ._runs import Group
     from ._core import Core
+    from ._groups import Group
 
 _unpack_step, _unpack_reply = _library.STEP.unpack_from, _library.REPLY.unpack_from
 _KEY_AT, _COMMAND_AT = _library.KEY_AT, _library.COMMAND_AT

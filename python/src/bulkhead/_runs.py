@@ -1,22 +1,20 @@
-"""What stays in Python of a ticket, and those who have to collect its answer."""
+"""Calls, and those who have to collect their answers."""
 
 from __future__ import annotations
 
 import copy
 import threading
-from collections import deque
 from collections.abc import Callable
 from contextlib import suppress
 from contextvars import Context as Variables
+from math import inf
 from typing import TYPE_CHECKING, Any, Optional
 
 from . import _words as words
+from ._groups import Place
 from .errors import BadRequest, CommandError, GroupFull, Interrupted, NoSuchGroup, Stopped, Worn, error_of
-from .metrics import Counters
-from .settings import CommandSettings, GroupSettings
 
 if TYPE_CHECKING:
-    from ._pools import Worker
     from ._core import Core
 
 # states of a ticket, as far as Python has to know them
@@ -31,37 +29,62 @@ UNTOLD, STOPPED, RETIRED = 0, -1, -2
 STILL_OPEN = frozenset((UNTOLD, words.PENDING, words.RUN_FALLBACK))
 
 
-class Call:
-    """A function with its fallback and the arguments of one call."""
+class Body:
+    """A function with its fallback, as a command of a group has them."""
 
-    __slots__ = ("arguments", "fallback", "function", "named", "spelled")
+    __slots__ = ("fallback", "function", "group", "place")
 
-    def __init__(
-        self,
-        spelled: str,
-        function: Callable[..., Any],
-        fallback: Optional[Callable[..., Any]],
-        arguments: tuple[Any, ...],
-        named: dict[str, Any],
-    ) -> None:
-        self.spelled, self.function, self.fallback = spelled, function, fallback
-        self.arguments, self.named = arguments, named
+    def __init__(self, place: Place, function: Callable[..., Any], fallback: Optional[Callable[..., Any]]) -> None:
+        self.place, self.group = place, place.group
+        self.function, self.fallback = function, fallback
 
-    def run(self) -> tuple[int, Any, Optional[BaseException]]:
+
+class Run:
+    """A call and, from its submit until nobody needs it, what Python keeps of its ticket.
+
+    Its arguments and values never cross to the core.
+    """
+
+    # what a run begins with stands in the class, so that to make one is short
+    ticket = started = cause = 0
+    state, due, holders = LIVE, inf, 1
+    is_cached = is_queued = is_unowned = False
+    waiting = NOBODY
+    value: Any = None
+    error: Optional[BaseException] = None
+    variables: Optional[Variables] = None
+    # the thread, or the task of a loop, that runs the function or the fallback
+    thread: Optional[int] = None
+    task: Any = None
+
+    def __init__(self, body: Body, arguments: tuple[Any, ...], named: dict[str, Any]) -> None:
+        self.body, self.arguments, self.named = body, arguments, named
+        self.place, self.group = body.place, body.group
+
+    def perform(self) -> tuple[int, Any, Optional[BaseException]]:
         """Runs the function: the operation that tells how it ended, its value and its exception."""
         try:
-            return words.FINISH, self.function(*self.arguments, **self.named), None
+            return words.FINISH, self.body.function(*self.arguments, **self.named), None
         except BaseException as error:
             return end_of(error), None, error
 
-    def fall_back(self, cause: CommandError) -> tuple[int, Any]:
+    def fall_back(self) -> tuple[int, Any]:
         """Runs the fallback, if there is one. A BaseException that is no Exception passes through."""
-        if self.fallback is None:
+        fallback = self.body.fallback
+        if fallback is None:
             return words.FALLBACK_MISSING, None
         try:
-            return words.FALLBACK_SUCCESS, self.fallback(*self.arguments, **self.named, cause=cause)
+            return words.FALLBACK_SUCCESS, fallback(*self.arguments, **self.named, cause=self.error_due())
         except Exception:
             return words.FALLBACK_FAILURE, None
+
+    def go_on(self, turns: Core) -> None:
+        """Makes the next step that a holder's answer wants."""
+        turns.collect(self)
+
+    def error_due(self) -> CommandError:
+        """Why the fallback is due, as a new exception."""
+        return error_of(self.place.spelled, self.cause, None, self.error)
 
 
 def end_of(error: BaseException) -> int:
@@ -70,45 +93,22 @@ def end_of(error: BaseException) -> int:
     return words.FAIL_BAD_REQUEST if says_nothing else words.FAIL
 
 
-class Run:
-    """What stays in Python of a ticket, from its submit until nobody needs it. Its values never cross to the core."""
-
-    # what a run begins with stands in the class, so that to make one is short
-    holders = 1
-    due = cause = 0
-    is_cached = is_queued = is_unowned = False
-    value: Any = None
-    error: Optional[BaseException] = None
-    variables: Optional[Variables] = None
-    # the thread, or the task of a loop, that runs the function or the fallback
-    thread: Optional[int] = None
-    task: Any = None
-
-    def __init__(
-        self, group: Group, command: int, ticket: int, call: Call, state: int, started: int, waiting: list[Holder]
-    ) -> None:
-        self.group, self.command, self.ticket, self.call = group, command, ticket, call
-        self.state, self.started, self.waiting = state, started, waiting
-
-    def go_on(self, turns: Core) -> None:
-        """Makes the next step that a holder's answer wants."""
-        turns.collect(self)
-
-    def error_due(self) -> CommandError:
-        """Why the fallback is due, as a new exception."""
-        return error_of(self.call.spelled, self.cause, None, self.error)
-
-
 class Holder:
     """One who has to collect the answer of a ticket. What it was told stands in `outcome` and the fields behind it."""
 
     # whether it waits from the submit on, also where the run is not a worker's
     awaits = False
+    # whether it is let go on by `tell` once it is told
+    is_told = True
     # what it begins with stands in the class, so that to make one is short
     run: Optional[Run] = None
     outcome = UNTOLD
     cause = fallback = 0
-    runs_it = has_left = is_inline = False
+    # of which command, where it has no run
+    spelled = ""
+    # whether it owes the run: it has to run the function, or to start the task that does
+    runs_it = False
+    has_left = False
     value: Any = None
     error: Optional[BaseException] = None
 
@@ -135,7 +135,7 @@ class Holder:
     def exception(self) -> BaseException:
         """A new exception for what it was told, which no other holder gets."""
         run, error = self.run, self.error
-        spelled = run.call.spelled if run else "the command"
+        spelled = run.place.spelled if run else self.spelled
         if self.outcome == words.ERROR:
             return error_of(spelled, self.cause, self.fallback, error)
         if self.outcome == words.BAD_REQUEST:
@@ -167,13 +167,14 @@ def _interrupted(spelled: str, error: Optional[BaseException]) -> Interrupted:
 class Caller(Holder):
     """A thread that waits."""
 
+    is_told = False
     _wake: Optional[threading.Lock] = None
 
     def wait_ready(self) -> None:
         if self._wake is None:
             wake = threading.Lock()
             wake.acquire()
-            self._wake = wake
+            self._wake, self.is_told = wake, True
 
     def wait(self) -> None:
         """Waits until it is told."""
@@ -182,58 +183,7 @@ class Caller(Holder):
 
     def tell(self, by_timer: bool) -> None:
         if self._wake is not None:
-            with suppress(RuntimeError):  # released already
+            try:
                 self._wake.release()
-
-
-class Circuit:
-    """The state of a command's circuit breaker as the replies tell it: what `read` would say, without a step."""
-
-    __slots__ = ("state", "test")
-
-    def __init__(self) -> None:
-        self.state, self.test = 0, 0
-
-    def submitted(self, kind: int, cause: int, ticket: int) -> tuple[int, int]:
-        """State and test call after a submit that made a ticket."""
-        if kind == words.FALLBACK_DUE and cause == words.SHORT_CIRCUITED:
-            return (1, 0) if self.state == 0 else (self.state, self.test)
-        if self.state == 0:
-            return 0, 0
-        return (1, 0) if kind == words.FALLBACK_DUE else (2, ticket)
-
-    def ended(self, ticket: int, is_success: bool) -> tuple[int, int]:
-        """State and test call after the end of a run."""
-        if self.state != 2 or ticket != self.test:
-            return self.state, self.test
-        return (0 if is_success else 1), 0
-
-
-class Group:
-    """What Python knows of a group."""
-
-    def __init__(self, number: int, settings: GroupSettings, name: str) -> None:
-        self.number, self.name, self.settings, self.core_size = number, name, settings, settings.core_size
-        self.commands: tuple[CommandSettings, ...] = settings.commands
-        self.like = settings.name
-        self.runs: dict[int, Run] = {}
-        self.due: tuple[deque[Run], ...] = tuple(deque() for _ in self.commands)
-        self.circuits = tuple(Circuit() for _ in self.commands)
-        self.counters = tuple(Counters() for _ in self.commands)
-        self.latest = self.queued = self.threads = 0
-        self.idle: list[Worker] = []
-        self.workers: list[Worker] = []
-        # why no step is handed in any more: 0, STOPPED, RETIRED or WORN
-        self.over = 0
-
-    def command_names(self) -> list[str]:
-        """The names of the commands by their numbers: the own one goes by the name of the group."""
-        return [self.name, *(command.name for command in self.commands[1:])]
-
-    def spelled(self, command: int) -> str:
-        """The name of a command that no other command of the service has."""
-        if command == 0:
-            return self.name
-        own = self.commands[command].name
-        return own if self.name == self.like else f"{self.name}/{own}"
-
+            except RuntimeError:
+                pass  # released already

@@ -6,14 +6,18 @@ from contextvars import copy_context
 from typing import TYPE_CHECKING, Optional
 
 from . import _library, _words as words
+from ._groups import Group
 from ._pools import Worker
-from ._runs import ANSWERED, FALLBACK_DUE, LIVE, NOBODY, STOPPED, Call, Group, Holder, Run
+from ._runs import ANSWERED, FALLBACK_DUE, NOBODY, Holder, Run
 from ._turns import Turns
 
 if TYPE_CHECKING:
     from .contexts import RequestContext
 
 _unpack_reply = _library.REPLY.unpack_from
+_KEY_AT, _COMMAND_AT = _library.KEY_AT, _library.COMMAND_AT
+# the replies to a submit that made a ticket
+_PLACED = (words.INLINE, words.QUEUED, words.FALLBACK_DUE)
 
 
 class Submits(Turns):
@@ -21,44 +25,89 @@ class Submits(Turns):
 
     def submit(
         self,
-        group: Group,
-        command: int,
-        call: Call,
+        run: Run,
         holder: Holder,
         context: Optional[RequestContext] = None,
         key: Optional[tuple[type, object]] = None,
     ) -> None:
-        """Submits a call for a holder."""
-        if group.over or not self.is_open:
-            holder.outcome = group.over or STOPPED
+        """Submits a call for a holder, who gets the ticket of this run or that of another one."""
+        group, place = run.group, run.place
+        if group.over:
+            holder.outcome, holder.spelled = group.over, place.spelled
             return
-        data = group, command, call, holder, context
-        if context is not None and key is not None and context.is_open and group.commands[command].is_cached:
+        self.given[_COMMAND_AT] = place.number
+        if context is not None and key is not None and context.is_open and place.settings.is_cached:
             name = context.name_of(key)
-            context.groups[group] = None
-            self.step(self._submitted, data, group, words.SUBMIT_SHARED, 0, context.number, name, command)
+            self.given[_KEY_AT : _KEY_AT + len(name)] = name
+            context.groups[group], run.is_cached = None, True
+            self.step(self._submitted, (run, holder, context), group, words.SUBMIT_SHARED, 0, context.number, len(name))
         else:
-            self.step(self._submitted, (*data[:4], None), group, words.SUBMIT, 0, 0, b"", command)
+            self.step(self._submitted, (run, holder, None), group, words.SUBMIT)
 
-    def _submitted(
-        self, group: Group, command: int, call: Call, holder: Holder, context: Optional[RequestContext]
-    ) -> None:
+    def _submitted(self, run: Run, holder: Holder, context: Optional[RequestContext]) -> None:
+        """Takes over the reply to a submit, mostly a new ticket."""
         kind, cause, _, _, ticket, _ = _unpack_reply(self.reply)
-        if kind == words.INLINE or kind == words.QUEUED or kind == words.FALLBACK_DUE:
-            self._placed(group, command, call, holder, context, kind, cause, ticket)
-        elif kind == words.JOINED:
-            self._joined(group.runs[ticket], holder)
-        elif kind == words.GROUP_FULL:
-            group.counters[command].rejections["group-full"] += 1
-            holder.outcome = kind
-            self.unit = None
+        if kind not in _PLACED:
+            self._not_placed(run, holder, kind, ticket)
+            return
+        group, place, changes, woken, waiting = run.group, run.place, None, None, NOBODY
+        if place.circuit.state or kind == words.FALLBACK_DUE:
+            changes = self.circuit_changes(place, place.circuit.submitted(kind, cause, ticket))
+        if kind != words.INLINE or holder.awaits:
+            woken, waiting = self._waits(run, holder, kind)
+        # from here on nothing is called
+        run.ticket, run.waiting, run.started = ticket, waiting, group.latest
+        holder.run, holder.runs_it = run, kind == words.INLINE
+        group.runs[ticket] = run
+        if context is not None:
+            context.runs += (run,)
+        if changes:
+            place.circuit.state, place.circuit.test, told_of = changes
+            self.told += told_of
+        if kind == words.FALLBACK_DUE:
+            run.state = FALLBACK_DUE
+            place.counters.rejections[words.CAUSES[cause - 1]] += 1
+            self.todo += (run,)
         else:
-            self.is_over(group, kind)
-            holder.outcome = kind
-            self.unit = None
+            run.due = group.latest + place.limit
+            if run.due < self.alarm_at and self.alarm is not None:
+                self.alarm_at = run.due
+                self.told += (self.alarm,)
+        if kind == words.QUEUED:
+            run.is_queued, group.queued = True, group.queued + 1
+        if woken is not None:
+            self.told += (woken,)
+            if woken.is_new:
+                group.threads, group.workers, woken.is_new = group.threads + 1, [*group.workers, woken], False
+            else:
+                del group.idle[-1]
+                self.todo += (woken,)
+        self.unit = None
+
+    def _waits(self, run: Run, holder: Holder, kind: int) -> tuple[Optional[Worker], list[Holder]]:
+        """What a ticket wants that its holder waits for: who is to be told of it, and who waits."""
+        holder.wait_ready()
+        if kind != words.INLINE:
+            run.variables = copy_context()
+        return (self._free_worker(run.group) if kind == words.QUEUED else None), [holder]
+
+    def _not_placed(self, run: Run, holder: Holder, kind: int, ticket: int) -> None:
+        """Takes over that a holder shares the answer of another ticket, or gets none."""
+        if kind == words.JOINED:
+            self._joined(run.group.runs[ticket], holder)
+            return
+        rejections, is_full = run.place.counters.rejections, kind == words.GROUP_FULL
+        if not is_full:
+            self.is_over(run.group, kind)
+        # from here on nothing is called
+        rejections["group-full"] += is_full
+        holder.outcome, holder.spelled = kind, run.place.spelled
+        self.unit = None
 
     def _joined(self, run: Run, holder: Holder) -> None:
+        """Takes over that a holder shares the answer of a ticket."""
         holder.wait_ready()
+        # from here on nothing is called
         holder.run = run
         run.holders += 1
         run.waiting = [*run.waiting, holder]
@@ -66,77 +115,13 @@ class Submits(Turns):
             self.todo += (run,)
         self.unit = None
 
-    def _placed(
-        self,
-        group: Group,
-        command: int,
-        call: Call,
-        holder: Holder,
-        context: Optional[RequestContext],
-        kind: int,
-        cause: int,
-        ticket: int,
-    ) -> None:
-        """Takes over a new ticket."""
-        is_due, is_inline = kind == words.FALLBACK_DUE, kind == words.INLINE
-        waits = not is_inline or holder.awaits
-        run = Run(
-            group, command, ticket, call, FALLBACK_DUE if is_due else LIVE, self.moment, [holder] if waits else NOBODY
-        )
-        circuit, changes = group.circuits[command], None
-        if circuit.state or is_due:
-            changes = self.circuit_changes(group, command, circuit.submitted(kind, cause, ticket))
-        woken: tuple[Worker, ...] = ()
-        late, due = group.commands[command].timeout_ms, group.due[command]
-        if late is not None and not is_due:
-            late = run.due = self.moment + late
-            while due and due[0].state:  # no LIVE one
-                due.popleft()
-        if not is_inline:
-            run.variables = copy_context()
-            if not is_due:
-                run.is_queued, woken = True, self._free_worker(group)
-        if waits:
-            holder.wait_ready()
-        if context is not None:
-            run.is_cached = True
-        told = self.told
-        # from here on nothing is called
-        holder.run, holder.runs_it, holder.is_inline = run, not waits, is_inline
-        group.runs[ticket] = run
-        if context is not None:
-            context.runs += (run,)
-        if changes:
-            _, state, test, told_of = changes
-            circuit.state, circuit.test = state, test
-            told += told_of
-        if is_due:
-            group.counters[command].rejections[words.CAUSES[cause - 1]] += 1
-            self.todo += (run,)
-        elif late is not None:
-            due += (run,)
-            if self.alarm is not None and (self.alarm_at is None or late < self.alarm_at):
-                self.alarm_at = late
-                told += (self.alarm,)
-        if run.is_queued:
-            group.queued += 1
-            if woken:
-                told += woken
-                if group.idle and group.idle[-1] is woken[0]:
-                    del group.idle[-1]
-                    self.todo += woken
-                else:
-                    group.threads += 1
-                    group.workers += woken
-        self.unit = None
-
     def hire(self, group: Group) -> None:
         """The first worker of a group, where it has none yet."""
-        if group.threads or group.over or not self.is_open:
+        if group.threads or group.over:
             return
-        worker, told = self.new_worker(group), self.told
-        group.threads, group.workers = 1, [worker]
-        told += (worker,)
+        worker = self.new_worker(group)
+        group.threads, group.workers, worker.is_new = 1, [worker], False
+        self.told += (worker,)
 
     def dismiss(self, worker: Worker, group: Group) -> None:
         """A worker whose thread could not be started is none."""
@@ -144,11 +129,11 @@ class Submits(Turns):
             group.workers.remove(worker)
             group.threads -= 1
 
-    def _free_worker(self, group: Group) -> tuple[Worker, ...]:
+    def _free_worker(self, group: Group) -> Optional[Worker]:
         """A worker that sleeps, or a new one where there may be more."""
         if group.idle:
-            return (group.idle[-1],)
-        return (self.new_worker(group),) if group.threads < group.core_size else ()
+            return group.idle[-1]
+        return self.new_worker(group) if group.threads < group.core_size else None
 
     def new_worker(self, group: Group) -> Worker:
         """A worker of the group, whose thread starts when it is told."""

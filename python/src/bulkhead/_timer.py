@@ -4,7 +4,7 @@ from __future__ import annotations
 
 import threading
 from contextlib import suppress
-from typing import TYPE_CHECKING, Optional
+from typing import TYPE_CHECKING
 
 from .errors import Stopped
 
@@ -36,13 +36,12 @@ class Timer:
         turns = self._turns
         while turns.is_open:
             ahead = turns.turn(self._ahead, by_timer=True)
-            if ahead is None or ahead > 0:
-                self._wake.acquire(timeout=_LONGEST if ahead is None else min(ahead / 1000, _LONGEST))
+            if ahead > 0:
+                self._wake.acquire(timeout=min(ahead / 1000, _LONGEST))
             else:
                 with suppress(Stopped):
                     turns.turn(turns.expire_all, by_timer=True)
 
-    def _ahead(self) -> Optional[int]:
+    def _ahead(self) -> float:
         """In how many milliseconds something is due first."""
-        first = self._turns.next_due()
-        return None if first is None else first - self._turns.now()
+        return self._turns.next_due() - self._turns.now()

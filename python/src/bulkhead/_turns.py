@@ -9,11 +9,15 @@ from __future__ import annotations
 
 import threading
 from collections.abc import Callable
+from functools import partial
+from math import inf
+from time import monotonic_ns as _monotonic_ns
 from typing import TYPE_CHECKING, Any, Optional, Protocol
 
-from . import _library, _words as words
+from . import _library
+from ._groups import Group, Place
 from ._recording import Act
-from ._runs import Group, Holder, Run
+from ._runs import Run
 from ._transitions import Transition
 from .errors import BadStep, Reentered, Stopped
 
@@ -24,7 +28,9 @@ if TYPE_CHECKING:
 # how often something is begun again that an exception of a signal handler broke off
 _AGAIN = range(100)
 _pack_step = _library.STEP.pack_into
-_KIND_AT, _KEY_AT, _COMMAND_AT = _library.KIND_AT, _library.KEY_AT, _library.COMMAND_AT
+_KIND_AT = _library.KIND_AT
+# the kind while a group is registered or retired, which no reply has
+_ACT = 255
 
 
 class Told(Protocol):
@@ -43,34 +49,47 @@ class Work(Protocol):
 _NOBODY: list[Told] = []
 
 
+def _tell_each(told: list[Told], by_timer: bool) -> None:
+    """Lets those who were told go on. A loop of its own: where one ends a `try`, some versions of Python leave it out."""
+    while told:
+        told[-1].tell(by_timer)
+        del told[-1]
+
+
 class Turns:
     """The lock, the steps, and what is kept of each ticket."""
 
-    def __init__(self, opened: StepService, clock: Callable[[], int]) -> None:
+    def __init__(self, opened: StepService, clock: Optional[Callable[[], int]]) -> None:
         self._lock = threading.RLock()
-        self._opened, self._clock = opened, clock
-        self._make, self._places = _library.make_step, opened.places
-        self._given, self.reply = opened.given, opened.told
+        self._opened = opened
+        # the clock of a test, if it has one of its own
+        self._clock = clock
+        # a step as the library reads it, its reply, and the call that makes the one of the other
+        self.given, self.reply = opened.given, opened.told
+        self._make = partial(_library.make_step, *opened.places)
+        # the line of a registration or a retirement, and its answer
+        self._line, self._answer, self._length = b"", _library.Answer(), _library.Length()
         # who is let go on after the turn that goes on, if one does
         self.told: list[Told] = _NOBODY
         self.unit: Optional[tuple[Callable[..., None], tuple[Any, ...]]] = None
         self.todo: list[Work] = []
         self._is_noted = True
         self.kind_at = _KIND_AT
-        self.is_open, self.has_stepped, self.moment = True, False, 0
+        self.is_open, self._has_acted = True, False
+        # the moment of the turn, which its first step reads
+        self._moment: Optional[int] = None
         self.record: Optional[Record] = None
-        # until when the timer sleeps, and how it is woken
-        self.alarm_at: Optional[int] = None
+        # until when the timer sleeps, and how it is woken; where there is none it is never woken
+        self.alarm_at: float = -inf
         self.alarm: Optional[Told] = None
         self.on_transition: Optional[Callable[[str, str, str], object]] = None
-        # those that are there, and those that ever were, by their numbers
-        self.groups: list[Group] = []
+        # those that are there, by their names, and those that ever were, by their numbers
+        self.groups: dict[str, Group] = {}
         self.every_group: list[Group] = []
 
-    def add_group(self, group: Group) -> None:
-        """There is a new group."""
-        self.groups += (group,)
-        self.every_group += (group,)
+    def has_stepped(self) -> bool:
+        """Whether a step was made, or a group came or went."""
+        return self._has_acted or any(group.latest >= 0 for group in self.every_group)
 
     # -- a turn
 
@@ -84,7 +103,7 @@ class Turns:
             with self._lock:
                 if self.told is not _NOBODY:
                     raise Reentered("a command was called in the midst of a turn, as by a finalizer or a signal handler")
-                self.told = told
+                self.told, self._moment = told, None
                 try:
                     result = begin(*arguments)
                     if self.todo:
@@ -100,9 +119,7 @@ class Turns:
                 stopped: Optional[BaseException] = None
                 for _ in _AGAIN:  # a signal handler may raise wherever a call begins or ends, so there is none outside
                     try:
-                        while told:
-                            told[-1].tell(by_timer)
-                            del told[-1]
+                        _tell_each(told, by_timer)
                         break
                     except BaseException as error:
                         stopped = error
@@ -123,7 +140,7 @@ class Turns:
         for _ in _AGAIN:
             try:
                 unit = self.unit
-                if unit is not None and self.reply[_KIND_AT]:
+                if unit is not None and self._is_made():
                     if not self._is_noted:
                         self._note()
                     done, data = unit
@@ -135,6 +152,11 @@ class Turns:
                 continue
         self.todo.clear()
 
+    def _is_made(self) -> bool:
+        """Whether the library has done what the unit is about."""
+        kind = self.reply[_KIND_AT]
+        return self._length.value > 0 if kind == _ACT else kind > 0
+
     def step(
         self,
         done: Callable[..., None],
@@ -143,37 +165,53 @@ class Turns:
         operation: int,
         ticket: int = 0,
         context: int = 0,
-        key: bytes = b"",
-        command: int = 0,
+        key_length: int = 0,
     ) -> None:
-        """Makes a step of a group at the moment of the clock, and hands its reply over to `done`."""
-        if not self.is_open:
-            raise Stopped("the service is closed")
-        moment = self._clock()
-        given, reply = self._given, self.reply
+        """Makes a step of a group that is not over, at the moment of the turn, and hands its reply over to `done`.
+
+        A key and the number of a command stand in `given` before.
+        """
+        moment = self._moment
+        if moment is None:
+            clock = self._clock
+            moment = self._moment = _monotonic_ns() // 1_000_000 if clock is None else clock()
         try:
             if moment < group.latest:
                 moment = group.latest
-            _pack_step(given, 0, group.number, moment, ticket, context, operation, len(key), 0)
+            _pack_step(self.given, 0, group.number, moment, ticket, context, operation, key_length, 0)
         except Exception:
             raise BadStep(f"the clock has to give whole milliseconds from 0 on, and gave {moment!r}") from None
-        if key:
-            given[_KEY_AT : _KEY_AT + len(key)] = key
-        given[_COMMAND_AT] = command
-        reply[_KIND_AT] = 0
-        self.has_stepped, self.moment, group.latest = True, moment, moment
-        self.unit, self._is_noted = (done, data), self.record is None
-        held, step, told = self._places
-        self._make(held, step, told)
-        if not self._is_noted:
+        self.reply[_KIND_AT] = 0
+        group.latest = moment
+        self.unit = done, data
+        if self.record is not None:
+            self._is_noted = False
+        self._make()
+        if self.record is not None:
             self._note()
         done(*data)
 
+    def act(self, done: Callable[..., None], data: tuple[Any, ...], line: bytes) -> None:
+        """Has a line answered that registers or retires a group, and hands over to `done`, which asks for the `answer`."""
+        if not self.is_open:
+            raise Stopped("the service is closed")
+        self._line, self._length.value, self._has_acted = line, 0, True
+        self.reply[_KIND_AT] = _ACT
+        self.unit, self._is_noted = (done, data), self.record is None
+        self._opened.line_into(line, self._answer, self._length)
+        self._note()
+        done(*data)
+
+    def answer(self) -> bytes:
+        """The answer to the line of an act."""
+        return bytes(self._answer[: self._length.value])
+
     def _note(self) -> None:
-        """Keeps the step and its reply for the record, in order."""
+        """Keeps what was done for the record, in order."""
         record = self.record
         if record is not None:
-            entry = record.entry(self._given, self.reply)
+            is_act = self.reply[_KIND_AT] == _ACT
+            entry = Act(self._line, self.answer()) if is_act else record.entry(self.given, self.reply)
             record.pending += (entry,)
         self._is_noted = True
 
@@ -182,12 +220,6 @@ class Turns:
         with self._lock:
             pending, record.pending = record.pending, []
         return pending
-
-    def note_act(self, line: bytes, answer: bytes) -> None:
-        """Keeps a registration or a retirement for the record."""
-        self.has_stepped = True
-        if self.record is not None:
-            self.record.pending += (Act(line, answer),)
 
     # -- who is told
 
@@ -217,12 +249,13 @@ class Turns:
         """Whether all who are let go on after this turn are of a kind."""
         return all(type(one) is kind for one in self.told)
 
-    def circuit_changes(self, group: Group, command: int, after: tuple[int, int]) -> Any:
-        """What changes of a circuit breaker: it, its state and test call afterwards, and who is told of that."""
-        circuit, (state, test) = group.circuits[command], after
-        if not group.commands[command].circuit_moves or (circuit.state, circuit.test) == after:
+    def circuit_changes(self, place: Place, after: tuple[int, int]) -> Any:
+        """What changes of a circuit breaker: its state and test call afterwards, and who is told of that."""
+        circuit = place.circuit
+        if not place.settings.circuit_moves or (circuit.state, circuit.test) == after:
             return None
+        state, test = after
         told: tuple[Told, ...] = ()
         if circuit.state != state and self.on_transition is not None:
-            told = (Transition(self.on_transition, group.spelled(command), circuit.state, state),)
-        return circuit, state, test, told
+            told = (Transition(self.on_transition, place.spelled, circuit.state, state),)
+        return state, test, told

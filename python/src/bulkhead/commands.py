@@ -12,7 +12,8 @@ from typing import TYPE_CHECKING, Any, Generic, Optional, ParamSpec, TypeVar
 
 from . import _coroutines, _words as words
 from ._futures import FutureHolder
-from ._runs import UNTOLD, Call, Caller, Group, Holder
+from ._groups import Place
+from ._runs import UNTOLD, Body, Caller, Holder, Run
 from .contexts import checked_key
 from .errors import BadRequest, Reentered, Refused
 
@@ -32,24 +33,24 @@ class _Declared:
     def __init__(
         self,
         service: CommandService,
-        group: Group,
-        number: int,
+        place: Place,
         function: Callable[..., Any],
         fallback: Optional[Callable[..., Any]],
         key: Optional[Callable[..., Any]],
     ) -> None:
-        self._service, self._group, self._number = service, group, number
-        self._function, self._fallback, self._key = function, fallback, key
+        self._service, self._key = service, key
         self._turns: Core = service.turns
-        self._is_pooled = group.commands[number].is_pooled
-        self._spelled = group.spelled(number)
+        self._submit, self._end = self._turns.submit, self._turns.end
+        self._body = Body(place, function, fallback)
+        self._is_pooled = place.settings.is_pooled
+        # the instance, where it is the command of a method that was bound
         self._bound: tuple[Any, ...] = ()
         functools.update_wrapper(self, function)
 
     @property
     def name(self) -> str:
         """The name of the command, by which its metrics go."""
-        return self._spelled
+        return self._body.place.spelled
 
     def of(self: Self, group: str) -> Self:
         """The same command in a group that was registered like this one's.
@@ -57,11 +58,11 @@ class _Declared:
         Raises `NoSuchGroup` where no group that is there has the name, and `Refused` where it is not like this one's.
         A group that is retired is not found again: ask once more after its name was registered again.
         """
-        of = self._service.group(group)
-        if of.like != self._group.like:
-            raise Refused(f"{group} was not registered like {self._group.like}, which has the command {self._spelled}")
+        of, body = self._service.group(group), self._body
+        if of.like != body.group.like:
+            raise Refused(f"{group} was not registered like {body.group.like}, which has the command {self.name}")
         made = copy.copy(self)
-        made._group, made._spelled = of, of.spelled(self._number)
+        made._body = Body(of.places[body.place.number], body.function, body.fallback)
         return made
 
     def __get__(self: Self, instance: object, owner: Optional[type] = None) -> Self:
@@ -72,17 +73,16 @@ class _Declared:
         made._bound = (instance,)
         return made
 
-    def _call(self, arguments: tuple[Any, ...], named: dict[str, Any]) -> Call:
-        if self._bound:
-            arguments = (*self._bound, *arguments)
-        return Call(self._spelled, self._function, self._fallback, arguments, named)
+    def _run(self, arguments: tuple[Any, ...], named: dict[str, Any]) -> Run:
+        """A call that has not been submitted yet."""
+        return Run(self._body, (*self._bound, *arguments) if self._bound else arguments, named)
 
-    def _named(self, call: Call) -> tuple[Any, Any]:
+    def _named(self, run: Run) -> tuple[Any, Any]:
         """The request context and the key of a call, if it has both."""
         context = self._service.current.get()
         if context is None or self._key is None:
             return None, None
-        return context, checked_key(self._key(*call.arguments, **call.named))
+        return context, checked_key(self._key(*run.arguments, **run.named))
 
     def _leave(self, holder: Holder, error: BaseException) -> None:
         """What a holder owes is done, whatever comes in between."""
@@ -105,26 +105,32 @@ class Command(_Declared, Generic[P, R]):
 
     def __call__(self, *args: P.args, **kwargs: P.kwargs) -> R:
         """Executes the command: its value, or the fallback's. Raises a `CommandError` where there is neither."""
-        turns, group = self._turns, self._group
-        call = Call(self._spelled, self._function, self._fallback, (*self._bound, *args), kwargs)
-        context, key = (None, None) if self._key is None else self._named(call)
-        if self._is_pooled and not group.threads:
+        turns, body = self._turns, self._body
+        arguments: tuple[Any, ...] = args
+        if self._bound:
+            arguments = (*self._bound, *args)
+        run = Run(body, arguments, kwargs)
+        context, key = (None, None) if self._key is None else self._named(run)
+        if self._is_pooled and not body.group.threads:
             self._hire()
         holder = Caller()
         try:
-            turns.turn(turns.submit, group, self._number, call, holder, context, key)
-            run = holder.run
-            if holder.runs_it and run is not None:
-                run.thread = get_ident()
-                operation, value, holder.error = call.run()
-                turns.turn(turns.end, run, operation, value, holder.error, holder)
+            turns.turn(self._submit, run, holder, context, key)
+            if holder.runs_it:
+                if run.is_cached:
+                    run.thread = get_ident()
+                operation, value, holder.error = run.perform()
+                turns.turn(self._end, run, operation, value, holder.error, holder)
                 if operation != words.FINISH:
                     _raise_own(holder, operation)
-                holder.wait()
+                if holder.is_told:
+                    holder.wait()
             elif holder.outcome == UNTOLD:
-                self._refuse_own(holder)
+                if holder.run is not run:
+                    self._refuse_own(holder)
                 holder.wait()
-            if holder.outcome == words.RUN_FALLBACK and run is not None:
+            if holder.outcome == words.RUN_FALLBACK and holder.run is not None:
+                run = holder.run
                 operation, value = turns.run_fallback(run)
                 turns.turn(turns.end_fallback, run, operation, value, holder)
         except BaseException as error:
@@ -136,17 +142,17 @@ class Command(_Declared, Generic[P, R]):
     def queue(self, *args: P.args, **kwargs: P.kwargs) -> Future[R]:
         """Queues the command, which has to run under THREAD: a future of what a call would give or raise."""
         if not self._is_pooled:
-            raise Refused(f"{self._spelled} runs under SEMAPHORE: to queue it, it has to run under THREAD")
-        turns, call = self._turns, self._call(args, kwargs)
-        context, key = self._named(call)
-        if not self._group.threads:
+            raise Refused(f"{self.name} runs under SEMAPHORE: to queue it, it has to run under THREAD")
+        turns, run = self._turns, self._run(args, kwargs)
+        context, key = (None, None) if self._key is None else self._named(run)
+        if not run.group.threads:
             self._hire()
         holder = FutureHolder(turns)
         try:
-            turns.turn(turns.submit, self._group, self._number, call, holder, context, key)
+            turns.turn(self._submit, run, holder, context, key)
             if holder.run is None:
                 holder.resolve()
-            elif holder.outcome == UNTOLD:
+            elif holder.outcome == UNTOLD and holder.run is not run:
                 self._refuse_own(holder)
         except BaseException as error:
             self._leave(holder, error)
@@ -158,14 +164,14 @@ class Command(_Declared, Generic[P, R]):
         return await asyncio.wrap_future(self.queue(*args, **kwargs))
 
     def _refuse_own(self, holder: Holder) -> None:
-        """Raises where the caller would wait for a run of its own thread."""
+        """Raises where the caller, who shares the answer of another call, would wait for a run of its own thread."""
         run = holder.run
         if run is not None and run.thread == get_ident():
-            raise Reentered(f"{self._spelled}: the run would wait for itself")
+            raise Reentered(f"{self.name}: the run would wait for itself")
 
     def _hire(self) -> None:
         """Starts the first worker of the group."""
-        turns, group = self._turns, self._group
+        turns, group = self._turns, self._body.group
         turns.turn(turns.hire, group)
         if not group.threads and not group.over:
             raise RuntimeError(f"no thread could be started for {group.name}")
@@ -188,12 +194,10 @@ class AsyncCommand(_Declared, Generic[P, T]):
 
     async def run(self, *args: P.args, **kwargs: P.kwargs) -> T:
         """The same. At its timeout the caller is answered at once, and the task is cancelled."""
-        call = self._call(args, kwargs)
-        context, key = self._named(call)
-        where = self._turns, self._group, self._number
-        value: T = await _coroutines.execute(*where, call, context, key, self._leave)
+        run = self._run(args, kwargs)
+        value: T = await _coroutines.execute(self._turns, run, *self._named(run), self._leave)
         return value
 
     def queue(self, *args: P.args, **kwargs: P.kwargs) -> Future[T]:
         """Refused: a coroutine function runs in the loop of its caller."""
-        raise Refused(f"{self._spelled} is a coroutine function: await it")
+        raise Refused(f"{self.name} is a coroutine function: await it")

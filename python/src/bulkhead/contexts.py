@@ -10,8 +10,9 @@ from . import _words as words
 from .errors import BadKey, Error
 
 if TYPE_CHECKING:
-    from ._runs import Group, Run
     from ._core import Core
+    from ._groups import Group
+    from ._runs import Run
 
 
 class RequestContext:
@@ -34,16 +35,18 @@ class RequestContext:
     def __exit__(
         self, kind: Optional[type[BaseException]], error: Optional[BaseException], trace: Optional[TracebackType]
     ) -> None:
-        if self._token is not None:
-            self._current.reset(self._token)
         interrupt: Optional[BaseException] = None
-        while self.is_open:
-            try:
-                self._turns.turn(self._close)
-            except Exception:
-                raise
-            except BaseException as stopped:
-                interrupt = stopped
+        try:
+            while self.is_open:
+                try:
+                    self._turns.turn(self._close)
+                except Exception:
+                    raise
+                except BaseException as stopped:
+                    interrupt = stopped
+        finally:
+            if self._token is not None:
+                self._current.reset(self._token)
         if interrupt is not None:
             raise interrupt
 

@@ -2,7 +2,6 @@
 
 from __future__ import annotations
 
-from bisect import bisect_left
 from dataclasses import dataclass, field
 
 # upper bounds of a histogram of run times, in milliseconds
@@ -52,9 +51,3 @@ class Counters:
     rejections: dict[str, int] = field(default_factory=lambda: dict.fromkeys(REJECTIONS, 0))
     buckets: list[int] = field(default_factory=lambda: [0] * (len(RUN_BOUNDS) + 1))
     run_ms: int = 0
-
-    def run_took(self, milliseconds: int) -> None:
-        """Counts a run time."""
-        self.buckets[bisect_left(RUN_BOUNDS, milliseconds)] += 1
-        self.run_ms += milliseconds
-

@@ -7,23 +7,23 @@ from itertools import accumulate
 from typing import Union
 
 from . import _words as words
-from ._runs import Group
+from ._groups import Group, Place
 from .metrics import RUN_BOUNDS, Counters, Metrics
 
 # a sample: what follows on the family's name, its labels and its value
 Sample = tuple[str, dict[str, str], Union[int, float]]
-# the commands: group, number, labels and counters
-Place = tuple[Group, int, dict[str, str], Counters]
+# a command and its labels
+Labelled = tuple[Place, dict[str, str]]
 
 
 def text(metrics: dict[str, Metrics], groups: Iterable[Group]) -> str:
     """The text: what the core told at this moment as gauges, and what was counted since the start as counters."""
     places = [
-        (group, number, {"group": group.name, "command": name}, group.counters[number])
+        (place, {"group": group.name, "command": name})
         for group in groups
-        for number, name in enumerate(group.command_names())
+        for place, name in zip(group.places, group.command_names())
     ]
-    told = [(place, metrics[place[0].spelled(place[1])]) for place in places if place[0].spelled(place[1]) in metrics]
+    told = [(place, labels, metrics[place.spelled]) for place, labels in places if place.spelled in metrics]
     return "".join((*_gauges(told), *_counters(places)))
 
 
@@ -35,14 +35,14 @@ def _family(name: str, kind: str, about: str, samples: Iterable[Sample]) -> str:
     return "".join(lines)
 
 
-def _gauges(told: list[tuple[Place, Metrics]]) -> Iterator[str]:
+def _gauges(told: list[tuple[Place, dict[str, str], Metrics]]) -> Iterator[str]:
     yield _family(
         "bulkhead_circuit_state",
         "gauge",
         "Whether the circuit breaker of the command is in the state.",
         (
             ("", labels | {"state": state}, int(metrics.circuit == state))
-            for (_, _, labels, _), metrics in told
+            for _, labels, metrics in told
             for state in words.CIRCUITS
         ),
     )
@@ -51,14 +51,12 @@ def _gauges(told: list[tuple[Place, Metrics]]) -> Iterator[str]:
         ("bulkhead_queued_calls", "queued", "Calls that wait for a worker."),
         ("bulkhead_health_errors_percent", "percent", "The errors of a hundred runs of the rolling window."),
     ):
-        yield _family(
-            name, "gauge", about, (("", labels, getattr(metrics, field)) for (_, _, labels, _), metrics in told)
-        )
+        yield _family(name, "gauge", about, (("", labels, getattr(metrics, field)) for _, labels, metrics in told))
     yield _family(
         "bulkhead_free_slots",
         "gauge",
         "Slots of the group for further calls.",
-        (("", {"group": group.name}, metrics.free) for (group, number, _, _), metrics in told if number == 0),
+        (("", {"group": place.group.name}, metrics.free) for place, _, metrics in told if place.number == 0),
     )
     yield _family(
         "bulkhead_rolling_events",
@@ -66,13 +64,13 @@ def _gauges(told: list[tuple[Place, Metrics]]) -> Iterator[str]:
         "Events of the rolling window, by kind.",
         (
             ("", labels | {"event": event}, getattr(metrics, event))
-            for (_, _, labels, _), metrics in told
+            for _, labels, metrics in told
             for event in words.EVENTS
         ),
     )
 
 
-def _counters(places: list[Place]) -> Iterator[str]:
+def _counters(places: list[Labelled]) -> Iterator[str]:
     for name, field, label, about in (
         ("bulkhead_runs_total", "runs", "end", "Runs since the start, by how they ended."),
         ("bulkhead_answers_total", "answers", "answer", "Answers since the start, by what they were."),
@@ -84,15 +82,15 @@ def _counters(places: list[Place]) -> Iterator[str]:
             about,
             (
                 ("", labels | {label: word}, number)
-                for _, _, labels, counters in places
-                for word, number in getattr(counters, field).items()
+                for place, labels in places
+                for word, number in getattr(place.counters, field).items()
             ),
         )
     yield _family(
         "bulkhead_run_duration_seconds",
         "histogram",
         "How long runs took.",
-        (sample for _, _, labels, counters in places for sample in _histogram(labels, counters)),
+        (sample for place, labels in places for sample in _histogram(labels, place.counters)),
     )
 
 

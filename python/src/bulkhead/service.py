@@ -4,7 +4,6 @@ from __future__ import annotations
 
 import json
 import os
-import time
 from collections.abc import Callable, Coroutine
 from contextlib import suppress
 from contextvars import ContextVar
@@ -14,13 +13,13 @@ from types import TracebackType
 from typing import Any, Optional, ParamSpec, Protocol, TypeVar, Union, overload
 
 from . import _coroutines, _ends, prometheus, settings as of_settings
-from ._recording import Record
-from ._runs import RETIRED, Group, Run
-from ._timer import Timer
 from ._core import Core
+from ._groups import Group, Place
+from ._recording import Record
+from ._runs import RETIRED, Run
 from .commands import AsyncCommand, Command
 from .contexts import RequestContext
-from .errors import Error, NoSuchCommand, NoSuchGroup, Refused, Stopped, Worn
+from .errors import BadLine, Error, NoSuchCommand, NoSuchGroup, Refused, Stopped, Worn
 from .metrics import Metrics
 from .steps import Service as StepService, metrics_in
 
@@ -65,24 +64,19 @@ class CommandService:
         on_transition: Optional[Callable[[str, str, str], object]] = None,
     ) -> None:
         self._settings, self._opened = settings, StepService(settings)
-        begun = time.monotonic_ns()
-        self._is_of_a_test = clock is not None
-        self.turns = Core(self._opened, clock or (lambda: (time.monotonic_ns() - begun) // 1_000_000))
+        self.turns = Core(self._opened, clock)
         self.turns.on_transition = on_transition
         self._in_force = {group.name: group for group in of_settings.in_force(self._opened.check())}
         groups = [Group(number, group, name) for number, (name, group) in enumerate(self._in_force.items())]
-        for group in groups:
-            self.turns.add_group(group)
-        self._named = {group.name: group for group in groups}
-        self._places = {name: (group, at) for group in groups for at, name in enumerate(group.command_names())}
+        self.turns.every_group += groups
+        self.turns.groups |= {group.name: group for group in groups}
+        self._places = {place.spelled: place for group in groups for place in group.places}
         self._declared: set[str] = set()
         self._numbers = count(1)
         self.current: ContextVar[Optional[RequestContext]] = ContextVar("bulkhead_context", default=None)
         _ends.watch(self)
         if clock is None:
-            timer = Timer(self.turns)
-            self.turns.alarm = timer
-            timer.start()
+            self.turns.start_timer()
 
     def __enter__(self) -> CommandService:
         return self
@@ -108,22 +102,21 @@ class CommandService:
         share one answer. Raises `NoSuchGroup` where no group and no command has the name, and `Refused` where the name
         was given already, or where the function cannot run under the strategy that the settings have for it.
         """
-        place = self._places.get(name)
-        if place is None:
+        if name not in self._places:
             raise NoSuchGroup(f"no group and no command of the settings is called {name!r}")
-        group, number = place
+        place = self._places[name]
 
         def declare(function: Callable[..., Any]) -> Any:
             if name in self._declared:
                 raise Refused(f"the command {name} was declared already")
             is_coroutine = _coroutines.is_coroutine_function(function)
-            if is_coroutine and group.commands[number].is_pooled:
+            if is_coroutine and place.settings.is_pooled:
                 raise Refused(f"{name} runs under THREAD, and a coroutine function can run under SEMAPHORE alone")
             if not is_coroutine and _coroutines.is_coroutine_function(fallback):
                 raise Refused(f"the fallback of {name} is a coroutine function, and the function is none")
             self._declared.add(name)
             kind = AsyncCommand if is_coroutine else Command
-            return kind(self, group, number, function, fallback, key)
+            return kind(self, place, function, fallback, key)
 
         return declare
 
@@ -135,7 +128,7 @@ class CommandService:
         """What the package keeps of the group of the name. Raises `NoSuchGroup`, and `Stopped` after the end."""
         if not self.turns.is_open:
             raise Stopped("the service is closed")
-        group = self._named.get(name)
+        group = self.turns.groups.get(name)
         if group is None:
             raise NoSuchGroup(f"no group that is there is called {name!r}")
         return group
@@ -146,16 +139,29 @@ class CommandService:
         """Registers a new group with the properties of one of the settings. Raises `Refused` where that cannot be."""
         if like not in self._in_force:
             raise NoSuchGroup(f"no group of the settings is called {like!r}")
-        self.turns.turn(self._register, name, like)
-
-    def _register(self, name: str, like: str) -> None:
-        answer = self._act({"op": "register", "group": name, "like": like})
-        if answer.get("reply") != "registered":
+        try:
+            told = self.turns.turn(self._register, name, like)
+        except BadLine:
+            told = {"error": "name"}
+        if told.get("reply") != "registered":
             whys = {"name": "it is no name for a group, or is taken", "groups": "10,000 groups were registered"}
-            raise Refused(f"the group {name!r} is not registered: {whys.get(str(answer.get('error')), answer)}")
-        group = Group(self._opened.group(name), self._in_force[like], name)
-        self.turns.add_group(group)
-        self._named[name] = group
+            raise Refused(f"the group {name!r} is not registered: {whys.get(str(told.get('error')), told)}")
+
+    def _register(self, name: str, like: str) -> dict[str, Any]:
+        told: dict[str, Any] = {}
+        line = json.dumps({"op": "register", "group": name, "like": like}).encode()
+        self.turns.act(self._registered, (told, name, like), line)
+        return told
+
+    def _registered(self, told: dict[str, Any], name: str, like: str) -> None:
+        turns, answer = self.turns, json.loads(self.turns.answer())
+        if answer.get("reply") == "registered":
+            group = Group(self._opened.group(name), self._in_force[like], name)
+            # from here on nothing is called
+            turns.groups[name] = group
+            turns.every_group += (group,)
+        told |= answer
+        turns.unit = None
 
     def retire(self, name: str) -> bool:
         """Retires a group, which is then there no more, and tells whether it did.
@@ -163,29 +169,20 @@ class CommandService:
         It does not where the group is in use: where a run goes on, or an answer has still to be collected.
         """
         group = self.group(name)
-        answer: bool = self.turns.turn(self._retire, group)
-        return answer
+        self.turns.turn(self._retire, group)
+        return group.over == RETIRED
 
-    def _retire(self, group: Group) -> bool:
-        if self._named.get(group.name) is not group:
-            return True
-        answer = self._act({"op": "retire", "group": group.name})
-        if answer.get("reply") != "retired":
-            return False
-        del self._named[group.name]
-        self.turns.end_group(group, RETIRED)
-        self.turns.groups.remove(group)
-        return True
+    def _retire(self, group: Group) -> None:
+        if self.turns.groups.get(group.name) is group:
+            line = json.dumps({"op": "retire", "group": group.name}).encode()
+            self.turns.act(self._retired, (group,), line)
 
-    def _act(self, act: dict[str, str]) -> dict[str, Any]:
-        """Has the core register or retire a group, in a turn."""
-        if not self.turns.is_open:
-            raise Stopped("the service is closed")
-        line = json.dumps(act).encode()
-        answer = self._opened.line(line)
-        self.turns.note_act(line, answer)
-        told: dict[str, Any] = json.loads(answer)
-        return told
+    def _retired(self, group: Group) -> None:
+        turns, answer = self.turns, json.loads(self.turns.answer())
+        if answer.get("reply") == "retired":
+            turns.end_group(group, RETIRED)
+            turns.groups.pop(group.name, None)
+        turns.unit = None
 
     # -- metrics and time
 
@@ -201,33 +198,30 @@ class CommandService:
         """
         _coroutines.sweep(self.turns)
         if name is not None:
-            return self._read(*self._place(name))
+            return self._read(self._place(name))
         told = {}
-        for group in [*self.turns.groups]:
-            for number in range(len(group.commands)):
+        for group in [*self.turns.groups.values()]:
+            for place in group.places:
                 with suppress(NoSuchGroup, Worn):
-                    told[group.spelled(number)] = self._read(group, number)
+                    told[place.spelled] = self._read(place)
         return told
 
-    def _place(self, name: str) -> tuple[Group, int]:
-        group_name, _, of_group = name.partition("/")
-        group = self._named.get(group_name)
-        if group is not None and of_group and of_group in group.command_names()[1:]:
-            return group, group.command_names().index(of_group)
-        if group is not None and not of_group:
-            return group, 0
-        place = self._places.get(name)
-        if place is None or place[0].over == RETIRED:
-            raise NoSuchCommand(f"no command is called {name!r}")
-        return place
+    def _place(self, name: str) -> Place:
+        group = self.turns.groups.get(name.partition("/")[0])
+        known = self._places.get(name)
+        places = [*(group.places if group is not None else ()), *(() if known is None else (known,))]
+        for place in places:
+            if place.spelled == name and place.group.over != RETIRED:
+                return place
+        raise NoSuchCommand(f"no command is called {name!r}")
 
-    def _read(self, group: Group, number: int) -> Metrics:
-        reply: bytearray = self.turns.turn(self.turns.read, group, number)
+    def _read(self, place: Place) -> Metrics:
+        reply: bytearray = self.turns.turn(self.turns.read, place)
         return Metrics(**metrics_in(reply))  # type: ignore[arg-type]
 
     def prometheus(self) -> str:
         """The metrics of all commands in Prometheus's text format."""
-        return prometheus.text(self.metrics(), [*self.turns.groups])
+        return prometheus.text(self.metrics(), [*self.turns.groups.values()])
 
     def expire(self) -> int:
         """Times out what is due, and tells how many calls that were. Without a clock of its own the timer does so."""
@@ -259,13 +253,13 @@ class CommandService:
         """Begins a record, or where none is given looks whether one may begin."""
         if not self.turns.is_open:
             raise Stopped("the service is closed")
-        if self.turns.has_stepped or self.turns.record is not None:
+        if self.turns.has_stepped() or self.turns.record is not None:
             raise Error("a record begins before the first step, and there is one of a service")
         self.turns.record = record
 
     def runs(self) -> list[Run]:
         """The tickets that are there, for tests and for a look at what goes on."""
-        return [run for group in [*self.turns.groups] for run in [*group.runs.values()]]
+        return [run for group in [*self.turns.groups.values()] for run in [*group.runs.values()]]
 
     def close(self) -> None:
         """Closes the service: whoever waits is told `Stopped`, and so is every later call. Waits for no function."""
@@ -286,10 +280,10 @@ class CommandService:
     def _close(self) -> None:
         turns = self.turns
         if turns.record is not None:
-            group = next((one for one in turns.groups if not one.over), None)
+            group = next((one for one in turns.groups.values() if not one.over), None)
             if group is not None:
                 turns.record.is_last = True
                 with suppress(Worn):
-                    turns.read(group, 0)
+                    turns.read(group.places[0])
         turns.close()
 

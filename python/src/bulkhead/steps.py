@@ -9,7 +9,6 @@ Any thread may call; a lock takes the calls one at a time. docs/DEFINITIONS.md t
 
 from __future__ import annotations
 
-import ctypes
 import os
 import threading
 import weakref
@@ -206,11 +205,15 @@ class Service:
     def line(self, line: bytes) -> bytes:
         """Answers a line of bytes, which has no line feed, by a line with its line feed."""
         given = _raw(line, "a line")
-        answer, length = (c_uint8 * _library.ANSWER_ROOM)(), c_size_t()
+        answer, length = _library.Answer(), _library.Length()
+        self.line_into(given, answer, length)
+        return bytes(answer[: length.value])
+
+    def line_into(self, line: bytes, answer: Any, length: Any) -> None:
+        """Answers a line into a place of the caller's."""
         with self._lock:
             into = (answer, len(answer), byref(length))
-            raise_unless_done(self._call(_library.library.bulkhead_line, given, len(given), *into))
-        return ctypes.string_at(answer, length.value)
+            raise_unless_done(self._call(_library.library.bulkhead_line, line, len(line), *into))
 
     def check(self) -> bytes:
         """The text of what is in force, as `bulkhead check` prints it."""
