@@ -8,10 +8,10 @@ use bh_base::Text;
 use std::alloc::{AllocError, Global};
 
 /// A further command's name, with its group's place and its number there.
-pub(crate) type Further = (Text<32>, (u32, u8));
+pub type Further = (Text<32>, (u32, u8));
 
 /// The further commands of each of so many groups, by the groups' places; each group's in their order.
-pub(crate) fn by_group(
+pub fn by_group(
     alloc: Global,
     groups: usize,
     commands: &Commands,

@@ -115,7 +115,7 @@ fn first_of(given: &Given, fault: Fault, properties: &[Property]) -> Option<Prop
 }
 
 /// Whether the property's value in force has the fault.
-fn is_at_fault(given: &Given, fault: Fault, property: Property) -> bool
+pub fn is_at_fault(given: &Given, fault: Fault, property: Property) -> bool
     requires { IsFound given.now }
     ensures { result ≡ is_at_fault fault given.now.name.now (view given.now.sections.root.now) property }
 {
@@ -149,7 +149,7 @@ pub(crate) fn check_windows(sections: &Sections, subjects: &[Subject]) -> Result
 }
 
 /// Whether the window in force is a multiple of the buckets.
-fn has_whole_buckets(sections: &Sections, name: &str) -> bool
+pub fn has_whole_buckets(sections: &Sections, name: &str) -> bool
     requires { AreFound sections.now }
     ensures { result ≡ has_whole_buckets name.now (view sections.now.root.now) }
 {
@@ -161,7 +161,7 @@ fn has_whole_buckets(sections: &Sections, name: &str) -> bool
 
 impl Given<'_> {
     /// The number in force of a property that is a number and has no fault.
-    pub(crate) fn number(&self, property: Property) -> u64
+    pub fn number(&self, property: Property) -> u64
         requires { IsFound self.now }
         ensures { result ≡ number (in_force property self.now.name.now (view self.now.sections.root.now)) }
     {

@@ -33,7 +33,7 @@ fn has_known_members(service: &Table, names: &Names) -> bool
 }
 
 /// Whether the member may stand under `service`.
-fn is_known_member(key: &str, value: &Value, names: &Names) -> bool
+pub fn is_known_member(key: &str, value: &Value, names: &Names) -> bool
     ensures { result ≡ is_service_member names.now.texts.keys key.now (view value.now) }
 {
     match key {
@@ -67,7 +67,7 @@ fn are_group_keys(table: &Table, names: &Names) -> bool
 }
 
 /// Whether the key is `default` or a group.
-fn is_group_key(key: &str, names: &Names) -> bool
+pub fn is_group_key(key: &str, names: &Names) -> bool
     ensures { result ≡ is_key names.now.texts.keys key.now }
 {
     match key {

@@ -12,7 +12,7 @@ use std::alloc::{AllocError, Global};
 
 /// Which properties a subject has.
 #[derive(Clone, Copy, Debug, PartialEq, Eq)]
-pub(crate) enum Scope {
+pub enum Scope {
     /// All of them: a group has its own and those of its own command.
     Group,
     /// Those of a command.
@@ -21,7 +21,7 @@ pub(crate) enum Scope {
 
 impl Scope {
     /// The properties in the order of the table.
-    pub(crate) fn properties(self) -> &'static [Property]
+    pub fn properties(self) -> &'static [Property]
         ensures { result.now ≡ properties_of self }
     {
         match self {
@@ -33,15 +33,15 @@ impl Scope {
 
 /// A group or a further command.
 #[derive(Clone, Copy, Debug)]
-pub(crate) struct Subject {
+pub struct Subject {
     /// Its name.
-    pub(crate) name: Text<32>,
+    pub name: Text<32>,
     /// Which properties it has.
-    pub(crate) scope: Scope,
+    pub scope: Scope,
 }
 
 /// The groups in listed order, each with its further commands, which stand by groups, behind it.
-pub(crate) fn subjects(
+pub fn subjects(
     alloc: Global,
     names: &[Text<32>],
     further: &[Vec<Further>],
