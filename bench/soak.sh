@@ -1,7 +1,7 @@
 #!/bin/bash
 # Calls a service over connections that come and go, hostile ones among them, for an hour: each call has to be answered
-# once and by its own argument, the metrics have to add up, the resident size at the end has to be within two percent of
-# that after the first minute, and no thread and no descriptor may be left over (soak.py).
+# once and by its own argument, the metrics have to add up, the memory that the service has once they are gone has to be
+# within two percent of what it had before they came, and no thread and no descriptor may be left over (soak.py). It needs cc.
 #
 #   bench/soak.sh [-s SECONDS] [-p PORT] [PROGRAM]     PROGRAM is proved and built where none is given
 set -euo pipefail
@@ -17,4 +17,5 @@ while getopts s:p: option; do
 done
 shift $((OPTIND - 1))
 . "$here/program.sh"
-python3 "$here/soak.py" "$program" "$port" "$seconds"
+cc -O2 -shared -fPIC -o "$work/live.so" "$here/live.c"
+python3 "$here/soak.py" "$program" "$port" "$seconds" "$work/live.so"

@@ -3,6 +3,7 @@
 from __future__ import annotations
 
 import os
+import signal
 import socket
 import subprocess
 import time
@@ -20,43 +21,48 @@ class Failed(Exception):
 
 @dataclass
 class Service:
-    """A program that runs as a service on a port, and ends with its standard input."""
+    """A program that runs as a service on a port, by default until its standard input ends."""
 
-    program: Path
-    settings: Path
-    port: int
-    options: list[str]
+    words: list[str]
+    address: tuple[str, int]
     errors: int | None = None
+    input: int = subprocess.PIPE
     process: subprocess.Popen[bytes] = field(init=False)
 
     def start(self) -> None:
         """Starts it, and returns once it listens."""
-        words = [str(self.program), "serve", str(self.settings), "--port", str(self.port)]
-        self.process = subprocess.Popen(
-            [*words, *self.options], stdin=subprocess.PIPE, stdout=subprocess.PIPE, stderr=self.errors
-        )
+        self.process = subprocess.Popen(self.words, stdin=self.input, stdout=subprocess.PIPE, stderr=self.errors)
         assert self.process.stdout is not None
         line = self.process.stdout.readline()
-        if line != f"listening {self.port}\n".encode():
+        if line != f"listening {self.address[1]}\n".encode():
             self.process.kill()
             raise Failed(f"the service says {line!r} in the place of listening")
 
     def connect(self) -> socket.socket:
         """A new connection."""
-        return socket.create_connection((ADDRESS, self.port), timeout=PATIENCE)
+        return socket.create_connection(self.address, timeout=PATIENCE)
 
     def end(self, limit: float) -> float:
         """Ends its standard input, and returns how many seconds it took to end well: no more than the limit."""
         assert self.process.stdin is not None
         self.process.stdin.close()
+        return self.await_end("the end of its standard input", 0, limit)
+
+    def end_by(self, number: signal.Signals, status: int, limit: float) -> float:
+        """Sends it a signal, and returns how many seconds it took to end with the status: no more than the limit."""
+        self.process.send_signal(number)
+        return self.await_end("a signal", status, limit)
+
+    def await_end(self, what: str, status: int, limit: float) -> float:
+        """Waits until it has ended with the status, and returns how many seconds that took."""
         begun = time.monotonic()
         try:
-            status = self.process.wait(limit)
+            found = self.process.wait(limit)
         except subprocess.TimeoutExpired:
             self.process.kill()
-            raise Failed(f"the service runs {limit} seconds after the end of its standard input") from None
-        if status != 0:
-            raise Failed(f"the service ends with status {status}")
+            raise Failed(f"the service runs {limit} seconds after {what}") from None
+        if found != status:
+            raise Failed(f"the service ends with status {found}")
         return time.monotonic() - begun
 
     def kill(self) -> None:

@@ -1,9 +1,10 @@
--- How long a connection may keep the service waiting for a line.
-use Rattle.std.specs.Prelude.{ℕ, ◌+◌, ◌-◌, ◌^◌, List, length, slice_get, Bool, false, not, ◌==◌, ◌&&◌, Option, Some, None, min, if◌then◌else◌}
+-- How long a connection may keep the service waiting, and why it ended.
+use Rattle.std.specs.Prelude.{⊤, ℕ, ◌+◌, ◌-◌, ◌^◌, List, length, slice_get, Bool, true, false, not, ◌==◌, ◌&&◌, Option, Some, None, Result, Ok, Err, min, if◌then◌else◌}
 use Rattle.std.specs.List.{list_any}
 use Rattle.bh_serve.specs.declared.connection.ConnectionFault.{ConnectionFault}
 use Rattle.bh_serve.specs.declared.connection.ConnectionFault.TheVariants.{Idle, Slow, Port}
 use Rattle.bh_lines.specs.declared.port_error.PortError.{PortError}
+use Rattle.bh_lines.specs.declared.port_error.PortError.TheVariants as port
 
 -- the limit, whether a line has begun and is not whole, and how long reads waited since it began, in microseconds
 pub record ClockView : Type 0 where
@@ -42,7 +43,12 @@ after_last (Some last) bytes waited c = record c { half_line = not (last == 10);
 abbrev pub after_read : List ℕ → ℕ → ClockView → ClockView
 after_read bytes waited c = after_last (slice_get bytes (length bytes - 1)) bytes waited c
 
--- why a connection ended: that a read or a write waited in vain, where one did
-abbrev pub fault_of : PortError → Option ConnectionFault → ConnectionFault
-fault_of error (Some fault) = fault
-fault_of error None = Port error
+-- what a write that had to wait for room tells of its client: it was waited for in vain, or does not read while the service stops
+abbrev pub fault_of_wait : Bool → Bool → Option ConnectionFault
+fault_of_wait in_vain told = if in_vain then Some Idle else (if told then Some (Port port.Write) else None)
+
+-- how a connection ended whose conversation ended so: by the fault that a read or a write noted, where one did
+abbrev pub end_of : Result ⊤ PortError → Option ConnectionFault → Result ⊤ ConnectionFault
+end_of outcome (Some fault) = Err fault
+end_of (Ok done) None = Ok done
+end_of (Err error) None = Err (Port error)

@@ -2,19 +2,24 @@
 
 ghost use Rattle.std.specs.Prelude.{◌≡◌, IfSome, IsErr};
 ghost use Rattle.std.specs.Io.{ReadsAtMost, WritesAtMost};
-ghost use Rattle.bh_serve.specs.Idle.{fault_of};
+ghost use Rattle.bh_serve.specs.Idle.{end_of, fault_of_wait};
 
+use crate::acceptor::Acceptor;
 use crate::idle_clock::IdleClock;
 use bh_lines::PortError;
 use std::io::{ErrorKind, Read, Write};
 use std::net::TcpStream;
 use std::rt::Clock;
+use std::sync::Wait;
 use std::time::{Duration, Instant};
 use std::{io, thread};
 use thiserror::Error;
 
 /// How often a read looks whether something has come before it sleeps until something does.
 const LOOKS: u32 = 8;
+
+/// How often a service that was told to stop looks whether its client had sent more, a millisecond apart.
+const LAST_LOOKS: u32 = 20;
 
 /// Why a connection ended before its client ended it.
 #[derive(Clone, Copy, Debug, PartialEq, Eq, Error)]
@@ -30,13 +35,33 @@ pub enum ConnectionFault {
     Port(PortError),
 }
 
-/// What ended a conversation that could not go on: that a read or a write waited in vain, where one did.
-pub(crate) fn fault_of(error: PortError, in_vain: Option<ConnectionFault>) -> ConnectionFault
-    ensures { result ≡ fault_of error in_vain }
+/// How a connection ended whose conversation ended so: by the fault that a read or a write noted, where one did.
+pub(crate) fn end_of(
+    outcome: Result<(), PortError>,
+    noted: Option<ConnectionFault>,
+) -> Result<(), ConnectionFault>
+    ensures { result ≡ end_of outcome noted }
 {
-    match in_vain {
-        Some(fault) => fault,
-        None => ConnectionFault::Port(error),
+    match noted {
+        Some(fault) => Err(fault),
+        None => match outcome {
+            Ok(()) => Ok(()),
+            Err(error) => Err(ConnectionFault::Port(error)),
+        },
+    }
+}
+
+/// What a write that had to wait for room tells of its client, which does not read: it was waited for in vain, or by then the
+/// service was told to stop, so that nobody knows which of its answers it gets.
+fn fault_of_wait(in_vain: bool, told: bool) -> Option<ConnectionFault>
+    ensures { result ≡ fault_of_wait in_vain told }
+{
+    if in_vain {
+        Some(ConnectionFault::Idle)
+    } else if told {
+        Some(ConnectionFault::Port(PortError::Write))
+    } else {
+        None
     }
 }
 
@@ -46,17 +71,19 @@ pub(crate) fn fault_of(error: PortError, in_vain: Option<ConnectionFault>) -> Co
 pub(crate) struct Incoming<'e, R> {
     rt: &'e R,
     stream: &'e TcpStream,
+    acceptor: &'e Acceptor,
     clock: IdleClock,
     fault: Option<ConnectionFault>,
 }
 
-impl<'e, R: Clock> Incoming<'e, R> {
-    /// What comes over a connection that does not wait, of which nothing was read yet.
-    pub(crate) fn new(rt: &'e R, stream: &'e TcpStream, limit: Option<u64>) -> Incoming<'e, R> {
+impl<'e, R: Wait + Clock> Incoming<'e, R> {
+    /// What comes over a connection of the acceptor that does not wait, of which nothing was read yet.
+    pub(crate) fn new(rt: &'e R, stream: &'e TcpStream, acceptor: &'e Acceptor) -> Incoming<'e, R> {
         Incoming {
             rt,
             stream,
-            clock: IdleClock::new(limit),
+            acceptor,
+            clock: IdleClock::new(acceptor.idle()),
             fault: None,
         }
     }
@@ -91,6 +118,36 @@ impl<'e, R: Clock> Incoming<'e, R> {
         }
     }
 
+    /// Reads what a client had sent before the service was told to stop, where no more seems to come. A connection that is
+    /// closed for reading says so as soon as all that has come is read, though what was sent may be on its way, as while
+    /// there was no room for it.
+    fn read_last(&mut self, buf: &mut [u8]) -> io::Result<usize>
+        ensures { ReadsAtMost result buf.new }
+    {
+        if !self.acceptor.was_told(self.rt) {
+            return Ok(0);
+        }
+        for _ in 0..LAST_LOOKS {
+            thread::sleep(self.rt, Duration::from_millis(1));
+            match look(self.stream, buf) {
+                Some(Ok(0)) | None => {}
+                Some(outcome) => return self.note_at_once(outcome, buf),
+            }
+        }
+        Ok(0)
+    }
+
+    /// Notes the bytes of a read that did not wait.
+    fn note_at_once(&mut self, outcome: io::Result<usize>, buf: &[u8]) -> io::Result<usize>
+        requires { ReadsAtMost outcome buf.now }
+        ensures { result ≡ outcome }
+    {
+        if let Ok(count) = outcome {
+            self.clock.note(&buf[..count], 0);
+        }
+        outcome
+    }
+
     /// Ends the reading of a client that kept the service waiting too long.
     fn give_up(&mut self) -> io::Result<usize>
         ensures { IsErr result }
@@ -100,39 +157,43 @@ impl<'e, R: Clock> Incoming<'e, R> {
     }
 }
 
-impl<R: Clock> Read for Incoming<'_, R> {
+impl<R: Wait + Clock> Read for Incoming<'_, R> {
     /// A client that goes on at once is read from with no sleep: a thread that sleeps has to be woken, which takes longer
     /// than some looks, between which other threads run.
     fn read(&mut self, buf: &mut [u8]) -> io::Result<usize> {
-        match look(self.stream, buf) {
-            Some(Ok(count)) => {
-                self.clock.note(&buf[..count], 0);
-                Ok(count)
-            }
-            Some(outcome) => outcome,
+        let outcome = match look(self.stream, buf) {
+            Some(outcome) => self.note_at_once(outcome, buf),
             None => self.await_bytes(buf),
+        };
+        match outcome {
+            Ok(0) => self.read_last(buf),
+            outcome => outcome,
         }
     }
 }
 
-/// What is sent to a client. A write that finds no room waits for it as long as the stream lets it, and notes where that was
-/// in vain.
+/// What is sent to a client. A write that finds no room waits for it as long as the stream lets it, and notes what that tells
+/// of the client.
 #[derive(Drop)]
-pub(crate) struct Outgoing<'e> {
+pub(crate) struct Outgoing<'e, R> {
+    rt: &'e R,
     stream: &'e TcpStream,
+    acceptor: &'e Acceptor,
     fault: Option<ConnectionFault>,
 }
 
-impl<'e> Outgoing<'e> {
-    /// What goes over a connection that does not wait, of which nothing was written yet.
-    pub(crate) fn new(stream: &'e TcpStream) -> Outgoing<'e> {
+impl<'e, R: Wait> Outgoing<'e, R> {
+    /// What goes over a connection of the acceptor that does not wait, of which nothing was written yet.
+    pub(crate) fn new(rt: &'e R, stream: &'e TcpStream, acceptor: &'e Acceptor) -> Outgoing<'e, R> {
         Outgoing {
+            rt,
             stream,
+            acceptor,
             fault: None,
         }
     }
 
-    /// Why a write waited in vain, where one did.
+    /// What a write that had to wait told of the client, where one did.
     pub(crate) fn fault(&self) -> Option<ConnectionFault> {
         self.fault
     }
@@ -145,16 +206,15 @@ impl<'e> Outgoing<'e> {
         stream.set_nonblocking(false)?;
         let outcome = stream.write(buf);
         stream.set_nonblocking(true)?;
-        if let Err(error) = &outcome
-            && is_in_vain(error)
-        {
-            self.fault = Some(ConnectionFault::Idle);
+        let in_vain = matches!(&outcome, Err(error) if is_in_vain(error));
+        if let Some(fault) = fault_of_wait(in_vain, self.acceptor.was_told(self.rt)) {
+            self.fault = Some(fault);
         }
         outcome
     }
 }
 
-impl Write for Outgoing<'_> {
+impl<R: Wait> Write for Outgoing<'_, R> {
     fn write(&mut self, buf: &[u8]) -> io::Result<usize> {
         let mut stream = self.stream;
         match stream.write(buf) {

@@ -2,7 +2,7 @@
 
 use crate::acceptor::Acceptor;
 use crate::clock::{MachineClock, Ticks};
-use crate::connection::{ConnectionFault, Incoming, Outgoing, fault_of};
+use crate::connection::{ConnectionFault, Incoming, Outgoing, end_of};
 use crate::control::ServiceControl;
 use crate::echo::Echo;
 use crate::ending::{Due, Ending};
@@ -27,6 +27,9 @@ use std::time::Duration;
 
 /// From more threads than this on, it is said how many there will be.
 const MANY_THREADS: u64 = 1000;
+
+/// How often a service that is stopped looks whether the calls that waited have gone on, a millisecond apart.
+const GONE_LOOKS: u32 = 100;
 
 /// A service that runs: what each of its threads has at hand.
 #[derive(Drop)]
@@ -105,6 +108,7 @@ impl<'e, R: Threads + Wait + Clock + Sync, L: OpenListener<Stream = TcpStream> +
                     seen.fail(error);
                 }
                 Due::Close => {
+                    self.await_gone();
                     self.echo.wake();
                     self.acceptor.close(self.rt);
                     seen.tell();
@@ -112,6 +116,26 @@ impl<'e, R: Threads + Wait + Clock + Sync, L: OpenListener<Stream = TcpStream> +
             }
         }
         seen
+    }
+
+    /// Waits until the calls that waited have gone on, which takes no longer than they want for a turn of the lock: so a run
+    /// that is woken then answers none of them.
+    fn await_gone(&self) {
+        for _ in 0..GONE_LOOKS {
+            if self.waiting() == 0 {
+                return;
+            }
+            thread::sleep(self.rt, Duration::from_millis(1));
+        }
+    }
+
+    /// How many calls wait in all groups.
+    fn waiting(&self) -> u64 {
+        let mut count = 0u64;
+        for number in 0..self.names.len() as u64 {
+            count = count.saturating_add(self.shared.waiting(GroupId(number)));
+        }
+        count
     }
 
     /// Starts the threads and says so; no connection is accepted meanwhile.
@@ -284,19 +308,17 @@ impl<'e, R: Threads + Wait + Clock + Sync, L: OpenListener<Stream = TcpStream> +
         {
             return Err(ConnectionFault::Port(PortError::Read));
         }
-        let mut input = Incoming::new(self.rt, stream, idle);
-        let mut output = Outgoing::new(stream);
-        match self.answer(&mut input, &mut output) {
-            Ok(()) => Ok(()),
-            Err(error) => Err(fault_of(error, input.fault().or(output.fault()))),
-        }
+        let mut input = Incoming::new(self.rt, stream, self.acceptor);
+        let mut output = Outgoing::new(self.rt, stream, self.acceptor);
+        let outcome = self.answer(&mut input, &mut output);
+        end_of(outcome, input.fault().or(output.fault()))
     }
 
     /// Answers the control lines of the input to the output.
     fn answer(
         &self,
         input: &mut Incoming<'_, R>,
-        output: &mut Outgoing<'_>,
+        output: &mut Outgoing<'_, R>,
     ) -> Result<(), PortError> {
         let mut control = ServiceControl::new(
             self.rt,

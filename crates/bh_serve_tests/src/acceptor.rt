@@ -12,13 +12,16 @@ use std::os::fd::OwnedFd;
 use std::process::Abort;
 use std::rt::Clock;
 use std::sync::atomic::{AtomicU64, Ordering};
-use std::sync::{Mutex, Wait};
+use std::sync::{Condvar, Mutex, Wait};
 use std::thread::Threads;
 use std::time::Duration;
 use std::{io, thread};
 
 /// So many times is looked for what another thread is to do, a hundredth of a second apart.
 const LOOKS: u32 = 5000;
+
+/// So many seconds a service may take to end: more than the two that are promised, since a test shares its processors.
+const MOST_SECONDS: u64 = 20;
 
 /// The settings of a service of 1,024 workers.
 const MANY_GROUPS: &str = r#"
@@ -84,6 +87,40 @@ pub(crate) enum Visit {
     Several,
 }
 
+/// Whether a service has ended.
+#[derive(Drop)]
+pub(crate) struct End {
+    come: Mutex<bool>,
+    changed: Condvar,
+}
+
+impl End {
+    /// The end of a service that runs.
+    pub(crate) fn new() -> End {
+        End {
+            come: Mutex::new(false),
+            changed: Condvar::new(),
+        }
+    }
+
+    /// The service has ended.
+    pub(crate) fn come<R: Wait>(&self, rt: &R) {
+        *self.come.lock(rt) = true;
+        self.changed.notify_all();
+    }
+
+    /// Waits until the service has ended, and fails where it takes too long.
+    pub(crate) fn await_in_time<R: Wait + Clock + Abort>(&self, rt: &R) {
+        let (come, _) = self.changed.wait_timeout_while(
+            rt,
+            self.come.lock(rt),
+            Duration::from_secs(MOST_SECONDS),
+            |come| !*come,
+        );
+        assert!(rt; *come, "the service goes on");
+    }
+}
+
 /// A service that runs, as its clients have it.
 #[derive(Drop)]
 pub(crate) struct Scene<'a, R> {
@@ -91,6 +128,7 @@ pub(crate) struct Scene<'a, R> {
     pub(crate) address: SocketAddr,
     pub(crate) acceptor: &'a Acceptor,
     pub(crate) errors: &'a Mutex<Vec<u8>>,
+    pub(crate) end: &'a End,
 }
 
 impl<R: Net<Listener = TcpListener, Stream = TcpStream> + Wait + Clock + Abort + AllocGlobal> Scene<
@@ -210,7 +248,19 @@ pub(crate) fn serve_and_close<
     status
 }
 
-/// Serves the connections of the listener beside the visit, and asserts how the service ends and what it says.
+/// Serves the connections of the listener as the scene has it, and says that the service has ended.
+pub(crate) fn serve_to_end<
+    R: Threads + Wait + Clock + AllocGlobal + Sync,
+    L: OpenListener<Stream = TcpStream> + Sync,
+>(rt: &R, scene: &Scene<'_, R>, listener: &L, settings: &Settings, reports: &Reports) -> u8 {
+    let mut output = io::sink();
+    let status = serve_and_close(rt, scene.acceptor, listener, settings, &mut output, reports);
+    scene.end.come(rt);
+    status
+}
+
+/// Serves the connections of the listener beside the visit, and asserts how the service ends within its time and what it
+/// says.
 fn assert_service<
     R: Threads
         + Wait
@@ -224,27 +274,24 @@ fn assert_service<
     let address = listener.local_addr().expect(rt, "an address");
     let acceptor = Acceptor::new(rt.alloc(), limits).expect(rt, "memory");
     let settings = settings_in(rt.alloc(), settings.as_bytes()).expect(rt, "settings");
-    let errors = Mutex::new(Vec::new(rt.alloc()));
+    let (errors, end) = (Mutex::new(Vec::new(rt.alloc())), End::new());
     let scene = Scene {
         rt,
         address,
         acceptor: &acceptor,
         errors: &errors,
+        end: &end,
     };
     let reports = Reports::new();
     let ((answered, ()), ()) = thread::join(
         rt,
         || thread::join(
             rt,
-            || serve_and_close(
-                rt,
-                &acceptor,
-                listener,
-                &settings,
-                &mut io::sink(),
-                &reports,
-            ),
-            || scene.make(visit),
+            || serve_to_end(rt, &scene, listener, &settings, &reports),
+            || {
+                scene.make(visit);
+                end.await_in_time(rt);
+            },
         ),
         || reports.write_to(rt, &errors),
     );

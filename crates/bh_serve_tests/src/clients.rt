@@ -1,18 +1,19 @@
 //! Clients of a service that are silent, slow or broken, beside others that are answered.
 
-use crate::acceptor::{Scene, at_a_time, in_all, serve_and_close};
+use crate::acceptor::{End, Scene, at_a_time, in_all, serve_to_end};
 use crate::talks::{
-    assert_bytes, assert_call, assert_end, assert_heard, connect, hear, listen, say,
+    assert_bytes, assert_call, assert_end, assert_heard, assert_silent, connect, hear, listen, say,
 };
 use bh_props::settings_in;
 use bh_serve::{Acceptor, Limits, Reports};
+use std::io::Write;
 use std::net::{Net, TcpListener, TcpStream};
 use std::process::Abort;
 use std::rt::Clock;
 use std::sync::{Mutex, Wait};
 use std::thread::Threads;
 use std::time::Duration;
-use std::{io, str, thread};
+use std::{str, thread};
 
 /// A group of one worker, whose calls do not time out.
 const ONE_WORKER: &str = r#"
@@ -24,6 +25,9 @@ hystrix.threadpool.a.maxQueueSize = 5
 
 /// So many lines of which nobody reads the answers fill the buffers of a connection, as each answer names all groups.
 const UNREAD_LINES: usize = 4000;
+
+/// More short lines than fit into the buffers of a connection whose answers nobody reads.
+const MOST_LINES: u32 = 5_000_000;
 
 /// How many groups are named.
 const NAMED_GROUPS: usize = 100;
@@ -93,6 +97,12 @@ enum Act {
     StopCalls,
     /// It sends a byte of a line from time to time.
     Trickle,
+    /// It leaves, being the last that is let in, while another one waits.
+    Leave,
+    /// It leaves while another one waits, which is answered then.
+    MakeRoom,
+    /// It asks short questions until there is no room, reads no answer, and the service is told to stop.
+    AskOn,
 }
 
 impl<R: Net<Listener = TcpListener, Stream = TcpStream> + Wait + Clock + Abort + AllocGlobal> Scene<
@@ -109,6 +119,9 @@ impl<R: Net<Listener = TcpListener, Stream = TcpStream> + Wait + Clock + Abort +
             Act::Reset => self.reset(stream),
             Act::StopCalls => self.stop_calls(&stream),
             Act::Trickle => self.trickle(&stream),
+            Act::Leave => self.leave(stream),
+            Act::MakeRoom => self.make_room(stream),
+            Act::AskOn => self.ask_on(&stream),
         }
     }
 
@@ -191,6 +204,52 @@ impl<R: Net<Listener = TcpListener, Stream = TcpStream> + Wait + Clock + Abort +
         self.await_report();
     }
 
+    /// One connection too many, which has said a line and hears nothing.
+    fn connect_in_vain(&self, served: &TcpStream) -> TcpStream {
+        assert_call(
+            self.rt,
+            served,
+            "a",
+            "hi",
+            r#"{"body":"hi","reply":"value"}"#,
+        );
+        let late = self.connect();
+        say(self.rt, &late, GROUPS);
+        assert_silent(self.rt, &late);
+        late
+    }
+
+    /// The service ends when the last connection that it lets in does: another one is never answered.
+    fn leave(&self, last: TcpStream) {
+        let late = self.connect_in_vain(&last);
+        drop(last);
+        self.end.await_in_time(self.rt);
+        assert_silent(self.rt, &late);
+    }
+
+    /// A connection that waits is answered when another one leaves.
+    fn make_room(&self, first: TcpStream) {
+        let late = self.connect_in_vain(&first);
+        drop(first);
+        let groups = "{\"groups\":[\"a\"],\"reply\":\"groups\"}\n";
+        assert_heard(self.rt, &late, groups, "the next one");
+        self.acceptor.tell(self.rt, self.address);
+        assert_heard(self.rt, &late, "", "the end");
+    }
+
+    /// Nothing is taken any more for a second: the service waits for room to write.
+    fn ask_on(&self, mut stream: &TcpStream) {
+        stream
+            .set_write_timeout(Some(Duration::from_secs(1)))
+            .expect(self.rt, "a time-out");
+        for _ in 0..MOST_LINES {
+            if stream.write_all(GROUPS).is_err() {
+                break;
+            }
+        }
+        self.acceptor.tell(self.rt, self.address);
+    }
+
     /// Two calls wait, of which one runs, when the service is told to stop.
     fn stop_calls(&self, running: &TcpStream) {
         let (queued, other) = (self.connect(), self.connect());
@@ -223,7 +282,8 @@ fn has_part(line: &[u8], part: &str) -> bool {
     }
 }
 
-/// Serves the connection beside the act, asserts that the service ends well, and answers what it wrote to its errors.
+/// Serves the connection beside the act, asserts that the service ends well within its time, and answers what it wrote to
+/// its errors.
 fn errors_beside<
     R: Threads
         + Wait
@@ -242,27 +302,24 @@ fn errors_beside<
 ) -> Vec<u8> {
     let acceptor = Acceptor::new(rt.alloc(), limits).expect(rt, "memory");
     let settings = settings_in(rt.alloc(), settings.as_bytes()).expect(rt, "settings");
-    let errors = Mutex::new(Vec::new(rt.alloc()));
+    let (errors, end) = (Mutex::new(Vec::new(rt.alloc())), End::new());
     let scene = Scene {
         rt,
         address: listener.local_addr().expect(rt, "an address"),
         acceptor: &acceptor,
         errors: &errors,
+        end: &end,
     };
     let reports = Reports::new();
     let ((status, ()), ()) = thread::join(
         rt,
         || thread::join(
             rt,
-            || serve_and_close(
-                rt,
-                &acceptor,
-                listener,
-                &settings,
-                &mut io::sink(),
-                &reports,
-            ),
-            || scene.act(act, stream),
+            || serve_to_end(rt, &scene, listener, &settings, &reports),
+            || {
+                scene.act(act, stream);
+                end.await_in_time(rt);
+            },
         ),
         || reports.write_to(rt, &errors),
     );
@@ -375,4 +432,35 @@ fn a_line_has_to_be_whole_within_the_idle_time(rt: HostRuntime) {
     let limits = with_idle(in_all(1));
     let errors = errors_beside(&rt, &listener, ONE_WORKER, limits, Act::Trickle, stream);
     assert_bytes(&rt, &errors, "fault: slow\n", "the errors");
+}
+
+#[test]
+fn a_client_beyond_the_last_is_never_answered(rt: HostRuntime) {
+    let listener = listen(&rt);
+    let stream = connect(&rt, listener.local_addr().expect(&rt, "an address"));
+    let errors = errors_beside(&rt, &listener, ONE_WORKER, in_all(1), Act::Leave, stream);
+    assert_bytes(&rt, &errors, "", "the errors");
+}
+
+#[test]
+fn a_client_beyond_n_waits_for_another_to_leave(rt: HostRuntime) {
+    let listener = listen(&rt);
+    let stream = connect(&rt, listener.local_addr().expect(&rt, "an address"));
+    let errors = errors_beside(
+        &rt,
+        &listener,
+        ONE_WORKER,
+        at_a_time(1),
+        Act::MakeRoom,
+        stream,
+    );
+    assert_bytes(&rt, &errors, "", "the errors");
+}
+
+#[test]
+fn short_answers_that_nobody_reads_are_told_at_the_end(rt: HostRuntime) {
+    let listener = listen(&rt);
+    let stream = connect(&rt, listener.local_addr().expect(&rt, "an address"));
+    let errors = errors_beside(&rt, &listener, ONE_WORKER, at_a_time(1), Act::AskOn, stream);
+    assert_bytes(&rt, &errors, "fault: write\n", "the errors");
 }

@@ -6,4 +6,6 @@ mod acceptor;
 #[cfg(test)]
 mod clients;
 #[cfg(test)]
+mod reports;
+#[cfg(test)]
 mod talks;

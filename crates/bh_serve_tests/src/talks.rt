@@ -2,13 +2,14 @@
 
 use bh_props::settings_in;
 use bh_serve::serve_on;
-use std::io::{Read, Write};
+use std::io::{ErrorKind, Read, Write};
 use std::net::{Net, Shutdown, SocketAddr, TcpListener, TcpStream};
 use std::process::Abort;
 use std::rt::Clock;
 use std::sync::{Mutex, Wait};
 use std::thread;
 use std::thread::Threads;
+use std::time::Duration;
 
 /// The settings of a service of three groups, of which one times out alone: a machine that stalls changes no answer of
 /// the others.
@@ -118,6 +119,19 @@ pub(crate) fn assert_heard(
     at: &str,
 ) {
     assert_bytes(rt, &hear(rt, stream), want, at);
+}
+
+/// Asserts that the service writes nothing for a tenth of a second.
+pub(crate) fn assert_silent(rt: &impl Abort, mut stream: &TcpStream) {
+    stream
+        .set_read_timeout(Some(Duration::from_millis(100)))
+        .expect(rt, "a time-out");
+    let mut byte = [0u8; 1];
+    match stream.read(&mut byte) {
+        Ok(count) => assert!(rt; false, "{count} bytes are heard"),
+        Err(error) => assert_eq!(rt; error.kind(), ErrorKind::WouldBlock),
+    }
+    stream.set_read_timeout(None).expect(rt, "no time-out");
 }
 
 /// Sends a line, and asserts the line that answers it.
