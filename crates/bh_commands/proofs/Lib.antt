@@ -1,2 +1,3 @@
 pub mod RunStatus
 pub mod Files
+pub mod CutStatus

@@ -1,7 +1,8 @@
 -- What the exit status of the program says.
 use Rattle.std.specs.Prelude.{◌≡◌, ◌≢◌, ℕ, false, List, Option}
 use Rattle.std.specs.Io.KnownBytes.{Appends}
-use Rattle.bh_lines.specs.Lines.{Cut, stops}
+use Rattle.bh_cut.specs.Kept.{kept}
+use Rattle.bh_lines.specs.Lines.{Cut, cut, stops}
 use Rattle.bh_streams.specs.Watched.{WritesFront}
 use Rattle.bh_port.specs.Course.{new_course}
 use Rattle.bh_port.specs.Text.{text}
@@ -25,4 +26,11 @@ pub record RunStatus (service : SettingsView) (c : Cut) (w0 w1 : Option (List �
 pub record CheckStatus (service : SettingsView) (w0 w1 : Option (List ℕ)) (status : ℕ) : Type 0 where
   pub whole : status ≡ 0 → Appends w0 w1 (lines_of service)
   pub front : status ≡ 3 → WritesFront w0 w1 (lines_of service)
+  pub not_refused : status ≢ 1
+
+-- with status 0 all lines of the groups were written and no line is too long or not UTF-8; with status 3 a front of them was
+-- written
+pub record CutStatus (names : List (List ℕ)) (input : List ℕ) (w0 w1 : Option (List ℕ)) (status : ℕ) : Type 0 where
+  pub whole : status ≡ 0 → Appends w0 w1 (kept names input) × (stops (cut input) ≡ false)
+  pub front : status ≡ 3 → WritesFront w0 w1 (kept names input)
   pub not_refused : status ≢ 1

@@ -1,4 +1,4 @@
-//! Scripts and conversations.
+//! Scripts, cuts and conversations.
 
 ghost use Rattle.std.specs.Prelude.{◌≡◌, []};
 ghost use Rattle.bh_lines.specs.Names.{command_number, is_own_name};
@@ -6,6 +6,7 @@ ghost use Rattle.bh_lines.specs.Names.{command_number, is_own_name};
 use crate::refusing::{assert_told, assert_true_want, give_up};
 use bh_base::{Answer, CallError, GroupId, Reply, Request, Text};
 use bh_control::{Control, Conversation};
+use bh_cut::cut_groups;
 use bh_lines::PortError;
 use bh_port::script::script;
 use bh_props::{Settings, read};
@@ -86,6 +87,41 @@ fn a_script_is_answered_whole_or_in_part(rt: HostRuntime) {
         }
         assert_eq!(rt; told, Err(PortError::Memory));
         assert!(rt; is_front(&written, want.as_str()), "allocation {nth}");
+    }
+    give_up(&rt);
+}
+
+/// Cuts the group out of the lines, with the writer's memory taken before, and gives what was written.
+fn cut(
+    alloc: Global,
+    nth: usize,
+    mut input: &[u8],
+) -> Result<(Result<(), PortError>, Vec<u8>), AllocError> {
+    let mut written = Vec::with_capacity(alloc, 10_000)?;
+    let mut reader = WatchedReader::new(&mut input);
+    let mut writer = WatchedWriter::new(&mut written);
+    refuse(alloc, nth);
+    let told = cut_groups(alloc, &mut reader, &mut writer, &["a"]);
+    Ok((told, written))
+}
+
+#[test]
+fn a_cut_is_written_whole_or_in_part(rt: HostRuntime) {
+    let (asked, _answers) = both_sides(rt.alloc(), CACHE).expect(&rt, "memory");
+    // The last line has no operation that there is.
+    let (want, _last) = asked.as_str().split_once("{\"op\":\"jump\"").unwrap_or(("", ""));
+    for nth in 1..MANY {
+        let (told, written) = cut(rt.alloc(), nth, asked.as_bytes()).expect(&rt, "memory");
+        let none_refused = assert_true_want(&rt, nth, told.is_ok());
+        if told.is_ok() {
+            assert_eq!(rt; written.as_slice(), want.as_bytes());
+            if none_refused {
+                return;
+            }
+            continue;
+        }
+        assert_eq!(rt; told, Err(PortError::Memory));
+        assert!(rt; is_front(&written, want), "allocation {nth}");
     }
     give_up(&rt);
 }

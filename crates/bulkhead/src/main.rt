@@ -4,7 +4,7 @@
 #[cfg(test)]
 mod tests;
 
-use bh_commands::{FileError, check_file, read_file, report, run_file, serve_file};
+use bh_commands::{FileError, check_file, cut_file, read_file, report, run_file, serve_file};
 use bh_props::SettingsError;
 use bh_serve::Limits;
 use clap::error::ErrorKind;
@@ -81,6 +81,11 @@ where
     };
     match matches.subcommand() {
         Some(("check", found)) => Ok(check_path(rt, found.get_str("FILE").unwrap_or(""))),
+        Some(("cut", found)) => Ok(cut_path(
+            rt,
+            found.get_str("FILE").unwrap_or(""),
+            found.get_strs("group").unwrap_or(&[]),
+        )),
         Some(("run", found)) => Ok(run_path(rt, found.get_str("FILE").unwrap_or(""))),
         Some(("serve", found)) => Ok(serve_path(
             rt,
@@ -124,7 +129,28 @@ fn command<'a>(alloc: Global) -> Result<Command<'a>, AllocError> {
             "run",
             "Answers each step on standard input, a line of JSON, by a line",
         )?)?
+        .subcommand(cut_command(alloc)?)?
         .subcommand(serve_command(alloc)?)
+}
+
+/// The subcommand that cuts groups out of a script.
+fn cut_command<'a>(alloc: Global) -> Result<Command<'a>, AllocError> {
+    with_file(
+        alloc,
+        "cut",
+        "Prints the lines of some groups of those on standard input, which run answers as among all others",
+    )?
+    .arg(group(alloc))
+}
+
+/// Whose lines are kept.
+fn group<'a>(alloc: Global) -> Arg<'a> {
+    Arg::new(alloc, "group")
+        .long("group")
+        .value_name("NAME")
+        .help("A group whose lines are kept; it may be given more than once")
+        .required(true)
+        .action(ArgAction::Append)
 }
 
 /// The subcommand that serves connections.
@@ -223,6 +249,22 @@ fn run_path(rt: &HostRuntime, path: &str) -> u8 {
         Ok(settings) => run_file(
             rt.alloc(),
             settings.as_slice(),
+            &mut rt.reader(),
+            &mut io::writer(rt),
+            &mut errors,
+        ),
+        Err(error) => report::unreadable(&mut errors, error),
+    }
+}
+
+/// Cuts the lines of the groups out of standard input.
+fn cut_path(rt: &HostRuntime, path: &str, names: &[&str]) -> u8 {
+    let mut errors = rt.stderr();
+    match read_path(rt, path) {
+        Ok(settings) => cut_file(
+            rt.alloc(),
+            settings.as_slice(),
+            names,
             &mut rt.reader(),
             &mut io::writer(rt),
             &mut errors,

@@ -42,6 +42,11 @@ const REFUSED: &str = "bulkhead
 bulkhead stop
 bulkhead check
 bulkhead run settings.toml more
+bulkhead cut
+bulkhead cut settings.toml
+bulkhead cut --group a
+bulkhead cut settings.toml --group
+bulkhead cut settings.toml a --group a
 bulkhead serve settings.toml
 bulkhead serve settings.toml --port 0
 bulkhead serve settings.toml --port 65536
@@ -59,6 +64,7 @@ fn refused_arguments_leave_status_2(rt: HostRuntime) {
     }
     assert_status(&rt, &rt, "bulkhead --help", 0);
     assert_status(&rt, &rt, "bulkhead check no-such-file", 3);
+    assert_status(&rt, &rt, "bulkhead cut no-such-file --group a --group b", 3);
 }
 
 const NO_FILE: &str = "error: the following required arguments were not provided:
