@@ -8,7 +8,7 @@ use Rattle.bh_streams.proofs.Fronts.{whole-is-front}
 use Rattle.bh_cut.specs.Alike.{IsAnsweredAlike}
 use Rattle.bh_cut.specs.Kept.{kept}
 use Rattle.bh_cut.specs.Outcome.{CutOutcome}
-use Rattle.bh_cut.proofs.Worlds.{answered-alike}
+use Rattle.bh_cut.proofs.Answering.{answered-alike}
 use Rattle.bh_commands.specs.Status.{CutStatus}
 
 -- a cut that ended well leaves status 0

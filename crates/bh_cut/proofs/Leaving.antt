@@ -1,5 +1,5 @@
 -- What a line leaves as it is: it asks nothing of groups of other names, and each step is of a group that was registered.
-use Rattle.std.proofs.Common.{◌≡◌, ◌≢◌, ℕ, ◌<◌, ◌≤◌, ◌==◌, true, false, cond, List, [], ◌∷◌, ◌++◌, length, Option, Some, None, Result, Ok, Err, refl, sym, ap, ◌∙◌, subst, arith, length-append}
+use Rattle.std.proofs.Common.{◌≡◌, ◌≢◌, ◌⊎◌, inl, inr, ℕ, ◌<◌, ◌≤◌, ◌==◌, true, false, cond, List, [], ◌∷◌, ◌++◌, length, Option, Some, None, Result, Ok, Err, refl, sym, ap, ◌∙◌, subst, arith, length-append}
 use Rattle.std.proofs.lemmas.Bool.Decides.{nat_tests}
 use Rattle.std.proofs.lemmas.Option.{slice_get_within}
 use Rattle.std.specs.List.{AllByRecursion}
@@ -55,7 +55,7 @@ step-number service entries said x is =
 pub by_act : (P : Result LineAct Fault → Type 0) (service : SettingsView) (entries : List Entry) (asked : Asked)
     → ((fault : Fault) → P (Err fault))
     → ((x : Step) → number_of entries (group_of asked) ≡ Some x.group.0 → P (Ok (act.Step x)))
-    → ((place : ℕ) → P (Ok (act.Register (group_of asked) place)))
+    → ((place : ℕ) → nat_lt (length entries) most_groups ≡ true → P (Ok (act.Register (group_of asked) place)))
     → ((n : ℕ) → number_of entries (group_of asked) ≡ Some n → P (Ok (act.Retire (record { 0 = n }))))
     → P (act_of service entries asked)
 by_act P service entries (a_step said) faulty step register retire =
@@ -63,7 +63,7 @@ by_act P service entries (a_step said) faulty step register retire =
 by_act P service entries (a_group name like) faulty step register retire =
     elim (is_free service entries name) as (λ v. P (cond v (or_fault faults.Like (group_number (names_in service).groups like) >>= λ place. (if nat_lt (length entries) most_groups then Ok (act.Register name place) else Err faults.Groups)) (Err faults.Name))) [
       | true ↦ by_part P (or_fault faults.Like (group_number (names_in service).groups like)) _ faulty
-          (λ place _. elim (nat_lt (length entries) most_groups) as (λ v. P (cond v (Ok (act.Register name place)) (Err faults.Groups))) [ true ↦ register place | false ↦ faulty faults.Groups ])
+          (λ place _. elim (nat_lt (length entries) most_groups) as (λ v. nat_lt (length entries) most_groups ≡ v → P (cond v (Ok (act.Register name place)) (Err faults.Groups))) [ true ↦ λ room. register place room | false ↦ λ _. faulty faults.Groups ] refl)
       | false ↦ faulty faults.Name
     ]
 by_act P service entries (an_end name) faulty step register retire =
@@ -125,7 +125,7 @@ line-leaves service course asked name differ =
     by_act (λ r. Leaves name course (course_with service course r)) service course.entries asked
     (λ fault. leaves-same name course)
     (λ x is. leaves-step name (group_of asked) course x differ is)
-    (λ place. leaves-registration name (group_of asked) course place differ)
+    (λ place _. leaves-registration name (group_of asked) course place differ)
     (λ n is. elim (held_at service course n) as (λ v. Leaves name course (cond v course (record course { entries = without n course.entries }))) [
       | true ↦ leaves-same name course
       | false ↦ leaves-retirement name (group_of asked) course n differ is
@@ -172,5 +172,22 @@ line-grows service course asked =
     by_act (λ r. Grows course (course_with service course r)) service course.entries asked
     (λ fault. grows-same course)
     (λ x is. grows-step course (group_of asked) x is)
-    (λ place. grows-registration course (new_entry (group_of asked) place))
+    (λ place _. grows-registration course (new_entry (group_of asked) place))
     (λ n is. elim (held_at service course n) as (λ v. Grows course (cond v course (record course { entries = without n course.entries }))) [ true ↦ grows-same course | false ↦ grows-retirement course n ])
+
+-- there are no more groups than before, or no more than may be
+abbrev pub IsBounded : Course → Course → Type 0
+IsBounded old new = (length new.entries ≤ length old.entries) ⊎ (length new.entries ≤ most_groups)
+
+bounded-registration : (course : Course) (e : Entry) → nat_lt (length course.entries) most_groups ≡ true → IsBounded course (record course { entries = course.entries ++ e ∷ [] })
+bounded-registration course e room =
+    let few : length course.entries < most_groups = grind (arith, nat_tests) in
+    inr (omega (arith, few, length-append course.entries (e ∷ [])))
+
+pub line-bounded : (service : SettingsView) (course : Course) (asked : Asked) → IsBounded course (course_with service course (act_of service course.entries asked))
+line-bounded service course asked =
+    by_act (λ r. IsBounded course (course_with service course r)) service course.entries asked
+    (λ fault. inl (omega arith))
+    (λ x is. inl (omega arith))
+    (λ place room. bounded-registration course (new_entry (group_of asked) place) room)
+    (λ n is. elim (held_at service course n) as (λ v. IsBounded course (cond v course (record course { entries = without n course.entries }))) [ true ↦ inl (omega arith) | false ↦ inl (omega (arith, length-without course.entries n)) ])

@@ -9,3 +9,5 @@ pub mod Running  -- a cut, from the reader's first byte to its last
 pub mod Numbers  -- the number that a name has among the groups of a run, as these come and go
 pub mod Leaving  -- what a line leaves as it is
 pub mod Worlds  -- the lines of some groups among all others, and alone
+pub mod Single  -- the lines of one of the groups that are kept
+pub mod Answering  -- what is kept of a script is answered as in the whole

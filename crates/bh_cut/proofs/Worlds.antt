@@ -16,7 +16,7 @@ use Rattle.bh_lines.specs.declared.fault.Fault.{Fault}
 use Rattle.bh_lines.specs.declared.fault.Fault.TheVariants as faults
 use Rattle.bh_lines.specs.declared.told.Told.TheVariants as told
 use Rattle.bh_lines.specs.FaultLine.{fault_line}
-use Rattle.bh_lines.specs.Lines.{Cut, line, ended, stopped, cut}
+use Rattle.bh_lines.specs.Lines.{Cut, line, ended, stopped}
 use Rattle.bh_lines.specs.Names.{command_name}
 use Rattle.bh_lines.specs.ScriptLine.{Asked, a_step, a_group, an_end, line_asked}
 use Rattle.bh_lines.specs.StepLine.{◌>>=◌, Said, group_number, if_short, or_fault}
@@ -30,12 +30,11 @@ use Rattle.bh_port.specs.Text.{answer_to, course_with, held_at, is_held, reply_o
 use Rattle.bh_port.proofs.Naming.{entry-pushed, length-without}
 use Rattle.bh_props.specs.Names.{is_name}
 use Rattle.bh_props.specs.SettingsView.{SettingsView}
-use Rattle.bh_cut.specs.Alike.{Answered, IsAnsweredAlike, NoneUsedUp, TextIsAnswers, all_answers, answers, answers_of, text_of}
-use Rattle.bh_cut.specs.Kept.{kept, lines_of}
+use Rattle.bh_cut.specs.Alike.{Answered, NoneUsedUp, TextIsAnswers, all_answers, answers, answers_of, text_of}
+use Rattle.bh_cut.specs.Kept.{lines_of}
 use Rattle.bh_cut.specs.Named.{group_of, is_among, is_asked_of, names_one}
 use Rattle.bh_cut.proofs.Leaving.{IsKnown, Leaves, leaves-same, line-grows, line-leaves}
 use Rattle.bh_cut.proofs.Numbers.{equal, number-pushed, number-there, number-without_same}
-use Rattle.bh_cut.proofs.Pieces.{kept-lines}
 
 -- ---- one group in two runs
 
@@ -68,7 +67,7 @@ abbrev pub IsAlike : Course → Course → List ℕ → Type 0
 IsAlike whole alone name = ((number_of whole.entries name ≡ None) × (number_of alone.entries name ≡ None)) ⊎ IsSame whole alone name
 
 -- what leaves the group in both
-alike-left : (name : List ℕ) (whole alone more fewer : Course) → Leaves name whole more → Leaves name alone fewer → IsAlike whole alone name → IsAlike more fewer name
+pub alike-left : (name : List ℕ) (whole alone more fewer : Course) → Leaves name whole more → Leaves name alone fewer → IsAlike whole alone name → IsAlike more fewer name
 alike-left name whole alone more fewer first second (inl none) = inl (first.number ∙ none.0, second.number ∙ none.1)
 alike-left name whole alone more fewer first second (inr s) = inr (record {
   there = s.there;
@@ -157,6 +156,10 @@ pub record GoesAlike (service : SettingsView) (whole alone : Course) (name : Lis
   pub own : IsAlike (course_with service whole first) (course_with service alone second) name
   pub fewer : length (course_with service alone second).entries ≤ length (course_with service whole first).entries
 
+-- as many groups were registered as may be, and the line is told so
+abbrev pub IsUsedUp : SettingsView → Course → Result LineAct Fault → Type 0
+IsUsedUp service course said = (most_groups ≤ length course.entries) × (answer_to service course said ≡ fault_line faults.Groups)
+
 module _ (service : SettingsView) (whole alone : Course) (name : List ℕ) (alike : IsAlike whole alone name) (fewer : length alone.entries ≤ length whole.entries) where
   goes-fault : (fault : Fault) → GoesAlike service whole alone name (Err fault) (Err fault)
   goes-fault fault = record { answer = refl; own = alike; fewer = fewer }
@@ -231,12 +234,12 @@ module _ (service : SettingsView) (whole alone : Course) (name : List ℕ) (alik
   abbrev register : Bool → Option ℕ → Bool → Result LineAct Fault
   register free place room = cond free (or_fault faults.Like place >>= λ p. cond room (Ok (act.Register name p)) (Err faults.Groups)) (Err faults.Name)
 
-  goes-register : (free : Bool) (place : Option ℕ) (room_whole room_alone : Bool) → IsKnown whole → IsKnown alone → (room_whole ≡ true → room_alone ≡ true)
-      → answer_to service whole (register free place room_whole) ≢ fault_line faults.Groups → GoesAlike service whole alone name (register free place room_whole) (register free place room_alone)
-  goes-register false place first second known_whole known_alone room full = goes-fault faults.Name
-  goes-register true None first second known_whole known_alone room full = goes-fault faults.Like
-  goes-register true (Some place) false second known_whole known_alone room full = absurd (full refl)
-  goes-register true (Some place) true true known_whole known_alone room full = goes-registered place known_whole known_alone
+  goes-register : (free : Bool) (place : Option ℕ) (room_whole room_alone : Bool) → IsKnown whole → IsKnown alone → (room_whole ≡ true → room_alone ≡ true) → (room_whole ≡ false → most_groups ≤ length whole.entries)
+      → GoesAlike service whole alone name (register free place room_whole) (register free place room_alone) ⊎ IsUsedUp service whole (register free place room_whole)
+  goes-register false place first second known_whole known_alone room full = inl (goes-fault faults.Name)
+  goes-register true None first second known_whole known_alone room full = inl (goes-fault faults.Like)
+  goes-register true (Some place) false second known_whole known_alone room full = inr (full refl, refl)
+  goes-register true (Some place) true true known_whole known_alone room full = inl (goes-registered place known_whole known_alone)
   goes-register true (Some place) true false known_whole known_alone room full = absurd (let bad : false ≡ true = room refl in cc)
 
   none-same : is_none (number_of alone.entries name) ≡ is_none (number_of whole.entries name)
@@ -255,11 +258,10 @@ pub record AreAlike (names : List (List ℕ)) (whole alone : Course) : Type 0 wh
   pub known_whole : IsKnown whole
   pub known_alone : IsKnown alone
 
--- a line that asks something of the group of the name
-asked-alike : (service : SettingsView) (whole alone : Course) (asked : Asked) → IsAlike whole alone (group_of asked) → length alone.entries ≤ length whole.entries → IsKnown whole → IsKnown alone
-    → answer_to service whole (act_of service whole.entries asked) ≢ fault_line faults.Groups
-    → GoesAlike service whole alone (group_of asked) (act_of service whole.entries asked) (act_of service alone.entries asked)
-asked-alike service whole alone (a_step said) alike fewer known_whole known_alone full = elim alike [
+-- a step of the group of the name, and its end
+step-alike : (service : SettingsView) (whole alone : Course) (said : Said) → IsAlike whole alone said.group → length alone.entries ≤ length whole.entries
+    → GoesAlike service whole alone said.group (act_of service whole.entries (a_step said)) (act_of service alone.entries (a_step said))
+step-alike service whole alone said alike fewer = elim alike [
   | inl none ↦
       let is_whole : step_of service whole.entries said ≡ Err faults.Group =
       ap (λ found. or_fault faults.Group found >>= λ number. command_said service whole.entries number said.command >>= λ command. if_short command said.op >>= λ o. Ok (made number said o)) none.0 in
@@ -277,13 +279,10 @@ asked-alike service whole alone (a_step said) alike fewer known_whole known_alon
       (subst (λ q. GoesAlike service whole alone said.group ((r >>= λ o. Ok (made s.there said o)) >>= λ x. Ok (act.Step x)) (q >>= λ x. Ok (act.Step x))) (sym is_alone)
       (goes-said service whole alone said.group (inr s) fewer s said r))
 ]
-asked-alike service whole alone (a_group name like) alike fewer known_whole known_alone full =
-    let place = group_number (names_in service).groups like in
-    let room : nat_lt (length whole.entries) most_groups ≡ true → nat_lt (length alone.entries) most_groups ≡ true = λ some. grind (arith, nat_tests) in
-    let free = free-same service whole alone name alike fewer in
-    subst (λ v. GoesAlike service whole alone name (registration service whole.entries name like) (register service whole alone name alike fewer v place (nat_lt (length alone.entries) most_groups))) (sym free)
-    (goes-register service whole alone name alike fewer (is_free service whole.entries name) place (nat_lt (length whole.entries) most_groups) (nat_lt (length alone.entries) most_groups) known_whole known_alone room full)
-asked-alike service whole alone (an_end name) alike fewer known_whole known_alone full = elim alike [
+
+end-alike : (service : SettingsView) (whole alone : Course) (name : List ℕ) → IsAlike whole alone name → length alone.entries ≤ length whole.entries
+    → GoesAlike service whole alone name (act_of service whole.entries (an_end name)) (act_of service alone.entries (an_end name))
+end-alike service whole alone name alike fewer = elim alike [
   | inl none ↦
       subst (λ o. GoesAlike service whole alone name (or_fault faults.Group o >>= λ n. Ok (act.Retire (record { 0 = n }))) (retirement alone.entries name)) (sym none.0)
       (subst (λ o. GoesAlike service whole alone name (Err faults.Group) (or_fault faults.Group o >>= λ n. Ok (act.Retire (record { 0 = n })))) (sym none.1) (goes-fault service whole alone name (inl none) fewer faults.Group))
@@ -293,6 +292,27 @@ asked-alike service whole alone (an_end name) alike fewer known_whole known_alon
       (goes-retired service whole alone name (inr s) fewer s))
 ]
 
+-- a line that asks something of it, unless it is a registration that finds no number left
+pub asked-either : (service : SettingsView) (whole alone : Course) (asked : Asked) → IsAlike whole alone (group_of asked) → length alone.entries ≤ length whole.entries → IsKnown whole → IsKnown alone
+    → GoesAlike service whole alone (group_of asked) (act_of service whole.entries asked) (act_of service alone.entries asked) ⊎ IsUsedUp service whole (act_of service whole.entries asked)
+asked-either service whole alone (a_step said) alike fewer known_whole known_alone = inl (step-alike service whole alone said alike fewer)
+asked-either service whole alone (an_end name) alike fewer known_whole known_alone = inl (end-alike service whole alone name alike fewer)
+asked-either service whole alone (a_group name like) alike fewer known_whole known_alone =
+    let place = group_number (names_in service).groups like in
+    let room : nat_lt (length whole.entries) most_groups ≡ true → nat_lt (length alone.entries) most_groups ≡ true = λ some. grind (arith, nat_tests) in
+    let full : nat_lt (length whole.entries) most_groups ≡ false → most_groups ≤ length whole.entries = λ none. grind (arith, nat_tests) in
+    let free = free-same service whole alone name alike fewer in
+    subst (λ v. GoesAlike service whole alone name (registration service whole.entries name like) (register service whole alone name alike fewer v place (nat_lt (length alone.entries) most_groups)) ⊎ IsUsedUp service whole (registration service whole.entries name like)) (sym free)
+    (goes-register service whole alone name alike fewer (is_free service whole.entries name) place (nat_lt (length whole.entries) most_groups) (nat_lt (length alone.entries) most_groups) known_whole known_alone room full)
+
+pub asked-alike : (service : SettingsView) (whole alone : Course) (asked : Asked) → IsAlike whole alone (group_of asked) → length alone.entries ≤ length whole.entries → IsKnown whole → IsKnown alone
+    → answer_to service whole (act_of service whole.entries asked) ≢ fault_line faults.Groups
+    → GoesAlike service whole alone (group_of asked) (act_of service whole.entries asked) (act_of service alone.entries asked)
+asked-alike service whole alone asked alike fewer known_whole known_alone full = elim (asked-either service whole alone asked alike fewer known_whole known_alone) [
+  | inl goes ↦ goes
+  | inr used ↦ absurd (full used.1)
+]
+
 -- ---- a line more
 
 -- what a line that is kept comes to in both
@@ -300,7 +320,7 @@ pub record StaysAlike (service : SettingsView) (names : List (List ℕ)) (whole 
   pub answer : answer_to service alone second ≡ answer_to service whole first
   pub alike : AreAlike names (course_with service whole first) (course_with service alone second)
 
-kept-asked : (service : SettingsView) (names : List (List ℕ)) (whole alone : Course) (r : Result Asked Fault) → AreAlike names whole alone → is_asked_of names r ≡ true
+pub kept-asked : (service : SettingsView) (names : List (List ℕ)) (whole alone : Course) (r : Result Asked Fault) → AreAlike names whole alone → is_asked_of names r ≡ true
     → answer_to service whole (act_asked service whole.entries r) ≢ fault_line faults.Groups
     → StaysAlike service names whole alone (act_asked service whole.entries r) (act_asked service alone.entries r)
 kept-asked service names whole alone (Err fault) are is full = absurd (let bad : false ≡ true = is in cc)
@@ -319,7 +339,7 @@ kept-asked service names whole alone (Ok asked) are is full =
       };
     }
 
-other-asked : (service : SettingsView) (names : List (List ℕ)) (whole alone : Course) (r : Result Asked Fault) → AreAlike names whole alone → is_asked_of names r ≡ false
+pub other-asked : (service : SettingsView) (names : List (List ℕ)) (whole alone : Course) (r : Result Asked Fault) → AreAlike names whole alone → is_asked_of names r ≡ false
     → AreAlike names (course_with service whole (act_asked service whole.entries r)) alone
 other-asked service names whole alone (Err fault) are is = are
 other-asked service names whole alone (Ok asked) are is =
@@ -374,7 +394,7 @@ answers-front service names (line bytes rest) whole alone are n none =
     ] refl none
 
 -- a run that begins is alike to itself
-begins-alike : (service : SettingsView) (names : List (List ℕ)) → AreAlike names (new_course service) (new_course service)
+pub begins-alike : (service : SettingsView) (names : List (List ℕ)) → AreAlike names (new_course service) (new_course service)
 begins-alike service names = record {
   alike = λ name _. elim (number_of (new_course service).entries name) as (λ o. number_of (new_course service).entries name ≡ o → IsAlike (new_course service) (new_course service) name) [
     | None ↦ λ is. inl (is, is)
@@ -387,7 +407,7 @@ begins-alike service names = record {
   known_alone = tt;
 }
 
-text-answers : (service : SettingsView) (course : Course) (c : Cut) → text service course c ≡ text_of (answers service course c)
+pub text-answers : (service : SettingsView) (course : Course) (c : Cut) → text service course c ≡ text_of (answers service course c)
 unfolding text answers
 text-answers service course ended = refl
 text-answers service course stopped = refl
@@ -399,12 +419,12 @@ pub text-is_answers : TextIsAnswers
 text-is_answers service c = text-answers service (new_course service) c
 
 -- the first answers to the lines that are left are those that they had among all others
-front-alike : (service : SettingsView) (names : List (List ℕ)) (c : Cut) (n : ℕ) → NoneUsedUp (take n (answers_of names (all_answers service c)))
+pub front-alike : (service : SettingsView) (names : List (List ℕ)) (c : Cut) (n : ℕ) → NoneUsedUp (take n (answers_of names (all_answers service c)))
     → take n (all_answers service (lines_of names c)) ≡ take n (answers_of names (all_answers service c))
 front-alike service names c n none = answers-front service names c (new_course service) (new_course service) (begins-alike service names) n none
 
 -- and all are, where no registration was refused for want of a number
-whole-alike : (service : SettingsView) (names : List (List ℕ)) (c : Cut) → NoneUsedUp (answers_of names (all_answers service c))
+pub whole-alike : (service : SettingsView) (names : List (List ℕ)) (c : Cut) → NoneUsedUp (answers_of names (all_answers service c))
     → all_answers service (lines_of names c) ≡ answers_of names (all_answers service c)
 whole-alike service names c none =
     let own_answers = answers_of names (all_answers service c) in
@@ -412,12 +432,3 @@ whole-alike service names c none =
     let n = length own_answers + length alone in
     let all : take n own_answers ≡ own_answers = take_all n own_answers (omega arith) in
     sym (take_all n alone (omega arith)) ∙ front-alike service names c n (subst NoneUsedUp (sym all) none) ∙ all
-
-pub answered-alike : (service : SettingsView) (names : List (List ℕ)) (input : List ℕ) → IsAnsweredAlike service names input
-answered-alike service names input =
-    let same = kept-lines names input in record {
-      lines = same;
-      front = λ n none. ap (λ c. take n (all_answers service c)) same ∙ front-alike service names (cut input) n none;
-      whole = λ none. ap (all_answers service) same ∙ whole-alike service names (cut input) none;
-      text = λ none. text-answers service (new_course service) (cut (kept names input)) ∙ ap text_of (ap (all_answers service) same ∙ whole-alike service names (cut input) none);
-    }

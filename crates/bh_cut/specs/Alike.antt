@@ -1,5 +1,5 @@
 -- The lines of a script with their answers, and what is said of them once some were cut out.
-use Rattle.std.specs.Prelude.{◌≡◌, ◌≢◌, ℕ, List, [], ◌∷◌, ◌++◌, filter, take}
+use Rattle.std.specs.Prelude.{◌≡◌, ◌≢◌, ℕ, true, List, [], ◌∷◌, ◌++◌, filter, take}
 use Rattle.std.specs.List.{AllByRecursion}
 use Rattle.bh_lines.specs.declared.fault.Fault.TheVariants as faults
 use Rattle.bh_lines.specs.FaultLine.{fault_line}
@@ -8,7 +8,7 @@ use Rattle.bh_port.specs.Course.{Course, line_act, new_course}
 use Rattle.bh_port.specs.Text.{answer_to, course_with, text}
 use Rattle.bh_props.specs.SettingsView.{SettingsView}
 use Rattle.bh_cut.specs.Kept.{kept, lines_of}
-use Rattle.bh_cut.specs.Named.{names_one}
+use Rattle.bh_cut.specs.Named.{is_among, names_one}
 
 -- a line with the line that answers it
 pub record Answered : Type 0 where
@@ -42,9 +42,12 @@ text_of (a ∷ rest) = a.answer ++ text_of rest
 
 -- What is kept of a script for the groups is cut into the lines that name them, and these are answered as among all others. A
 -- registration that was refused, since as many groups were registered as may be, can be accepted where fewer lines are left:
--- so the answers are the same up to the first line that was told so, and to the end where none was.
+-- so each group is answered the same up to its own first line that was told so (`own`), all of them together up to the first
+-- of these lines (`front`), and to the end where there is none.
 pub record IsAnsweredAlike (service : SettingsView) (names : List (List ℕ)) (input : List ℕ) : Type 0 where
   pub lines : cut (kept names input) ≡ lines_of names (cut input)
+  pub own : (name : List ℕ) → is_among names name ≡ true → (n : ℕ) → NoneUsedUp (take n (answers_of (name ∷ []) (all_answers service (cut input))))
+      → take n (answers_of (name ∷ []) (all_answers service (cut (kept names input)))) ≡ take n (answers_of (name ∷ []) (all_answers service (cut input)))
   pub front : (n : ℕ) → NoneUsedUp (take n (answers_of names (all_answers service (cut input))))
       → take n (all_answers service (cut (kept names input))) ≡ take n (answers_of names (all_answers service (cut input)))
   pub whole : NoneUsedUp (answers_of names (all_answers service (cut input)))

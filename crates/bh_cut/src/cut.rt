@@ -27,8 +27,9 @@ const MOST_READS: u64 = 1 << 40;
 /// lacks a member or has one of the wrong type, names no group and is left out; one that is at fault for another reason
 /// is kept.
 ///
-/// A script of what was written is answered as these lines are among all others, under any settings: to the end, unless
-/// one of them is told that as many groups were registered as may be, and else up to that line.
+/// A script of what was written is answered as these lines are among all others, under any settings. A registration that
+/// is refused there, since as many groups were registered as may be, can be accepted here: so each group is answered the
+/// same up to its own first line that was told so, and to the end where none was.
 ///
 /// The lines that one read brought to an end are looked at, and those that are kept written together, before the next
 /// read.

@@ -6,7 +6,7 @@ use Rattle.bh_lines.proofs.PortErrors.{unless-ok}
 use Rattle.bh_streams.specs.Watched.{bytes_left, bytes_held}
 use Rattle.bh_port.specs.Script.{IsNotRead}
 use Rattle.bh_cut.proofs.Running.{progress-start, progress-lines, progress-read, progress-stops, progress-ends, progress-front, progress-failed}
-use Rattle.bh_cut.proofs.Worlds.{answered-alike}
+use Rattle.bh_cut.proofs.Answering.{answered-alike}
 use Rattle.bh_cut.proofs.cut.cut_groups.Goals as goal
 
 pub returns-in_err-write_kept-clause-kept : goal.returns-in_err-write_kept-clause-kept
