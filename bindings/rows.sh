@@ -2,8 +2,8 @@
 # Gives scripts of lines to the program, to the program in C over the library (c/run.c) and to the one in Python
 # (../python/examples/run.py), and compares what each writes, byte for byte, and its exit status: the scripts of examples/ and of
 # crates/bulkhead/data, if any, a script of every operation, one of several commands, and inputs that end a script early.
-# Runs the two examples too, which fail where a step of theirs does not go as it should, and what is called on handles
-# that are empty and from several threads (c/handles.c).
+# Runs the examples too, which fail where a step of theirs does not go as it should, those of a slow dependency with the
+# output that docs/SLOW.md has, and what is called on handles that are empty and from several threads (c/handles.c).
 #
 #   bindings/rows.sh [PROGRAM LIBRARY]     both are proved and built where none are given
 set -euo pipefail
@@ -159,5 +159,15 @@ compare "settings that are not UTF-8" check "$work/refused.toml"
 "$here/out/example" >"$work/example"
 python3 "$top/python/examples/steps.py" >>"$work/example"
 "$here/out/handles"
+
+# What docs/SLOW.md says that its examples print.
+for words in "$here/out/slow" "python3 $top/python/examples/slow.py"; do
+    if python3 -c 'import sys; sys.exit(sys.stdin.read() not in open(sys.argv[1]).read())' "$top/docs/SLOW.md" < <($words); then
+        same=$((same + 1))
+    else
+        differ=$((differ + 1))
+        echo "docs/SLOW.md: another output of $words"
+    fi
+done
 echo "$same agree, $differ differ"
 [ "$differ" -eq 0 ]

@@ -1,5 +1,5 @@
 -- What the status of a run says of the text.
-use Rattle.std.proofs.Common.{◌≡◌, ℕ, List, Option, Some, None, Ok, Err, IfSome, arith, sym, subst}
+use Rattle.std.proofs.Common.{◌≡◌, ℕ, List, Option, Some, None, Result, Ok, Err, IfSome, arith, sym, subst}
 use Rattle.bh_lines.specs.declared.port_error.PortError.{PortError}
 use Rattle.bh_lines.specs.declared.port_error.PortError.TheVariants.{Read, Write, Line, Memory}
 use Rattle.std.proofs.Math.Seq.{take-length}
@@ -11,6 +11,7 @@ use Rattle.bh_port.specs.Course.{new_course}
 use Rattle.bh_port.specs.Text.{text}
 use Rattle.bh_port.specs.Script.{ScriptOutcome}
 use Rattle.bh_commands.specs.Status.{RunStatus}
+use Rattle.std.specs.Prelude.{MatchResult}
 use Rattle.bh_props.specs.SettingsView.{SettingsView}
 
 -- a script that ended well leaves status 0
@@ -39,10 +40,20 @@ run-front (Some bytes) service w0 w1 e status is o = record {
   not_refused = λ bad. omega (arith, bad, is);
 }
 
--- the same of a reader and a writer that were watched
-pub run-watched : (i j w0 w1 v0 v1 : Option (List ℕ)) (service : SettingsView) (status : ℕ) → i ≡ j → w0 ≡ v0 → w1 ≡ v1
-    → IfSome i (λ bytes. RunStatus service (cut bytes) w0 w1 status) → IfSome j (λ bytes. RunStatus service (cut bytes) v0 v1 status)
-run-watched i j w0 w1 v0 v1 service status input before after run =
-    subst (λ (k : Option (List ℕ)). IfSome k (λ bytes. RunStatus service (cut bytes) v0 v1 status)) input
-    (subst (λ (v : Option (List ℕ)). IfSome i (λ bytes. RunStatus service (cut bytes) v v1 status)) before
-    (subst (λ (v : Option (List ℕ)). IfSome i (λ bytes. RunStatus service (cut bytes) w0 v status)) after run))
+-- what a script did to a reader and a writer that are watched, it did to those
+pub lines-watched : (i j w0 w1 v0 v1 : Option (List ℕ)) (service : SettingsView) (r : Result (Unit {0}) PortError) → i ≡ j → w0 ≡ v0 → w1 ≡ v1
+    → IfSome i (λ bytes. ScriptOutcome w0 w1 service (new_course service) (cut bytes) r) → IfSome j (λ bytes. ScriptOutcome v0 v1 service (new_course service) (cut bytes) r)
+lines-watched i j w0 w1 v0 v1 service r input before after run =
+    subst (λ (k : Option (List ℕ)). IfSome k (λ bytes. ScriptOutcome v0 v1 service (new_course service) (cut bytes) r)) input
+    (subst (λ (v : Option (List ℕ)). IfSome i (λ bytes. ScriptOutcome v v1 service (new_course service) (cut bytes) r)) before
+    (subst (λ (v : Option (List ℕ)). IfSome i (λ bytes. ScriptOutcome w0 v service (new_course service) (cut bytes) r)) after run))
+
+-- the same of a script whose status says how it ended
+pub run-told : (i j w0 w1 v0 v1 : Option (List ℕ)) (service : SettingsView) (r : Result (Unit {0}) PortError) (status : ℕ) → i ≡ j → w0 ≡ v0 → w1 ≡ v1
+    → MatchResult r (λ _. status ≡ 0) (λ _. status ≡ 3)
+    → IfSome i (λ bytes. ScriptOutcome w0 w1 service (new_course service) (cut bytes) r) → IfSome j (λ bytes. RunStatus service (cut bytes) v0 v1 status)
+run-told i j w0 w1 v0 v1 service (Ok x) status input before after is run =
+    subst (λ (s : ℕ). IfSome j (λ bytes. RunStatus service (cut bytes) v0 v1 s)) (sym is)
+    (run-whole j service v0 v1 x (lines-watched i j w0 w1 v0 v1 service (Ok x) input before after run))
+run-told i j w0 w1 v0 v1 service (Err e) status input before after is run =
+    run-front j service v0 v1 e status is (lines-watched i j w0 w1 v0 v1 service (Err e) input before after run)

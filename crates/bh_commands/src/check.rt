@@ -5,7 +5,7 @@ ghost use Rattle.bh_props.specs.Shown.{settings_view};
 ghost use Rattle.bh_props.specs.SettingsFile.{settings_in};
 ghost use Rattle.bh_commands.specs.Status.{CheckStatus};
 
-use crate::report;
+use crate::{explain, report};
 use bh_lines::PortError;
 use bh_props::{Settings, settings_in};
 use bh_streams::{WatchedWriter, write};
@@ -36,6 +36,26 @@ pub fn check_file<W: Write, E: Write>(
         Ok(settings) => show(alloc, &settings, writer, errors),
         Err(error) => report::settings(errors, error),
     }
+}
+
+/// The same, with a second line on `errors` for settings that are refused, which says what stands in the way.
+pub fn check_explained<W: Write, E: Write>(
+    alloc: Global,
+    settings: &[u8],
+    writer: &mut W,
+    errors: &mut E,
+) -> u8
+    ensures status { (result ≡ 0) ⊎ ((result ≡ 1) ⊎ (result ≡ 3)) }
+    ensures refused_only { result ≡ 1 → IsErr (settings_in settings.now) }
+    ensures refused { IsErr (settings_in settings.now) → ((result ≡ 1) ⊎ (result ≡ 3)) × (writer.new ≡ writer.old) }
+    ensures quiet { result ≡ 0 → errors.new ≡ errors.old }
+    ensures shown { IfOk (settings_in settings.now) (λ service. CheckStatus service (W.contents writer.old) (W.contents writer.new) result) }
+{
+    let status = check_file(alloc, settings, writer, errors);
+    if status == 1 {
+        explain::refused_settings(errors, alloc, settings);
+    }
+    status
 }
 
 /// Writes the lines of the settings, made whole before the first write.

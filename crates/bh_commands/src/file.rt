@@ -1,6 +1,6 @@
 //! The bytes of a settings file.
 
-ghost use Rattle.std.specs.Prelude.{◌≡◌, ◌≤◌, ◌<◌, Err, IfOk, IfSome, length, vec_len};
+ghost use Rattle.std.specs.Prelude.{◌≡◌, ◌≤◌, ◌<◌, IfErr, IfOk, IfSome, length, vec_len};
 
 use std::alloc::Global;
 use std::io;
@@ -35,17 +35,51 @@ impl From<io::Error> for FileError {
     }
 }
 
+/// Why a settings file gave no bytes, and what the system said where it said something.
+#[derive(Clone, Copy, Debug)]
+pub struct Unread {
+    pub error: FileError,
+    pub reason: Option<io::Error>,
+}
+
+impl From<io::Error> for Unread {
+    ghost use Rattle.std.specs.Prelude.{◌≡◌, ◌⊎◌};
+    ghost use Rattle.bh_commands.specs.declared.file.FileError.TheVariants.{Unreadable, Memory};
+
+    ghost from_gives = { λ _ unread. (unread.error ≡ Unreadable) ⊎ (unread.error ≡ Memory) };
+
+    fn from(error: io::Error) -> Unread {
+        Unread {
+            error: FileError::from(error),
+            reason: Some(error),
+        }
+    }
+}
+
+impl From<Unread> for FileError {
+    ghost use Rattle.std.specs.Prelude.{◌≡◌};
+
+    ghost from_gives = { λ unread error. error ≡ unread.error };
+
+    fn from(unread: Unread) -> FileError {
+        unread.error
+    }
+}
+
 /// All bytes of the reader, of which no more are read than one beyond `FILE_LIMIT`: so a stream that never ends is too
 /// long, too.
-pub fn read_file<R: Read + Drop>(alloc: Global, reader: R) -> Result<Vec<u8>, FileError>
+pub fn read_file<R: Read + Drop>(alloc: Global, reader: R) -> Result<Vec<u8>, Unread>
     ensures whole { IfOk result (λ bytes. IfSome (R.remaining reader) (λ input. bytes.items ≡ input)) }
     ensures fits { IfOk result (λ bytes. vec_len bytes ≤ FILE_LIMIT) }
-    ensures too_long { result ≡ Err FileError.TooLong → IfSome (R.remaining reader) (λ input. FILE_LIMIT < length input) }
+    ensures too_long { IfErr result (λ unread. unread.error ≡ FileError.TooLong → IfSome (R.remaining reader) (λ input. FILE_LIMIT < length input)) }
 {
     let mut bytes = Vec::new(alloc);
     reader.take(FILE_LIMIT as u64 + 1).read_to_end(&mut bytes)?;
     if bytes.len() > FILE_LIMIT {
-        return Err(FileError::TooLong);
+        return Err(Unread {
+            error: FileError::TooLong,
+            reason: None,
+        });
     }
     Ok(bytes)
 }

@@ -3,13 +3,16 @@
 
 pub mod check;
 pub mod cut;
+pub mod explain;
 pub mod file;
+pub mod lint;
 pub mod report;
 pub mod run;
 pub mod serve;
 
-pub use check::check_file;
+pub use check::{check_explained, check_file};
 pub use cut::cut_file;
-pub use file::{FILE_LIMIT, FileError, read_file};
-pub use run::run_file;
-pub use serve::{serve_file, watch};
+pub use file::{FILE_LIMIT, FileError, Unread, read_file};
+pub use lint::lint_file;
+pub use run::{Explained, run_explained, run_file};
+pub use serve::{Serving, serve_file, watch};

@@ -3,7 +3,7 @@
 ghost use Rattle.std.specs.Prelude.{◌≡◌, ◌⊎◌, IsErr};
 ghost use Rattle.bh_props.specs.SettingsFile.{settings_in};
 
-use crate::report;
+use crate::{explain, report};
 use bh_props::{Settings, SettingsError, settings_in};
 use bh_serve::{Acceptor, Limits, Reports, serve_through};
 use std::alloc::{AllocError, Global};
@@ -13,6 +13,17 @@ use std::rt::Clock;
 use std::sync::{Arc, Mutex, Wait};
 use std::thread::{JoinHandle, Threads};
 use std::{io, thread};
+
+/// Where a service listens, which connections it serves, and what it says of what is refused.
+#[derive(Clone, Copy)]
+pub struct Serving {
+    /// The port of 127.0.0.1.
+    pub port: u16,
+    /// How many connections it serves, and for how long.
+    pub limits: Limits,
+    /// Whether a second line says more where the settings are refused or the port cannot be bound.
+    pub explains: bool,
+}
 
 /// Serves connections to a port of 127.0.0.1 under the settings, as many as the limits say, and answers the exit status.
 /// Where an input is given, its end tells the service to stop, whatever went before; what it gives does not matter.
@@ -28,8 +39,7 @@ pub fn serve_file<R, I, E>(
     rt: &R,
     alloc: Global,
     settings: &[u8],
-    port: u16,
-    limits: Limits,
+    serving: Serving,
     input: Option<I>,
     mut errors: E,
 ) -> u8
@@ -50,8 +60,14 @@ where
     ensures refused { IsErr (settings_in settings.now) → (result ≡ 1) ⊎ (result ≡ 3) }
 {
     match settings_in(alloc, settings) {
-        Ok(settings) => serve_port(rt, alloc, &settings, port, limits, input, errors),
-        Err(error) => report::settings(&mut errors, error),
+        Ok(settings) => serve_port(rt, alloc, &settings, serving, input, errors),
+        Err(error) => {
+            let status = report::settings(&mut errors, error);
+            if serving.explains {
+                explain::refused_settings(&mut errors, alloc, settings);
+            }
+            status
+        }
     }
 }
 
@@ -60,8 +76,7 @@ fn serve_port<R, I, E>(
     rt: &R,
     alloc: Global,
     settings: &Settings,
-    port: u16,
-    limits: Limits,
+    serving: Serving,
     input: Option<I>,
     mut errors: E,
 ) -> u8
@@ -79,13 +94,20 @@ where
         + 'static,
     ensures { (result ≡ 0) ⊎ (result ≡ 3) }
 {
-    let Ok(listener) = TcpListener::bind(rt, (Ipv4Addr::LOCALHOST, port)) else {
-        return report::network(&mut errors);
+    let listener = match TcpListener::bind(rt, (Ipv4Addr::LOCALHOST, serving.port)) {
+        Ok(listener) => listener,
+        Err(error) => {
+            let status = report::network(&mut errors);
+            if serving.explains {
+                explain::unbound_port(&mut errors, serving.port, &error);
+            }
+            return status;
+        }
     };
     let Ok(address) = listener.local_addr() else {
         return report::network(&mut errors);
     };
-    let Ok(acceptor) = shared_acceptor(alloc, limits) else {
+    let Ok(acceptor) = shared_acceptor(alloc, serving.limits) else {
         return report::settings(&mut errors, SettingsError::Memory);
     };
     let watcher = match input {

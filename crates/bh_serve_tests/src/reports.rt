@@ -4,13 +4,14 @@ use crate::acceptor::{End, at_a_time};
 use crate::talks::{
     THREE_GROUPS, assert_bytes, assert_call, assert_end, assert_heard, connect, listen, say,
 };
-use bh_props::settings_in;
+use bh_props::{Settings, settings_in};
 use bh_serve::{Acceptor, Reports, serve_through};
 use std::io::Write;
 use std::net::{Net, SocketAddr, TcpListener, TcpStream};
 use std::process::Abort;
 use std::rt::Clock;
 use std::sync::{Condvar, Mutex, Wait};
+use std::thread::Threads;
 use std::{io, thread};
 
 /// So many connections end by a fault after the first one.
@@ -74,13 +75,13 @@ impl Gate {
 
 /// A standard error behind a gate.
 #[derive(Drop)]
-struct Gated<'a, R> {
+struct Gated<'a, 'g, R> {
     rt: &'a R,
-    gate: &'a Gate,
+    gate: &'g Gate,
     written: Vec<u8>,
 }
 
-impl<R: Wait> Write for Gated<'_, R> {
+impl<R: Wait> Write for Gated<'_, '_, R> {
     fn write(&mut self, buf: &[u8]) -> io::Result<usize> {
         self.gate.pass(self.rt);
         self.written.write(buf)
@@ -116,47 +117,79 @@ fn fail_often<R: Net<Listener = TcpListener, Stream = TcpStream> + Wait + Abort 
     assert_call(rt, &other, "b", "hi", r#"{"body":"hi","reply":"value"}"#);
 }
 
+/// Serves the connections of the listener, and answers the status, and whether all texts were written in the time for them.
+fn serve_held<R: Threads + Wait + Clock + AllocGlobal + Sync>(
+    rt: &R,
+    acceptor: &Acceptor,
+    listener: &TcpListener,
+    settings: &Settings,
+    reports: &Reports,
+    end: &End,
+) -> (u8, bool) {
+    let mut output = io::sink();
+    let alloc = rt.alloc();
+    let status = serve_through(
+        rt,
+        alloc,
+        acceptor,
+        listener,
+        settings,
+        &mut output,
+        reports,
+    );
+    let all_written = reports.finish(rt);
+    end.come(rt);
+    (status, all_written)
+}
+
+/// The faults, the end of the service in its time, and a reader at last.
+fn visit_held<
+    R: Net<Listener = TcpListener, Stream = TcpStream> + Wait + Clock + Abort + AllocGlobal,
+>(rt: &R, address: SocketAddr, acceptor: &Acceptor, gate: &Gate, end: &End) {
+    fail_often(rt, address, gate);
+    acceptor.tell(rt, address);
+    end.await_in_time(rt);
+    gate.open(rt);
+}
+
 #[test]
 fn a_standard_error_that_nobody_reads_holds_up_nothing(rt: HostRuntime) {
-    let listener = listen(&rt);
-    let address = listener.local_addr().expect(&rt, "an address");
-    let acceptor = Acceptor::new(rt.alloc(), at_a_time(2)).expect(&rt, "memory");
-    let settings = settings_in(rt.alloc(), THREE_GROUPS.as_bytes()).expect(&rt, "settings");
+    assert_not_held_up(&rt);
+}
+
+/// Asserts that a service whose texts nobody reads answers and ends, and that each text is written or counted afterwards.
+fn assert_not_held_up<R>(rt: &R)
+where
+    R: Threads
+        + Wait
+        + Clock
+        + Net<Listener = TcpListener, Stream = TcpStream>
+        + Abort
+        + AllocGlobal
+        + Sync,
+{
+    let listener = listen(rt);
+    let address = listener.local_addr().expect(rt, "an address");
+    let acceptor = Acceptor::new(rt.alloc(), at_a_time(2)).expect(rt, "memory");
+    let settings = settings_in(rt.alloc(), THREE_GROUPS.as_bytes()).expect(rt, "settings");
     let (gate, end, reports) = (Gate::new(), End::new(), Reports::new());
     let errors = Mutex::new(Gated {
-        rt: &rt,
+        rt,
         gate: &gate,
         written: Vec::new(rt.alloc()),
     });
-    let serve = || {
-        let mut output = io::sink();
-        let status = serve_through(
-            &rt,
-            rt.alloc(),
-            &acceptor,
-            &listener,
-            &settings,
-            &mut output,
-            &reports,
-        );
-        let all_written = reports.finish(&rt);
-        end.come(&rt);
-        (status, all_written)
-    };
-    let visit = || {
-        fail_often(&rt, address, &gate);
-        acceptor.tell(&rt, address);
-        end.await_in_time(&rt);
-        gate.open(&rt);
-    };
     let (((status, all_written), ()), ()) = thread::join(
-        &rt,
-        || thread::join(&rt, serve, visit),
-        || reports.write_to(&rt, &errors),
+        rt,
+        || thread::join(
+            rt,
+            || serve_held(rt, &acceptor, &listener, &settings, &reports, &end),
+            || visit_held(rt, address, &acceptor, &gate, &end),
+        ),
+        || reports.write_to(rt, &errors),
     );
-    assert_end(&rt, status, 0);
-    assert!(&rt; !all_written, "nobody read, and all was written");
-    assert_texts(&rt, &errors.into_inner().written);
+    assert_end(rt, status, 0);
+    assert!(rt; !all_written, "nobody read, and all was written");
+    assert_texts(rt, &errors.into_inner().written);
 }
 
 /// Asserts that each fault was told or counted.

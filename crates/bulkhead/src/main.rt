@@ -4,7 +4,10 @@
 #[cfg(test)]
 mod tests;
 
-use bh_commands::{FileError, check_file, cut_file, read_file, report, run_file, serve_file};
+use bh_commands::{
+    Serving, Unread, check_explained, check_file, cut_file, explain, lint_file, read_file, report,
+    run_explained, run_file, serve_file,
+};
 use bh_props::SettingsError;
 use bh_serve::Limits;
 use clap::error::ErrorKind;
@@ -80,31 +83,54 @@ where
         }
     };
     match matches.subcommand() {
-        Some(("check", found)) => Ok(check_path(rt, found.get_str("FILE").unwrap_or(""))),
+        Some(("check", found)) => Ok(check_path(rt, file_in(found))),
         Some(("cut", found)) => Ok(cut_path(
             rt,
             found.get_str("FILE").unwrap_or(""),
             found.get_strs("group").unwrap_or(&[]),
         )),
-        Some(("run", found)) => Ok(run_path(rt, found.get_str("FILE").unwrap_or(""))),
+        Some(("lint", found)) => Ok(lint_path(
+            rt,
+            found.get_str("FILE").unwrap_or(""),
+            found.get_flag("deny-warnings"),
+        )),
+        Some(("run", found)) => Ok(run_path(rt, file_in(found))),
         Some(("serve", found)) => Ok(serve_path(
             rt,
             handles,
-            found.get_str("FILE").unwrap_or(""),
-            found.get_one::<u16>("port").unwrap_or(0),
-            limits_in(found),
+            file_in(found),
+            serving_in(found),
             ends_with_input(found),
         )),
         _ => Ok(BAD_ARGUMENTS),
     }
 }
 
-/// What the arguments of `serve` say of connections.
-fn limits_in(found: &ArgMatches<'_>) -> Limits {
-    Limits {
-        connections: found.get_one::<u32>("connections").unwrap_or(1),
-        keep_serving: found.get_flag("keep-serving") || found.get_flag("forever"),
-        idle_seconds: found.get_one::<u32>("idle").unwrap_or(0),
+/// The settings file of a command, and whether what is refused is explained.
+#[derive(Clone, Copy)]
+struct SettingsFile<'a> {
+    path: &'a str,
+    explains: bool,
+}
+
+/// What the arguments say of the settings file.
+fn file_in<'a>(found: &ArgMatches<'a>) -> SettingsFile<'a> {
+    SettingsFile {
+        path: found.get_str("FILE").unwrap_or(""),
+        explains: found.get_flag("explain"),
+    }
+}
+
+/// What the arguments of `serve` say of its port and its connections.
+fn serving_in(found: &ArgMatches<'_>) -> Serving {
+    Serving {
+        port: found.get_one::<u16>("port").unwrap_or(0),
+        limits: Limits {
+            connections: found.get_one::<u32>("connections").unwrap_or(1),
+            keep_serving: found.get_flag("keep-serving") || found.get_flag("forever"),
+            idle_seconds: found.get_one::<u32>("idle").unwrap_or(0),
+        },
+        explains: found.get_flag("explain"),
     }
 }
 
@@ -119,12 +145,13 @@ fn command<'a>(alloc: Global) -> Result<Command<'a>, AllocError> {
         .about("Runs commands in groups that cannot take from one another")
         .version(VERSION)
         .subcommand_required(true)
-        .subcommand(with_file(
+        .subcommand(with_explained_file(
             alloc,
             "check",
             "Prints every property in force for each group of the settings",
         )?)?
-        .subcommand(with_file(
+        .subcommand(lint_command(alloc)?)?
+        .subcommand(with_explained_file(
             alloc,
             "run",
             "Answers each step on standard input, a line of JSON, by a line",
@@ -153,9 +180,27 @@ fn group<'a>(alloc: Global) -> Arg<'a> {
         .action(ArgAction::Append)
 }
 
+/// The subcommand that tells what is amiss.
+fn lint_command<'a>(alloc: Global) -> Result<Command<'a>, AllocError> {
+    with_file(
+        alloc,
+        "lint",
+        "Tells all that is amiss in the settings, a line each: what check refuses, and what is there to no purpose",
+    )?
+    .arg(deny_warnings(alloc))
+}
+
+/// Whether a warning counts as an error.
+fn deny_warnings<'a>(alloc: Global) -> Arg<'a> {
+    Arg::new(alloc, "deny-warnings")
+        .long("deny-warnings")
+        .help("Ends with status 1 where there are warnings alone, too")
+        .action(ArgAction::SetTrue)
+}
+
 /// The subcommand that serves connections.
 fn serve_command<'a>(alloc: Global) -> Result<Command<'a>, AllocError> {
-    with_file(
+    with_explained_file(
         alloc,
         "serve",
         "Answers control lines, lines of JSON, on connections to a port of 127.0.0.1",
@@ -228,33 +273,61 @@ fn with_file<'a>(alloc: Global, name: &'a str, about: &'a str) -> Result<Command
     Command::new(alloc, name).about(about).arg(file)
 }
 
+/// A subcommand over a settings file that can say more of what is refused or at fault.
+fn with_explained_file<'a>(
+    alloc: Global,
+    name: &'a str,
+    about: &'a str,
+) -> Result<Command<'a>, AllocError> {
+    let explain = Arg::new(alloc, "explain")
+        .long("explain")
+        .help("Says more on standard error of what is refused or at fault")
+        .action(ArgAction::SetTrue);
+    with_file(alloc, name, about)?.arg(explain)
+}
+
 /// Prints what is in force under the settings of the file.
-fn check_path(rt: &HostRuntime, path: &str) -> u8 {
+fn check_path(rt: &HostRuntime, file: SettingsFile<'_>) -> u8 {
+    let (alloc, mut errors) = (rt.alloc(), rt.stderr());
+    let settings = match read_path(rt, file.path) {
+        Ok(settings) => settings,
+        Err(unread) => return refuse_file(&mut errors, file, &unread),
+    };
+    let (mut writer, settings) = (io::writer(rt), settings.as_slice());
+    if file.explains {
+        return check_explained(alloc, settings, &mut writer, &mut errors);
+    }
+    check_file(alloc, settings, &mut writer, &mut errors)
+}
+
+/// Tells what is amiss in the settings of the file.
+fn lint_path(rt: &HostRuntime, path: &str, denies_warnings: bool) -> u8 {
     let mut errors = rt.stderr();
     match read_path(rt, path) {
-        Ok(settings) => check_file(
+        Ok(settings) => lint_file(
             rt.alloc(),
+            path,
             settings.as_slice(),
+            denies_warnings,
             &mut io::writer(rt),
             &mut errors,
         ),
-        Err(error) => report::unreadable(&mut errors, error),
+        Err(unread) => report::unreadable(&mut errors, unread.error),
     }
 }
 
 /// Runs standard input under the settings of the file.
-fn run_path(rt: &HostRuntime, path: &str) -> u8 {
-    let mut errors = rt.stderr();
-    match read_path(rt, path) {
-        Ok(settings) => run_file(
-            rt.alloc(),
-            settings.as_slice(),
-            &mut rt.reader(),
-            &mut io::writer(rt),
-            &mut errors,
-        ),
-        Err(error) => report::unreadable(&mut errors, error),
+fn run_path(rt: &HostRuntime, file: SettingsFile<'_>) -> u8 {
+    let (alloc, mut errors) = (rt.alloc(), rt.stderr());
+    let settings = match read_path(rt, file.path) {
+        Ok(settings) => settings,
+        Err(unread) => return refuse_file(&mut errors, file, &unread),
+    };
+    let (mut reader, mut writer, settings) = (rt.reader(), io::writer(rt), settings.as_slice());
+    if file.explains {
+        return run_explained(alloc, settings, reader, writer, errors).status;
     }
+    run_file(alloc, settings, &mut reader, &mut writer, &mut errors)
 }
 
 /// Cuts the lines of the groups out of standard input.
@@ -269,7 +342,7 @@ fn cut_path(rt: &HostRuntime, path: &str, names: &[&str]) -> u8 {
             &mut io::writer(rt),
             &mut errors,
         ),
-        Err(error) => report::unreadable(&mut errors, error),
+        Err(unread) => report::unreadable(&mut errors, unread.error),
     }
 }
 
@@ -277,9 +350,8 @@ fn cut_path(rt: &HostRuntime, path: &str, names: &[&str]) -> u8 {
 fn serve_path<R>(
     rt: &HostRuntime,
     handles: &R,
-    path: &str,
-    port: u16,
-    limits: Limits,
+    file: SettingsFile<'_>,
+    serving: Serving,
     ends_with_input: bool,
 ) -> u8
 where
@@ -293,22 +365,30 @@ where
         + Sync
         + 'static,
 {
-    match read_path(rt, path) {
+    match read_path(rt, file.path) {
         Ok(settings) => serve_file(
             handles,
             rt.alloc(),
             settings.as_slice(),
-            port,
-            limits,
+            serving,
             ends_with_input.then(|| rt.reader()),
             rt.stderr(),
         ),
-        Err(error) => report::unreadable(&mut rt.stderr(), error),
+        Err(unread) => refuse_file(&mut rt.stderr(), file, &unread),
     }
 }
 
+/// Says that the settings file gave no bytes, and answers the exit status.
+fn refuse_file<E: Write>(errors: &mut E, file: SettingsFile<'_>, unread: &Unread) -> u8 {
+    let status = report::unreadable(errors, unread.error);
+    if file.explains {
+        explain::unread_file(errors, file.path, unread);
+    }
+    status
+}
+
 /// The bytes of the settings file.
-fn read_path(rt: &HostRuntime, path: &str) -> Result<Vec<u8>, FileError> {
+fn read_path(rt: &HostRuntime, path: &str) -> Result<Vec<u8>, Unread> {
     let file = File::open(rt, path)?;
     read_file(rt.alloc(), file)
 }

@@ -41,6 +41,7 @@ fn assert_status<
 const REFUSED: &str = "bulkhead
 bulkhead stop
 bulkhead check
+bulkhead run --explain
 bulkhead run settings.toml more
 bulkhead cut
 bulkhead cut settings.toml
@@ -65,6 +66,7 @@ fn refused_arguments_leave_status_2(rt: HostRuntime) {
     assert_status(&rt, &rt, "bulkhead --help", 0);
     assert_status(&rt, &rt, "bulkhead check no-such-file", 3);
     assert_status(&rt, &rt, "bulkhead cut no-such-file --group a --group b", 3);
+    assert_status(&rt, &rt, "bulkhead run --explain no-such-file", 3);
 }
 
 const NO_FILE: &str = "error: the following required arguments were not provided:

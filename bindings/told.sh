@@ -1,0 +1,125 @@
+#!/bin/bash
+# What the program tells its user: each refusal and fault with the fixed text, its status and, with --explain, the line that
+# says more, and the same output without it; and that the man page has the commands and options of --help, no more, no fewer.
+#
+#   bindings/told.sh [PROGRAM]     PROGRAM is proved and built where none is given
+set -euo pipefail
+
+top=$(cd "$(dirname "$0")/.." && pwd)
+program=$(realpath "${1:-$top/crates/bulkhead/out/bulkhead}")
+if [ $# -eq 0 ]; then
+    (cd "$top/crates/bulkhead" && rt run -- --help >/dev/null)
+fi
+work=$(mktemp -d)
+busy=
+trap 'kill $busy 2>/dev/null || true; chmod -R u+rwx "$work"; rm -r "$work"' EXIT
+cd "$work"
+same=0 differ=0
+
+# Counts whether two texts agree: `agree WHAT FOUND WANTED`.
+agree() {
+    if [ "$2" = "$3" ]; then
+        same=$((same + 1))
+    else
+        differ=$((differ + 1))
+        printf '%s differs\n--- %s\n+++ %s\n' "$1" "$3" "$2"
+    fi
+}
+
+# Runs the words over the input, with --explain and without: `tells STATUS FIXED MORE WORDS..`.
+tells() {
+    local wanted=$1 fixed=$2 more=$3 status=0
+    shift 3
+    "$program" "$@" <input >plain.out 2>plain.err || status=$?
+    agree "the status of $*" "$status" "$wanted"
+    agree "the errors of $*" "$(cat plain.err)" "$fixed"
+    status=0
+    "$program" "$@" --explain <input >more.out 2>more.err || status=$?
+    agree "the status of $* --explain" "$status" "$wanted"
+    agree "the errors of $* --explain" "$(cat more.err)" "${fixed:+$fixed$'\n'}$more"
+    agree "the output of $* --explain" "$(cat more.out)" "$(cat plain.out)"
+}
+
+# The same of a settings file, read from here: `refuses FIXED MORE`.
+refuses() {
+    cat >settings.toml
+    tells 1 "settings refused: $1" "explain: $2" check settings.toml
+    tells 1 "settings refused: $1" "explain: $2" run settings.toml
+    tells 1 "settings refused: $1" "explain: $2" serve settings.toml --port 1
+}
+
+: >input
+refuses "1 syntax" "line 4, column 1: invalid key, expected letters, numbers, \`-\`, \`_\` or a quoted key" <<'END'
+service.groups = ["payment"]
+
+[hystrix.threadpool.payment]
+== 3
+END
+refuses "1 syntax" "line 2, column 1: duplicate key" <<'END'
+service.groups = ["payment"]
+service.groups = ["catalog"]
+END
+printf 'service.groups = ["a"]\n# \xff\n' | refuses "1 syntax" "line 2, column 3: a byte that is not UTF-8"
+refuses "1 syntax" "line 2, column 39: number out of range" <<'END'
+service.groups = ["payment"]
+hystrix.threadpool.payment.coreSize = 12345678901234567890
+END
+refuses "7 out of range: payment coreSize" "hystrix.threadpool.payment.coreSize is 100; it has to be an integer from 1 to 64" <<'END'
+service.groups = ["payment"]
+hystrix.threadpool.payment.coreSize = 100
+END
+refuses "7 out of range: payment execution.isolation.strategy" "hystrix.command.default.execution.isolation.strategy is \"Thread\"; it has to be \"THREAD\" or \"SEMAPHORE\"" <<'END'
+service.groups = ["payment"]
+hystrix.command.default.execution.isolation.strategy = "Thread"
+END
+
+echo 'service.groups = ["payment"]' >settings.toml
+tells 3 "fault: file" "explain: none.toml: No such file or directory (os error 2)" check none.toml
+tells 3 "fault: file" "explain: $work: Is a directory (os error 21)" run "$work"
+if [ "$(id -u)" -ne 0 ]; then
+    cp settings.toml secret.toml
+    chmod 000 secret.toml
+    tells 3 "fault: file" "explain: secret.toml: Permission denied (os error 13)" serve secret.toml --port 1
+fi
+
+python3 -c 'import socket, time
+taken = socket.create_server(("127.0.0.1", 0))
+print(taken.getsockname()[1], flush=True)
+time.sleep(600)' >port &
+busy=$!
+until [ -s port ]; do sleep 0.02; done
+port=$(cat port)
+tells 3 "fault: network" "explain: port $port of 127.0.0.1: Address already in use (os error 98)" serve settings.toml --port "$port"
+kill "$busy"
+busy=
+if [ "$(id -u)" -ne 0 ] && [ "$(cat /proc/sys/net/ipv4/ip_unprivileged_port_start)" -gt 1 ]; then
+    tells 3 "fault: network" "explain: port 1 of 127.0.0.1: Permission denied (os error 13)" serve settings.toml --port 1
+fi
+
+cat >input <<'END'
+{"op":"submit","group":"payment","now":0,"arg":"order 3"}
+{"op":"finish","group":"payment","now":1,"body":"paid"}
+{"op":"start","group":"paymnt","now":1}
+END
+tells 0 "" "explain: line 2: ticket is missing; it has to be a whole number from 0 to 18446744073709551615
+explain: line 3: there is no group \"paymnt\"" run settings.toml
+printf '{"op":"start","group":"payment","now":1}\n%01025d\n' 0 >input
+tells 3 "fault: line" "explain: line 2: more than 1024 bytes, the most that a line may have" run settings.toml
+
+# Commands and options, one a line: of --help, of the program and of each command, and of the man page.
+options() {
+    grep -oE '(^|[ ,])--?[a-zA-Z][a-z-]*( <?[A-Z]+>?)?' | tr -d '<>,' | sed 's/^ *//' | sort -u
+}
+commands=$("$program" --help | sed -n '/^Commands:/,/^$/p' | awk '/^  / { print $1 }')
+helped=$({ "$program" --help; for command in $commands; do [ "$command" = help ] || "$program" "$command" --help; done; } |
+    sed -n '/^Options:/,/^$/p' | grep -oE '^ +(-[a-zA-Z], )?--[a-z-]+( <[A-Z]+>)?' | options)
+page=$top/docs/bulkhead.1
+paged=$(sed -n '/^\.SH OPTIONS/,/^\.SH EXIT/p' "$page" | grep -A 1 '^\.TP' | grep -E '^\.BI? |^\.BR ' | sed 's/^\.B[IR]* //; s/\\-/-/g; s/[",]/ /g; s/  */ /g' | options)
+agree "the options of the man page" "$paged" "$helped"
+agree "the commands of the man page" \
+    "$(sed -n '/^\.SH COMMANDS/,/^\.SH OPTIONS/p' "$page" | sed -n 's/^\.B //p' | sort)" "$(sort <<<"$commands")"
+agree "the version of the man page" "$(sed -n 's/^\.TH .*"\(bulkhead [0-9.]*\)".*/\1/p' "$page")" \
+    "$("$program" --version | sed -n '1s/^[^ ]*/bulkhead/p')"
+
+echo "$same agree, $differ differ"
+[ "$differ" -eq 0 ]

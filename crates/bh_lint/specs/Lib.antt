@@ -1,0 +1,9 @@
+-- Tables of a file, values in force that are in doubt, and findings of both:
+pub mod Table  -- the tables that are looked into, and the names in them that are looked up
+pub mod Doubt  -- values in force that can hardly be meant
+pub mod Finding  -- what a finding tells of a file
+pub mod Findings  -- all errors and warnings of a file
+pub mod Lines  -- the lines that tell findings
+pub mod Refuses  -- the errors beside the first refusal of a check
+pub mod Report  -- what is told of the bytes of a settings file
+pub mod Reports  -- a report, and the findings that it is on

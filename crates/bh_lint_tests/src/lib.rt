@@ -1,0 +1,5 @@
+//! Tests of what a lint tells of settings files.
+#![tactic(auto)]
+
+#[cfg(test)]
+mod files;
