@@ -109,7 +109,10 @@ fn cut(
 fn a_cut_is_written_whole_or_in_part(rt: HostRuntime) {
     let (asked, _answers) = both_sides(rt.alloc(), CACHE).expect(&rt, "memory");
     // The last line has no operation that there is.
-    let (want, _last) = asked.as_str().split_once("{\"op\":\"jump\"").unwrap_or(("", ""));
+    let (want, _last) = asked
+        .as_str()
+        .split_once("{\"op\":\"jump\"")
+        .unwrap_or(("", ""));
     for nth in 1..MANY {
         let (told, written) = cut(rt.alloc(), nth, asked.as_bytes()).expect(&rt, "memory");
         let none_refused = assert_true_want(&rt, nth, told.is_ok());

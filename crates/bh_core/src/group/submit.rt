@@ -42,12 +42,7 @@ impl Group {
             return None;
         }
         match &request.cache {
-            Some((context, key)) => tickets.find_cached(
-                self.place,
-                request.command,
-                *context,
-                key,
-            ),
+            Some((context, key)) => tickets.find_cached(self.place, request.command, *context, key),
             None => None,
         }
     }
@@ -121,7 +116,13 @@ impl Group {
     }
 
     /// The request runs, or waits for a worker, where there is room for it.
-    fn run_or_queue(&mut self, tickets: &mut Tickets, request: &Request, test: bool, reply: &mut Reply)
+    fn run_or_queue(
+        &mut self,
+        tickets: &mut Tickets,
+        request: &Request,
+        test: bool,
+        reply: &mut Reply,
+    )
         requires has { HasTickets tickets.old self.old }
         requires bounded { IsBounded (view_in tickets.old self.old) }
         requires known { request.now.command < command_count self.old.props }
@@ -177,11 +178,7 @@ impl Group {
         ensures done { IsDoneBy (view_in tickets.old self.old) (rejected (props_of request.now.command self.old.props).strategy request.now test (view_in tickets.old self.old).present) reply.new (view_in tickets.new self.new) }
         ensures left { Leaves tickets.old self.old tickets.new self.new }
     {
-        self.tell_circuit(
-            request.command,
-            tickets.next_serial(self.place),
-            End::Error,
-        );
+        self.tell_circuit(request.command, tickets.next_serial(self.place), End::Error);
         match self.props.command(request.command).strategy {
             Strategy::Semaphore => {
                 self.fall_back_from(
