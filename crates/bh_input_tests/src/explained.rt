@@ -217,7 +217,7 @@ fn lines_and_said<R: Abort + AllocGlobal>(rt: &R) -> (Vec<u8>, Vec<u8>) {
                 write!(&mut said, "explain: line {number}: {what}\n").expect(rt, "memory");
             }
             None => {
-                number += 1;
+                number = number.wrapping_add(1);
                 write!(&mut input, "{line}\n").expect(rt, "memory");
             }
         }
