@@ -5,6 +5,7 @@
 use bh_audit::{Book, Pass, Shared};
 use bh_base::{Answer, CallError, Cause, FallbackEnd, GroupId, Request, RunEnd, Text};
 use bh_core::Core;
+use bh_props::Settings;
 use bh_serve::clock::{MachineClock, Ticks};
 use bh_workers::{Dependency, call, timer_loop, worker_loop};
 use std::alloc::Global;
@@ -148,17 +149,20 @@ fn service(alloc: Global) -> io::Result<Shared> {
         ErrorKind::InvalidInput,
         "the settings are refused",
     ))?;
-    let mut core = Core::new(alloc, MOST_SLOTS);
-    for (_name, props) in settings.groups.iter() {
-        let Ok(_group) = core.register(props, MOST_STEPS) else {
-            return Err(io::Error::from(ErrorKind::OutOfMemory));
-        };
-    }
-    let book = Book::new(alloc, core, None).ok();
+    let book = core_of(alloc, &settings).and_then(|core| Book::new(alloc, core, None).ok());
     match book.and_then(|book| Shared::new(alloc, book).ok()) {
         Some(shared) => Ok(shared),
         None => Err(io::Error::from(ErrorKind::OutOfMemory)),
     }
+}
+
+/// A core with the groups of the settings. None comes where memory was refused.
+fn core_of(alloc: Global, settings: &Settings) -> Option<Core> {
+    let mut core = Core::new(alloc, MOST_SLOTS);
+    for (_name, props) in settings.groups.iter() {
+        core.register(props, MOST_STEPS).ok()?;
+    }
+    Some(core)
 }
 
 /// What each thread has at hand.
