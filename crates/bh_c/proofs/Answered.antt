@@ -1,6 +1,6 @@
 -- What a line is answered, from what was done for it.
 use Rattle.std.proofs.Common.{◌≡◌, ℕ, List, Some, Ok, Err, Result, ◌∙◌, ap, sym, subst}
-use Rattle.bh_lines.specs.declared.fault.Fault.{Fault}
+use Rattle.bh_faults.specs.declared.fault.Fault.{Fault}
 use Rattle.bh_port.specs.declared.act.LineAct.{LineAct}
 use Rattle.bh_port.specs.Course.{Course, line_act}
 use Rattle.bh_port.specs.GroupsView.{GroupsView}

@@ -3,9 +3,9 @@ use Rattle.std.specs.Prelude.{◌≡◌, ℕ, ◌<◌, List, length, Some, None,
 use Rattle.bh_base.specs.declared.reply.Reply.{Reply}
 use Rattle.bh_base.specs.declared.step.Step.{Step}
 use Rattle.bh_core.specs.Step.{IsStep}
-use Rattle.bh_lines.specs.declared.fault.Fault.{Fault}
-use Rattle.bh_lines.specs.FaultLine.{fault_line}
-use Rattle.bh_lines.specs.ToldLine.{told_line}
+use Rattle.bh_faults.specs.declared.fault.Fault.{Fault}
+use Rattle.bh_replies.specs.FaultLine.{fault_line}
+use Rattle.bh_replies.specs.ToldLine.{told_line}
 use Rattle.bh_port.specs.declared.act.LineAct.{LineAct}
 use Rattle.bh_port.specs.GroupsView.{GroupsView}
 use Rattle.bh_port.specs.Course.{Course, line_act}

@@ -5,9 +5,9 @@ use Rattle.bh_lines.specs.declared.port_error.PortError.{PortError}
 use Rattle.bh_lines.specs.declared.port_error.PortError.TheVariants.{Read, Write, Line, Memory}
 use Rattle.bh_lines.specs.Lines.{stopped, cut, has_line, lines_then}
 use Rattle.bh_lines.proofs.LinesThen.{lines_then-append, IsBehind-more}
-use Rattle.bh_lines.specs.declared.fault.Fault.{Fault}
-use Rattle.bh_lines.specs.FaultLine.{fault_line, fault_word, error_data}
-use Rattle.bh_lines.specs.ReplyLine.{reply_line, reply_data}
+use Rattle.bh_faults.specs.declared.fault.Fault.{Fault}
+use Rattle.bh_replies.specs.FaultLine.{fault_line, fault_word, error_data}
+use Rattle.bh_replies.specs.ReplyLine.{reply_line, reply_data}
 use Rattle.serde_json.specs.Written.{compact_text}
 use Rattle.bh_base.specs.declared.reply.Answer.{Answer}
 use Rattle.bh_base.specs.declared.reply.CallError.{CallError}

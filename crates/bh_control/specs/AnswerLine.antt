@@ -9,10 +9,10 @@ use Rattle.bh_base.specs.declared.reply.CallError.{CallError}
 use Rattle.bh_base.specs.declared.reply.CallError.TheVariants as call_errors
 use Rattle.bh_base.specs.declared.reply.Reply.{Reply}
 use Rattle.bh_base.specs.declared.reply.Reply.TheVariants as reply
-use Rattle.bh_lines.specs.declared.fault.Fault.{Fault}
+use Rattle.bh_faults.specs.declared.fault.Fault.{Fault}
 use Rattle.bh_lines.specs.Names.{Names}
-use Rattle.bh_lines.specs.ReplyLine.{text_member, json_line, reply_line}
-use Rattle.bh_lines.specs.FaultLine.{error_data, fault_line}
+use Rattle.bh_replies.specs.ReplyLine.{text_member, json_line, reply_line}
+use Rattle.bh_replies.specs.FaultLine.{error_data, fault_line}
 use Rattle.bh_control.specs.declared.control_line.ControlLine.{ControlLine}
 use Rattle.bh_control.specs.declared.control_line.ControlLine.TheVariants as lines
 use Rattle.bh_control.specs.ControlLine.{control_line}

@@ -6,8 +6,8 @@ use Rattle.serde_json.specs.Find.{get}
 use Rattle.serde_json.specs.Read.{read}
 use Rattle.bh_base.specs.declared.step.GroupId.{GroupId}
 use Rattle.bh_base.specs.declared.step.Request.{Request}
-use Rattle.bh_lines.specs.declared.fault.Fault.{Fault}
-use Rattle.bh_lines.specs.declared.fault.Fault.TheVariants as faults
+use Rattle.bh_faults.specs.declared.fault.Fault.{Fault}
+use Rattle.bh_faults.specs.declared.fault.Fault.TheVariants as faults
 use Rattle.bh_lines.specs.Names.{Names}
 use Rattle.bh_lines.specs.StepLine.{◌>>=◌, or_fault, text_at, number_at, cache_of, command_of, command_in, is_short_name, group_number}
 use Rattle.bh_control.specs.declared.control_line.ControlWord.{ControlWord}

@@ -1,6 +1,6 @@
 -- What is taken of the bytes that have come, and what it asks.
 use Rattle.std.specs.Prelude.{◌≡◌, ℕ, ◌<◌, false, List, ◌++◌, length, Option, Some, None, Result, Ok, Err}
-use Rattle.bh_lines.specs.declared.fault.Fault.{Fault}
+use Rattle.bh_faults.specs.declared.fault.Fault.{Fault}
 use Rattle.bh_lines.specs.declared.port_error.PortError.{PortError}
 use Rattle.bh_lines.specs.declared.port_error.PortError.TheVariants.{Read, Write, Line, Memory}
 use Rattle.bh_lines.specs.Lines.{line, ended, stopped, cut, has_line}

@@ -7,13 +7,13 @@ ghost use Rattle.bh_control.specs.ControlLine.{IsOfGroups};
 ghost use Rattle.bh_base.specs.declared.reply.Answer.{Answer};
 ghost use Rattle.bh_base.specs.declared.reply.CallError.{CallError};
 ghost use Rattle.bh_base.specs.declared.reply.Reply.{Reply};
-ghost use Rattle.bh_lines.specs.ReplyLine.{reply_line};
+ghost use Rattle.bh_replies.specs.ReplyLine.{reply_line};
 ghost use Rattle.bh_control.specs.AnswerLine.{responder, texts_data, groups_data, groups_line, answer_line, may_wait, IsPut, IsAnswer};
 
 use crate::control::Control;
 use crate::control_line::{Asked, ControlLine};
 use bh_base::{Answer, CallError, GroupId, Reply, Request, Text};
-use bh_lines::{json_line, put_error, put_fault, put_reply};
+use bh_replies::{json_line, put_error, put_fault, put_reply};
 use serde_json::{Value, json};
 use std::alloc::{AllocError, Global};
 

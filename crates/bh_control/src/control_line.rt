@@ -7,7 +7,7 @@ ghost use Rattle.bh_control.specs.ControlLine.{control_word, request_of, control
 
 use crate::control::Control;
 use bh_base::{GroupId, Request, Text};
-use bh_lines::Fault;
+use bh_faults::Fault;
 use bh_lines::flat::FlatObject;
 use bh_lines::members::{Members, value_of};
 use bh_lines::step_line::{cache_of, command_of, short_name};

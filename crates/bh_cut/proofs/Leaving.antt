@@ -8,8 +8,8 @@ use Rattle.std.specs.Str.{bytes_eq}
 use Rattle.bh_base.specs.declared.step.Step.{Step}
 use Rattle.bh_base.specs.Runs.{own}
 use Rattle.bh_core.specs.CoreView.{most_groups}
-use Rattle.bh_lines.specs.declared.fault.Fault.{Fault}
-use Rattle.bh_lines.specs.declared.fault.Fault.TheVariants as faults
+use Rattle.bh_faults.specs.declared.fault.Fault.{Fault}
+use Rattle.bh_faults.specs.declared.fault.Fault.TheVariants as faults
 use Rattle.bh_lines.specs.ScriptLine.{Asked, a_step, a_group, an_end}
 use Rattle.bh_lines.specs.StepLine.{◌>>=◌, Said, group_number, if_short, or_fault}
 use Rattle.bh_port.specs.declared.act.LineAct.{LineAct}

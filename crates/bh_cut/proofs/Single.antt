@@ -4,9 +4,9 @@ use Rattle.std.specs.Prelude.{◌||◌}
 use Rattle.std.specs.Str.{bytes_eq}
 use Rattle.std.specs.Cmp.Lexicographic.{bytes_decides}
 use Rattle.bh_core.specs.CoreView.{most_groups}
-use Rattle.bh_lines.specs.declared.fault.Fault.{Fault}
-use Rattle.bh_lines.specs.declared.fault.Fault.TheVariants as faults
-use Rattle.bh_lines.specs.FaultLine.{fault_line}
+use Rattle.bh_faults.specs.declared.fault.Fault.{Fault}
+use Rattle.bh_faults.specs.declared.fault.Fault.TheVariants as faults
+use Rattle.bh_replies.specs.FaultLine.{fault_line}
 use Rattle.bh_lines.specs.Lines.{Cut, line, ended, stopped}
 use Rattle.bh_lines.specs.ScriptLine.{Asked, line_asked}
 use Rattle.bh_port.specs.Course.{Course, act_asked, act_of, line_act, new_course}

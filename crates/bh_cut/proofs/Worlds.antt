@@ -12,15 +12,15 @@ use Rattle.bh_base.specs.declared.step.Op.{Op}
 use Rattle.bh_base.specs.declared.step.Step.{Step}
 use Rattle.bh_base.specs.Runs.{State, own, state_after, step}
 use Rattle.bh_core.specs.CoreView.{most_groups}
-use Rattle.bh_lines.specs.declared.fault.Fault.{Fault}
-use Rattle.bh_lines.specs.declared.fault.Fault.TheVariants as faults
-use Rattle.bh_lines.specs.declared.told.Told.TheVariants as told
-use Rattle.bh_lines.specs.FaultLine.{fault_line}
+use Rattle.bh_faults.specs.declared.fault.Fault.{Fault}
+use Rattle.bh_faults.specs.declared.fault.Fault.TheVariants as faults
+use Rattle.bh_replies.specs.declared.told.Told.TheVariants as told
+use Rattle.bh_replies.specs.FaultLine.{fault_line}
 use Rattle.bh_lines.specs.Lines.{Cut, line, ended, stopped}
 use Rattle.bh_lines.specs.Names.{command_name}
 use Rattle.bh_lines.specs.ScriptLine.{Asked, a_step, a_group, an_end, line_asked}
 use Rattle.bh_lines.specs.StepLine.{◌>>=◌, Said, group_number, if_short, or_fault}
-use Rattle.bh_lines.specs.ToldLine.{told_line}
+use Rattle.bh_replies.specs.ToldLine.{told_line}
 use Rattle.bh_port.specs.declared.act.LineAct.{LineAct}
 use Rattle.bh_port.specs.declared.act.LineAct.TheVariants as act
 use Rattle.bh_port.specs.declared.groups.Entry.{Entry}

@@ -1,8 +1,8 @@
 -- The lines of a script with their answers, and what is said of them once some were cut out.
 use Rattle.std.specs.Prelude.{◌≡◌, ◌≢◌, ℕ, true, List, [], ◌∷◌, ◌++◌, filter, take}
 use Rattle.std.specs.List.{AllByRecursion}
-use Rattle.bh_lines.specs.declared.fault.Fault.TheVariants as faults
-use Rattle.bh_lines.specs.FaultLine.{fault_line}
+use Rattle.bh_faults.specs.declared.fault.Fault.TheVariants as faults
+use Rattle.bh_replies.specs.FaultLine.{fault_line}
 use Rattle.bh_lines.specs.Lines.{Cut, line, ended, stopped, cut}
 use Rattle.bh_port.specs.Course.{Course, line_act, new_course}
 use Rattle.bh_port.specs.Text.{answer_to, course_with, text}

@@ -4,14 +4,7 @@ pub mod Taking  -- what the codec's answers say of the bytes in the buffer
 pub mod Fronting  -- the line in front, found by its line feed
 pub mod LinesThen  -- lines in front of others, and what is left behind a line feed
 pub mod PortErrors  -- what is known where no error was answered
--- Pieces put behind bytes:
-pub mod Putting  -- pieces that are put behind bytes, one after the other
-pub mod Unescaped  -- texts that stand in a string as they are
-pub mod Texts  -- the texts that are put are the compact texts of the values
-pub mod Counting  -- the counts of events, as they are put and as JSON has them
-pub mod Sending  -- what is printed of the tokens that were sent
-pub mod Rooms  -- the room that objects with texts of any bytes take
--- Lines that are read:
+-- What a line asks for:
 pub mod FlatReading  -- the members of an object that holds scalars alone: how they are put, and what is found of them
 pub mod PlainLanes  -- sixteen bytes of a text at once: where the first stands at which its plain bytes stop
 pub mod PlainReading  -- plain lines: the tokens that their bytes are, and the members of these

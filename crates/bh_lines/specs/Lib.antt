@@ -8,9 +8,3 @@ pub mod StepLine  -- the step that an object says, or the fault
 pub mod ScriptLine  -- what a line of a script asks for, or its fault
 pub mod Flat  -- the data of an object whose members hold no others
 pub mod Plain  -- what stands in front of a text, and the tokens that it is
--- The lines that answer:
-pub mod ReplyLine  -- the lines of replies
-pub mod Puts  -- what is put behind bytes
-pub mod Sent  -- what is sent to a writer of JSON
-pub mod FaultLine  -- the lines of faults
-pub mod ToldLine  -- the lines of what a line of a script is told

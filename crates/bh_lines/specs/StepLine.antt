@@ -9,8 +9,8 @@ use Rattle.bh_base.specs.declared.step.FallbackEnd.{FallbackEnd}
 use Rattle.bh_base.specs.declared.step.FallbackEnd.TheVariants as ends
 use Rattle.bh_base.specs.declared.step.Op.{Op}
 use Rattle.bh_base.specs.declared.step.Op.TheVariants as op
-use Rattle.bh_lines.specs.declared.fault.Fault.{Fault}
-use Rattle.bh_lines.specs.declared.fault.Fault.TheVariants as faults
+use Rattle.bh_faults.specs.declared.fault.Fault.{Fault}
+use Rattle.bh_faults.specs.declared.fault.Fault.TheVariants as faults
 use Rattle.bh_lines.specs.declared.step_line.OpWord.{OpWord}
 use Rattle.bh_lines.specs.declared.step_line.OpWord.TheVariants as words
 use Rattle.bh_lines.specs.declared.step_line.EndLine.{EndLine}

@@ -7,8 +7,8 @@ ghost use Rattle.serde_json.specs.Read.{read};
 ghost use Rattle.bh_lines.specs.Flat.{scalar_data, members_data};
 ghost use Rattle.bh_lines.specs.StepLine.{text_at, number_at, truth_at, command_of, number_if_any, found_command};
 
-use crate::fault::Fault;
 use crate::flat::{FlatObject, Scalar};
+use bh_faults::Fault;
 use serde_json::Value;
 use std::alloc::{AllocError, Global};
 

@@ -4,9 +4,9 @@ ghost use Rattle.std.specs.Prelude.{◌≡◌};
 ghost use Rattle.bh_lines.specs.Flat.{members_data};
 ghost use Rattle.bh_lines.specs.ScriptLine.{line_word, asked_at, asked_by, found_asked};
 
-use crate::fault::Fault;
 use crate::members::Members;
 use crate::step_line::{OpWord, StepLine, op_word, step_said};
+use bh_faults::Fault;
 
 /// What a line can ask for by the word that it names: a step, or a group that comes or goes.
 #[derive(Clone, Copy, Debug, PartialEq, Eq)]

@@ -5,9 +5,9 @@ ghost use Rattle.serde_json.specs.Find.{get};
 ghost use Rattle.bh_lines.specs.Flat.{members_data};
 ghost use Rattle.bh_lines.specs.StepLine.{op_word, cache_of, command_of, op_said, if_short, step_said, op_view, cache_view, command_view, found_op, found_cache, found_command, found_said, is_short_name, fallback_end_of, end_view, found_end, is_short_end};
 
-use crate::fault::Fault;
 use crate::members::Members;
 use bh_base::{FallbackEnd, Op, Request, Text};
+use bh_faults::Fault;
 
 /// The operations that a line can name.
 #[derive(Clone, Copy, Debug, PartialEq, Eq)]

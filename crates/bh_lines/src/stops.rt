@@ -1,6 +1,6 @@
 //! Where the plain bytes of a text stop: at a quote, a backslash or a control byte.
 //!
-//! There a text that is read ends or has an escape, and at the same bytes one that is put needs an escape.
+//! There a text that is read ends or has an escape.
 
 ghost use Rattle.std.specs.Prelude.{◌≡◌, ◌+◌, ◌≤◌, length, drop, map, MatchOption, IfSome};
 ghost use Rattle.std.specs.List.{prefix_len};
@@ -51,7 +51,7 @@ fn plain_end_of_few(bytes: &[u8], from: usize) -> usize
     ensures within { result ≤ length bytes.now }
 {
     let mut end = from;
-    while end < bytes.len() && !is_stop_alone(bytes[end]) {
+    while end < bytes.len() && !is_stop(bytes[end]) {
         end += 1;
     }
     end
@@ -82,18 +82,10 @@ fn stops_in(bytes: u8x16) -> u64
     (quotes | backslashes | controls).to_bitmask()
 }
 
-/// Whether the byte is a stop, found without a branch, so that a loop over many looks at some together.
+/// Whether the byte is a stop. Most are letters, which stand behind the backslash.
 #[inline(always)]
-pub(crate) fn is_stop(byte: u8) -> bool
+fn is_stop(byte: u8) -> bool
     ensures { result ≡ is_stop byte }
 {
-    (byte == b'"') | (byte == b'\\') | (byte < b' ')
-}
-
-/// The same for a byte alone. Most are letters, which stand behind the backslash.
-#[inline(always)]
-fn is_stop_alone(byte: u8) -> bool
-    ensures { result ≡ is_stop byte }
-{
-    byte <= b'\\' && is_stop(byte)
+    byte <= b'\\' && ((byte == b'"') | (byte == b'\\') | (byte < b' '))
 }

@@ -8,8 +8,8 @@ use Rattle.bh_base.specs.Runs.{State, opened, view, state_after, own}
 use Rattle.bh_core.specs.CoreView.{CoreView, living, most_groups}
 use Rattle.bh_props.specs.Names.{is_name}
 use Rattle.bh_props.specs.SettingsView.{SettingsView}
-use Rattle.bh_lines.specs.declared.fault.Fault.{Fault}
-use Rattle.bh_lines.specs.declared.fault.Fault.TheVariants as faults
+use Rattle.bh_faults.specs.declared.fault.Fault.{Fault}
+use Rattle.bh_faults.specs.declared.fault.Fault.TheVariants as faults
 use Rattle.bh_lines.specs.Names.{Names, further_number}
 use Rattle.bh_lines.specs.ScriptLine.{Asked, a_step, a_group, an_end, line_asked}
 use Rattle.bh_lines.specs.StepLine.{◌>>=◌, or_fault, group_number, if_short, Said}

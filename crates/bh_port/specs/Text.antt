@@ -6,13 +6,13 @@ use Rattle.bh_base.specs.declared.reply.Reply.TheVariants as reply
 use Rattle.bh_base.specs.Runs.{State, step, view}
 use Rattle.bh_core.specs.Looks.{is_in_use}
 use Rattle.bh_props.specs.SettingsView.{SettingsView}
-use Rattle.bh_lines.specs.declared.fault.Fault.{Fault}
-use Rattle.bh_lines.specs.declared.told.Told.{Told}
-use Rattle.bh_lines.specs.declared.told.Told.TheVariants as told
-use Rattle.bh_lines.specs.FaultLine.{fault_line}
+use Rattle.bh_faults.specs.declared.fault.Fault.{Fault}
+use Rattle.bh_replies.specs.declared.told.Told.{Told}
+use Rattle.bh_replies.specs.declared.told.Told.TheVariants as told
+use Rattle.bh_replies.specs.FaultLine.{fault_line}
 use Rattle.bh_lines.specs.Lines.{Cut, line, ended, stopped}
 use Rattle.bh_lines.specs.Names.{command_name}
-use Rattle.bh_lines.specs.ToldLine.{told_line}
+use Rattle.bh_replies.specs.ToldLine.{told_line}
 use Rattle.bh_port.specs.declared.act.LineAct.{LineAct}
 use Rattle.bh_port.specs.declared.act.LineAct.TheVariants as act
 use Rattle.bh_port.specs.declared.groups.Entry.{Entry}

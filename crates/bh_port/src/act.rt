@@ -1,7 +1,7 @@
 //! What a line asks of the groups of a run, and what it is told.
 
 ghost use Rattle.std.specs.Prelude.{◌≡◌, Err, IfOk, IfSome, MatchResult, Ok, OnErr, OnOk, option_copied};
-ghost use Rattle.bh_lines.specs.declared.told.Told.TheVariants as told;
+ghost use Rattle.bh_replies.specs.declared.told.Told.TheVariants as told;
 ghost use Rattle.bh_lines.specs.Flat.{members_data};
 ghost use Rattle.bh_lines.specs.ScriptLine.{asked_at};
 ghost use Rattle.bh_props.specs.SettingsView.{SettingsView};
@@ -18,11 +18,12 @@ use crate::places::CommandPlaces;
 use crate::steps::{group_number, tell_step};
 use bh_base::{GroupId, Reply, Step, Text};
 use bh_core::MOST_GROUPS;
+use bh_faults::Fault;
 use bh_lines::flat::FlatObject;
 use bh_lines::members::{Members, value_of};
 use bh_lines::script_line::{ScriptLine, asked_at};
-use bh_lines::{Fault, Told};
 use bh_props::{Settings, is_name};
+use bh_replies::Told;
 use json::Scratch;
 use std::alloc::{AllocError, Global};
 

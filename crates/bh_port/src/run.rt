@@ -4,8 +4,8 @@ ghost use Rattle.std.specs.Prelude.{◌≡◌, ◌⊎◌, ◌++◌, ◌<◌, ℕ
 ghost use Rattle.bh_props.specs.Shown.{settings_view};
 ghost use Rattle.bh_lines.specs.Lines.{cut, has_line};
 ghost use Rattle.bh_lines.specs.Taken.{IsMemoryOrLine};
-ghost use Rattle.bh_lines.specs.FaultLine.{fault_line};
-ghost use Rattle.bh_lines.specs.ToldLine.{told_line};
+ghost use Rattle.bh_replies.specs.FaultLine.{fault_line};
+ghost use Rattle.bh_replies.specs.ToldLine.{told_line};
 ghost use Rattle.bh_streams.specs.Watched.{writer_of, bytes_held, OneRefused, NoneRefused};
 ghost use Rattle.bh_port.specs.CommandPlaces.{AreCommandPlaces};
 ghost use Rattle.bh_port.specs.Course.{Course, IsActOf};
@@ -16,10 +16,10 @@ use crate::act::{LineAct, line_act};
 use crate::groups::Groups;
 use crate::places::CommandPlaces;
 use bh_base::Reply;
-use bh_lines::{
-    Fault, PortError, front_line, last_line, next_line, put_fault, put_reply, put_told,
-};
+use bh_faults::Fault;
+use bh_lines::{PortError, front_line, last_line, next_line};
 use bh_props::Settings;
+use bh_replies::{put_fault, put_reply, put_told};
 use bh_streams::{WatchedWriter, write};
 use bytes::BytesMut;
 use json::Scratch;

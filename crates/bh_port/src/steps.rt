@@ -10,7 +10,7 @@ use crate::act::LineAct;
 use crate::commands::command_at;
 use crate::groups::Groups;
 use bh_base::{GroupId, GroupProps, Op, Step, Text};
-use bh_lines::Fault;
+use bh_faults::Fault;
 use bh_lines::step_line::{StepLine, if_short};
 use bh_props::Settings;
 use indexmap::IndexMap;

@@ -1,5 +1,5 @@
 use Rattle.std.proofs.Common.{ap, subst, ◌++◌, ◌∙◌, ◌∷◌, []}
-use Rattle.bh_lines.specs.ToldLine.{told_line}
+use Rattle.bh_replies.specs.ToldLine.{told_line}
 use Rattle.bh_c.specs.Buffers.{IsWritten}
 use Rattle.bh_c.proofs.service.Service.line_of_act.Goals as goal
 

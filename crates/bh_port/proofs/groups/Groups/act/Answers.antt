@@ -1,6 +1,6 @@
 use Rattle.std.proofs.Common.{◌≡◌, true, false, ◌∙◌, ap, sym, subst}
 use Rattle.std.specs.Prelude.{if◌then◌else◌}
-use Rattle.bh_lines.specs.declared.told.Told.TheVariants as told
+use Rattle.bh_replies.specs.declared.told.Told.TheVariants as told
 use Rattle.bh_props.specs.Shown.{settings_view}
 use Rattle.bh_port.specs.Course.{IsActOf}
 use Rattle.bh_port.specs.Entries.{without}

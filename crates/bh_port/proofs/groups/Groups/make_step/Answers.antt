@@ -1,5 +1,5 @@
 use Rattle.std.proofs.Common.{◌∙◌, ap}
-use Rattle.bh_lines.specs.declared.told.Told.TheVariants as told
+use Rattle.bh_replies.specs.declared.told.Told.TheVariants as told
 use Rattle.bh_props.specs.Shown.{settings_view}
 use Rattle.bh_port.specs.Text.{told_name, told_reply}
 use Rattle.bh_port.proofs.Showing.{agrees-step, reply-step}

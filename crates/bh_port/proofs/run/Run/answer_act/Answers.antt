@@ -1,6 +1,6 @@
 use Rattle.std.proofs.Common.{◌++◌, ◌∙◌, ap, sym}
-use Rattle.bh_lines.specs.ReplyLine.{reply_line}
-use Rattle.bh_lines.specs.ToldLine.{told_line}
+use Rattle.bh_replies.specs.ReplyLine.{reply_line}
+use Rattle.bh_replies.specs.ToldLine.{told_line}
 use Rattle.bh_props.specs.Shown.{settings_view}
 use Rattle.bh_port.specs.Text.{told_by}
 use Rattle.bh_port.proofs.Outcomes.{on_ok}

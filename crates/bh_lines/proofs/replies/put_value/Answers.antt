@@ -1,7 +1,0 @@
-use Rattle.std.proofs.Common.{arith}
-use Rattle.bh_lines.proofs.Putting.{object-put}
-use Rattle.bh_lines.proofs.Texts.{value-text}
-use Rattle.bh_lines.proofs.replies.put_value.Goals as goal
-
-pub returns : goal.returns
-returns c = object-put _ _ _ _ _ _ _ c.put_around_string.ensures (value-text c.args.body.now) (omega arith)

@@ -1,5 +1,0 @@
-use Rattle.bh_lines.proofs.Rooms.{fallback_value-sent}
-use Rattle.bh_lines.proofs.replies.write_fallback_value.Goals as goal
-
-pub returns : goal.returns
-returns c = fallback_value-sent _ _ _ c.args.cause c.args.body.now _ c.cause_word.ensures c.write_object.ensures

@@ -1,7 +1,0 @@
-use Rattle.std.proofs.Common.{arith}
-use Rattle.bh_lines.proofs.Putting.{object-put}
-use Rattle.bh_lines.proofs.Texts.{registered-text}
-use Rattle.bh_lines.proofs.told.put_registered.Goals as goal
-
-pub returns : goal.returns
-returns c = object-put _ _ _ _ _ _ _ c.put_around_string.ensures (registered-text c.args.name.now) (omega arith)

@@ -1,8 +1,0 @@
-use Rattle.bh_lines.specs.ToldLine.{registered_data}
-use Rattle.bh_lines.proofs.Putting.{object-same}
-use Rattle.bh_lines.proofs.Rooms.{registered-room}
-use Rattle.serde_json.proofs.Texts.{print-outline}
-use Rattle.bh_lines.proofs.told.write_registered.Goals as goal
-
-pub returns : goal.returns
-returns c = object-same _ _ _ _ _ _ _ c.write_object.ensures (print-outline (registered_data c.args.name.now)) (registered-room c.args.name.now)

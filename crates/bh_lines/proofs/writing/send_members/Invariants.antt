@@ -1,7 +1,0 @@
-use Rattle.std.proofs.Common.{drop}
-use Rattle.bh_lines.specs.Sent.{member_tokens}
-use Rattle.bh_lines.proofs.Sending.{Leaves}
-use Rattle.bh_lines.proofs.writing.send_members.Given as goal
-
-abbrev pub invariant-loop-member : goal.invariant-loop-member
-invariant-loop-member l = Leaves l.fn.writer l.writer (member_tokens (drop l.member-index l.members)) (member_tokens l.members)
