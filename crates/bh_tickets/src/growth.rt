@@ -81,8 +81,10 @@ pub fn add_slots(
     Ok(())
 }
 
-/// What lies in a slot that has no ticket.
-pub fn blank_ticket() -> Ticket {
+/// What lies in a slot that has no ticket: its serial is 0, which no ticket has.
+pub fn blank_ticket() -> Ticket
+    ensures { result.serial ≡ 0 }
+{
     Ticket {
         serial: 0,
         command: 0,

@@ -2,7 +2,7 @@
 
 ghost use Rattle.std.specs.Prelude.{◌≡◌, ◌≢◌, ◌+◌, ◌<◌, ◌≤◌, ◌^◌, List, length, true, IfOk, IfSome, OnErr, Some};
 ghost use Rattle.bh_base.specs.declared.ticket.Ticket.{Ticket};
-ghost use Rattle.bh_slot_arena.specs.Slots.{lists_in};
+ghost use Rattle.bh_slot_arena.specs.Slots.{lists_in, with_payload};
 ghost use Rattle.bh_cache.specs.Slots.{IsApart};
 ghost use Rattle.bh_tickets.specs.declared.names.NameLists.{NameLists};
 ghost use Rattle.bh_tickets.specs.GroupSlots.{IsGroupSlots, no_slot_taken};
@@ -65,19 +65,20 @@ fn spare_lists(
     Ok(lists)
 }
 
-/// A place for a group, with lists for so many slots and no slot: one that a retired group left, else a new one behind the
-/// others. Refused, the arena may have some empty lists more.
+/// A place for a group, with lists for so many slots and no slot: the first from the place `from` on that a retired group
+/// left, else a new one behind the others. Refused, the arena may have some empty lists more.
 pub fn take_place(
     arena: &mut Arena<Ticket, 3>,
     groups: &mut Vec<GroupSlots>,
     names: &mut Vec<NameLists>,
+    from: usize,
     slots: u64,
 ) -> Result<usize, AllocError>
     ensures ok { IfOk result (λ place. GetsPlace (chains_for slots) place arena.old groups.old.items names.old.items arena.new groups.new.items names.new.items) }
     ensures err { OnErr result (StaysWhole arena.old groups.old.items names.old.items arena.new groups.new.items names.new.items) }
 {
     let chains = chains_for(slots);
-    match left_place(groups) {
+    match left_place(groups, from) {
         Some(place) => fit_place(arena, groups, names, place, chains),
         None => new_place(arena, groups, chains),
     }
@@ -125,12 +126,12 @@ fn new_place(
     Ok(place)
 }
 
-/// A place whose group has no slot.
-fn left_place(groups: &[GroupSlots]) -> Option<usize>
+/// The first place from the place `from` on whose group has no slot.
+fn left_place(groups: &[GroupSlots], from: usize) -> Option<usize>
     ensures { IfSome result (λ place. IsLeft place groups.now) }
 {
-    for (place, group) in groups.iter().enumerate() {
-        if has_no_slots(group) {
+    for place in from..groups.len() {
+        if has_no_slots(&groups[place]) {
             return Some(place);
         }
     }
@@ -172,9 +173,20 @@ fn take_slot(arena: &mut Arena<Ticket, 3>, from: &GroupLists, to: &GroupLists)
     arena.partition(0);
     arena.partition(1);
     arena.partition(2);
-    arena.set(slot, blank_ticket());
+    blank(arena, slot);
     arena.move_to_back(0, slot, to.free);
     place_free(arena, to, slot);
+}
+
+/// Nothing is left of the tickets that the slot had. One that had none since it was blank is not written again: it has the
+/// serial 0, which no ticket has.
+fn blank(arena: &mut Arena<Ticket, 3>, slot: u32)
+    requires { slot < length arena.old.payloads }
+    ensures { (t : Ticket) × (arena.new ≡ with_payload slot t arena.old) × (t.serial ≡ 0) }
+{
+    if arena.get(slot).serial != 0 {
+        arena.set(slot, blank_ticket());
+    }
 }
 
 /// All slots of a group go to one without tickets, and have none then. It takes no memory.

@@ -33,6 +33,8 @@ pub struct Tickets {
     /// The slots of retired groups, as those of a group without tickets.
     spare: Option<GroupSlots>,
     groups: Vec<GroupSlots>,
+    /// No place before it was left by a retired group, so that a registration need not look there.
+    first_left: usize,
     /// Chains by cache name that retired groups left, and that no group has.
     names: Vec<NameLists>,
     /// Where a ticket is looked for first. What they tell changes no answer.
@@ -59,6 +61,7 @@ impl Tickets {
             arena: new_arena(alloc, limit),
             spare: None,
             groups: Vec::new(alloc),
+            first_left: 0,
             names: Vec::new(alloc),
             hints: SerialHints::new(alloc),
         }
@@ -86,8 +89,11 @@ impl Tickets {
         ensures ok { IfOk result (λ place. HasPlace place slots self.old self.new) }
         ensures err { OnErr result (self.new ≡ self.old) }
     {
+        let left = self.first_left;
         let from = ready_spare(&mut self.arena, &mut self.spare, slots)?;
-        let place = take_place(&mut self.arena, &mut self.groups, &mut self.names, slots)?;
+        let names = &mut self.names;
+        let place = take_place(&mut self.arena, &mut self.groups, names, left, slots)?;
+        self.first_left = place;
         let to = self.groups[place].lists;
         take_slots(&mut self.arena, &from, &to, slots);
         self.arena.partition(0);
@@ -111,6 +117,7 @@ impl Tickets {
         self.arena.partition(0);
         self.spare = Some(vacant(&self.arena, &spare.lists));
         self.groups[place] = vacant(&self.arena, &group.lists);
+        self.first_left = self.first_left.min(place);
     }
 
     /// How many tickets a group has.

@@ -13,9 +13,9 @@ returns c =
     let from = c.args.from.now in
     let to = c.args.to.now in
     let slot = c.in-Some.slot in
-    let made = c.place_free.ensures ∙ ap (with_placed to slot None) (c.move_to_back.ensures.moved ∙ ap (with_moved 0 slot to.free) c.set.ensures) in
+    let made = c.place_free.ensures ∙ ap (with_placed to slot None) (c.move_to_back.ensures.moved ∙ ap (with_moved 0 slot to.free) c.blank.ensures.1) in
     subst (λ (z : Slots). IsTaken 1 from to a z) (sym made)
-    (taken_one a from to slot c.blank_ticket.result c.requires.giver c.requires.taker c.requires.apart
+    (taken_one a from to slot c.blank.ensures.0 c.requires.giver c.requires.taker c.requires.apart
     (arena_is a 0 (omega (arith, c.partition.ensures.families)) c.partition.ensures.lists)
     (arena_is a 1 (omega (arith, c.partition.ensures.families)) c.partition-2.ensures.lists)
     (arena_is a 2 (omega (arith, c.partition.ensures.families)) c.partition-3.ensures.lists)
