@@ -28,12 +28,13 @@ pub struct GroupSlots {
     pub next: Serial,
     /// How many of the tickets are queued, of whatever command.
     pub queued: u64,
-    /// What is counted of the tickets of each command, by its number.
-    pub commands: [CommandCounts; 16],
     /// The slots of the tickets that may be needed no more; others may be among them.
     pub needless: Noted,
     /// In which order the tickets were submitted and started.
     pub order: TicketOrder,
+    /// What is counted of the tickets of each command, by its number. It is long and comes last, so that what each step reads
+    /// lies together.
+    pub commands: [CommandCounts; 16],
 }
 
 impl GroupSlots {
@@ -46,9 +47,9 @@ impl GroupSlots {
             slots: Permits::new(slots),
             next: 1,
             queued: 0,
-            commands: [CommandCounts::new(); 16],
             needless: nothing(),
             order: TicketOrder::new(),
+            commands: [CommandCounts::new(); 16],
         }
     }
 }
@@ -129,7 +130,9 @@ fn move_on(arena: &mut Arena<Ticket, 3>, slot: u32, from: usize, to: usize)
     }
 }
 
-/// The ticket in the slot changes in place, and so does what is counted of it and the list on which it lies.
+/// The ticket in the slot changes in place, and so does what is counted of it and the list on which it lies. Most changes
+/// leave most of that as it is, so each gets code of its own.
+#[inline(always)]
 pub fn change(
     arena: &mut Arena<Ticket, 3>,
     group: &mut GroupSlots,
@@ -188,6 +191,7 @@ fn write_state(state: &TicketState, kept: &mut TicketState)
 }
 
 /// A new ticket, in the slot of the group that was freed last, which is likely still in the processor's cache.
+#[inline(always)]
 pub fn add(arena: &mut Arena<Ticket, 3>, group: &mut GroupSlots, ticket: &Ticket)
     requires arena { IsArena arena.old 0 }
     requires group { IsGroupSlots arena.old group.old }

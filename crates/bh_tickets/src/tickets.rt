@@ -303,6 +303,7 @@ impl Tickets {
     }
 
     /// That happens to the ticket in the slot.
+    #[inline(always)]
     fn change(&mut self, group: usize, slot: u32, change: &TicketChange)
         requires group { group < length self.old.groups }
         requires allowed { CanChange (group_at self.old group) slot change.now }
@@ -397,6 +398,7 @@ impl Tickets {
     }
 
     /// A ticket of the next serial, behind the others.
+    #[inline(always)]
     pub fn push(&mut self, group: usize, ticket: &Ticket)
         requires group { group < length self.old.groups }
         requires ticket { CanPush (group_at self.old group) ticket.now }

@@ -27,13 +27,15 @@ impl Group {
             Some(slot) => {
                 let ticket = tickets.get(self.place, slot);
                 let command = ticket.command;
-                match ticket.state {
+                match &ticket.state {
                     TicketState::Answered(answer) => {
+                        // Before the ticket changes, so that the answer is copied once.
+                        *reply = Reply::Answered(*answer);
                         tickets.release_holder(self.place, slot);
-                        *reply = Reply::Answered(answer);
                         return;
                     }
                     TicketState::NeedsFallback(cause) => {
+                        let cause = *cause;
                         self.fall_back(tickets, serial, slot, command, cause, reply);
                         return;
                     }

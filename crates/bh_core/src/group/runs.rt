@@ -31,15 +31,12 @@ impl Group {
             None => *reply = Reply::Idle,
             Some(slot) => {
                 let ticket = tickets.get(self.place, slot);
-                let serial = ticket.serial;
-                let command = ticket.command;
-                let arg = ticket.arg;
-                tickets.start_run(self.place, slot);
                 *reply = Reply::Assigned {
-                    serial,
-                    command,
-                    arg,
+                    serial: ticket.serial,
+                    command: ticket.command,
+                    arg: ticket.arg,
                 };
+                tickets.start_run(self.place, slot);
             }
         }
     }
@@ -125,6 +122,7 @@ impl Group {
     }
 
     /// The run of the ticket has ended, and the ticket goes on to the state, unless it had timed out.
+    #[inline(always)]
     fn end_run(
         &mut self,
         tickets: &mut Tickets,

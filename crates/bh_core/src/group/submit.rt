@@ -235,6 +235,7 @@ impl Group {
     }
 
     /// Makes the ticket of a request.
+    #[inline(always)]
     fn add_ticket(
         &self,
         tickets: &mut Tickets,
