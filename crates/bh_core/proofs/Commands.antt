@@ -154,3 +154,19 @@ pub rolling_at : (moment : ℕ) (cs : List Command) (n : ℕ) (x : Command) → 
 rolling_at moment cs n x inside is all =
     let ok : IsCommandUpTo moment x = all_at (IsCommandUpTo moment) cs n x inside is all in
     rolling_seen x.history moment ok.history ∙ ap (λ p. past_view_rolling moment p moment) (sym (read_at (past_in moment) cs n x no_past_view inside is))
+
+-- nothing that it keeps is later than a later moment
+pub command_later : (latest moment : ℕ) (x : Command) → latest ≤ moment → IsCommandUpTo latest x → IsCommandUpTo moment x
+command_later latest moment x later ok = record {
+  circuit = record { opened = omega (arith, later, ok.circuit.opened); taken = omega (arith, later, ok.circuit.taken) };
+  history = record { some = ok.history.some; window = ok.history.window; reported = omega (arith, later, ok.history.reported); health = omega (arith, later, ok.history.health) };
+}
+
+-- the counts and health of a command at a moment that is no earlier
+pub rolling_later : (latest moment : ℕ) (cs : List Command) (n : ℕ) (x : Command) → n < length cs → x ≡ get_or cs n x → latest ≤ moment → AllByRecursion (IsCommandUpTo latest) cs
+    → history_rolling moment x.history ≡ past_view_rolling latest (get_or (map (past_in latest) cs) n no_past_view) moment
+rolling_later latest moment cs n x inside is later all =
+    let ok : IsCommandUpTo latest x = all_at (IsCommandUpTo latest) cs n x inside is all in
+    rolling_seen x.history moment (command_later latest moment x later ok).history
+    ∙ moved_rolling x.history latest ok.history moment later
+    ∙ ap (λ p. past_view_rolling latest p moment) (sym (read_at (past_in latest) cs n x no_past_view inside is))

@@ -17,7 +17,7 @@ use Rattle.bh_base.specs.Runs.{View, begun, is_worn}
 use Rattle.bh_base.specs.Seen.{view_outcome, view_reply}
 use Rattle.bh_base.proofs.Answering.{outcome_answers}
 use Rattle.bh_base.specs.Tickets.{in_state, is_held_at, is_queued, is_unanswered}
-use Rattle.bh_core.specs.Looks.{expires_some, is_assigned, is_pending, is_worn_out}
+use Rattle.bh_core.specs.Looks.{expires_some, is_assigned, is_pending, is_worn_out, metrics_shown, metrics_told}
 
 -- what is told of the reply of a group that has the command and is not worn
 reply_fresh : (p : Reply → Bool) (v : View) (o : Op) (now : ℕ) → is_known o v.present.props ≡ true → is_worn v.present ≡ false → p (view_reply v o now) ≡ p (view_outcome v o now).reply
@@ -135,3 +135,15 @@ empty_not_due v now none = at (is_worn v.present)
     at : (worn : Bool) → expires_some (if worn then reply.Worn else reply.Expired (length (filter (is_due (begun now v.present)) v.present.tickets))) ≡ false
     at true = refl
     at false = ap (λ ts. expires_some (reply.Expired (length (filter (is_due (begun now v.present)) ts)))) none
+
+-- Read
+
+told_or_none : (known : Bool) (r : Reply) → (if known then metrics_told r else None) ≡ metrics_told (if known then r else reply.NoCommand)
+told_or_none true r = refl
+told_or_none false r = refl
+
+-- the metrics that are shown are those of a Read
+pub read_seen : (v : View) (command now : ℕ) → is_worn v.present ≡ false → metrics_shown command now v ≡ metrics_told (view_reply v (op.Read command) now)
+read_seen v command now fresh =
+    told_or_none (is_known (op.Read command) v.present.props) (view_outcome v (op.Read command) now).reply
+    ∙ sym (ap (λ b. metrics_told (if is_known (op.Read command) v.present.props then (if b then reply.Worn else (view_outcome v (op.Read command) now).reply) else reply.NoCommand)) fresh)

@@ -33,15 +33,19 @@ use Rattle.bh_core.specs.Counted.{counted}
 abbrev pub pasts_begun : ℕ → ℕ → List PastView → List PastView
 pasts_begun latest moment ps = each_command (λ command p. past_view_with latest moment [] false p) ps
 
--- the rolling counts and health of each command at the latest moment
+-- the rolling counts and health of each command at a moment that is no earlier than the latest
+abbrev pub rolling_then : View → ℕ → ℕ → Rolling
+rolling_then v command moment = past_view_rolling v.present.latest (past_view_of command v) moment
+
+-- and at the latest moment
 abbrev pub rolling_now : View → ℕ → Rolling
-rolling_now v command = past_view_rolling v.present.latest (past_view_of command v) v.present.latest
+rolling_now v command = rolling_then v command v.present.latest
 
 -- a step has begun and recorded nothing: its number and moment are there, and every count is what it was
 pub record Begins (old : View) (now : ℕ) (new : View) : Type 0 where
   pub present : new.present ≡ begun now old.present
   pub pasts : new.pasts ≡ pasts_begun old.present.latest new.present.latest old.pasts
-  pub rolling : (command : ℕ) → rolling_now new command ≡ past_view_rolling old.present.latest (past_view_of command old) new.present.latest
+  pub rolling : (command : ℕ) → rolling_now new command ≡ rolling_then old command new.present.latest
 
 -- the most that the tables of a group can grow by in a step: each of its events may stand in both
 abbrev pub step_growth : ℕ

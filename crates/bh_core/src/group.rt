@@ -3,10 +3,11 @@
 ghost use Rattle.std.specs.Prelude.{◌≡◌, ◌+◌, ◌<◌, ◌≤◌, ◌^◌, length, map, true};
 ghost use Rattle.bh_base.specs.declared.step.Op.TheVariants as op;
 ghost use Rattle.bh_base.specs.Commands.{command_count, is_known};
+ghost use Rattle.bh_base.specs.Machine.{metrics};
 ghost use Rattle.bh_base.specs.Seen.{view_after, view_reply};
 ghost use Rattle.bh_core.specs.Command.{new_command};
 ghost use Rattle.bh_core.specs.GroupView.{HasTickets, Leaves, counted_of, new_group, view_in};
-ghost use Rattle.bh_core.specs.Stepping.{Begins, IsBounded, IsDone, IsServed, IsSteady, view_ended, with_event, released_view};
+ghost use Rattle.bh_core.specs.Stepping.{Begins, IsBounded, IsDone, IsServed, IsSteady, rolling_then, view_ended, with_event, released_view};
 ghost use Rattle.bh_tickets.specs.TicketsView.{TicketsView, group_at};
 
 mod expire;
@@ -182,9 +183,19 @@ impl Group {
         requires known { command < command_count self.now.props }
         ensures { IsDone (view_in tickets.now self.now) (op.Read command) reply.new (view_in tickets.now self.now) }
     {
+        *reply = Reply::Metrics(self.metrics_at(tickets, command, self.latest));
+    }
+
+    /// The metrics of the command at a moment that is no earlier than the latest.
+    fn metrics_at(&self, tickets: &Tickets, command: u8, moment: Moment) -> Metrics
+        requires has { HasTickets tickets.now self.now }
+        requires known { command < command_count self.now.props }
+        requires later { self.now.latest ≤ moment }
+        ensures { Reply.Metrics result ≡ metrics command (rolling_then (view_in tickets.now self.now) command moment) (view_in tickets.now self.now).present }
+    {
         let own = &self.commands[command as usize];
-        let rolling = own.history.rolling(self.latest);
-        *reply = Reply::Metrics(Metrics {
+        let rolling = own.history.rolling(moment);
+        Metrics {
             circuit: own.circuit.state(),
             counts: rolling.counts,
             errors: rolling.health.errors,
@@ -193,7 +204,7 @@ impl Group {
             busy: tickets.busy_count(self.place, command),
             queued: tickets.queued_count(self.place, command),
             free: self.slots() - tickets.len(self.place),
-        });
+        }
     }
 
     /// Adds an event of the command at the step's moment.

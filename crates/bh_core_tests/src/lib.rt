@@ -12,6 +12,8 @@ mod groups;
 #[cfg(test)]
 mod lives;
 #[cfg(test)]
+mod looks;
+#[cfg(test)]
 mod random;
 #[cfg(test)]
 mod random_lives;

@@ -1,14 +1,16 @@
 //! Looks at a group that change nothing: what a step would be answered.
 
-ghost use Rattle.std.specs.Prelude.{◌≡◌, ◌==◌, ℕ, [], false, max};
+ghost use Rattle.std.specs.Prelude.{◌≡◌, ◌==◌, ◌<◌, ℕ, Bool, [], false, find, length, max, option_copied, IfSome};
 ghost use Rattle.bh_base.specs.declared.step.Op.TheVariants as op;
 ghost use Rattle.bh_base.specs.Seen.{view_reply};
+ghost use Rattle.bh_base.specs.declared.ticket.Ticket.{Ticket};
 ghost use Rattle.bh_core.specs.GroupView.{HasTickets, view_in};
 ghost use Rattle.bh_core.specs.Stepping.{IsSteady};
-ghost use Rattle.bh_core.specs.Looks.{expires_some, is_assigned, is_pending};
+ghost use Rattle.bh_core.specs.Looks.{IsFound, circuit_shown, expires_some, is_assigned, is_pending, metrics_shown, ticket_meant};
+ghost use Rattle.bh_tickets.specs.TicketsView.{IsThere, TicketsView, group_at};
 
 use super::Group;
-use bh_base::{GroupProps, Moment, Serial};
+use bh_base::{CircuitState, GroupProps, Metrics, Moment, Op, Serial, Ticket};
 use bh_tickets::{DueRule, Tickets, is_unanswered};
 
 impl Group {
@@ -33,11 +35,70 @@ impl Group {
         self.steps
     }
 
+    /// The moment of the last step, 0 where there was none.
+    pub fn latest(&self) -> Moment
+        ensures { result ≡ self.now.latest }
+    {
+        self.latest
+    }
+
     /// Whether the group has done all the steps that it may.
     pub fn is_worn(&self) -> bool
         ensures { result ≡ (self.now.steps == self.now.limit) }
     {
         self.steps == self.limit
+    }
+
+    /// The state of the command's circuit breaker, where the group has the command.
+    pub fn circuit(&self, command: u8) -> Option<CircuitState>
+        ensures { (ts : TicketsView) → result ≡ circuit_shown command (view_in ts self.now) }
+    {
+        if command >= self.command_count() {
+            return None;
+        }
+        Some(self.commands[command as usize].circuit.state())
+    }
+
+    /// The metrics of the command at the moment, where the group has the command.
+    pub fn metrics(&self, tickets: &Tickets, command: u8, now: Moment) -> Option<Metrics>
+        requires { HasTickets tickets.now self.now }
+        ensures { result ≡ metrics_shown command now (view_in tickets.now self.now) }
+    {
+        if command >= self.command_count() {
+            return None;
+        }
+        Some(self.metrics_at(tickets, command, self.moment_of(now)))
+    }
+
+    /// The ticket that a step of the operation goes by, where it says a serial and there is such a ticket.
+    pub fn ticket<'a>(&self, tickets: &'a Tickets, op: &Op) -> Option<&'a Ticket>
+        requires { HasTickets tickets.now self.now }
+        ensures { option_copied result ≡ ticket_meant op.now (view_in tickets.now self.now).present.tickets }
+    {
+        match op {
+            Op::Finish { serial, .. } | Op::Fail { serial, .. } => {
+                self.ticket_in(tickets, tickets.find_busy(self.place, *serial))
+            }
+            Op::Collect { serial } => {
+                self.ticket_in(tickets, tickets.find_held(self.place, *serial))
+            }
+            Op::FallbackDone { serial, .. } => {
+                self.ticket_in(tickets, tickets.find_in_fallback(self.place, *serial))
+            }
+            _ => None,
+        }
+    }
+
+    /// The ticket in the slot, if a search found one.
+    fn ticket_in<'a>(&self, tickets: &'a Tickets, slot: Option<u32>) -> Option<&'a Ticket>
+        requires group { self.now.place < length tickets.now.groups }
+        requires there { IfSome slot (λ slot. IsThere (group_at tickets.now self.now.place) slot) }
+        ensures { (p : Ticket → Bool) → IsFound p (group_at tickets.now self.now.place) slot → option_copied result ≡ find p (group_at tickets.now self.now.place).items }
+    {
+        match slot {
+            Some(slot) => Some(tickets.get(self.place, slot)),
+            None => None,
+        }
     }
 
     /// Whether a `Start` would be answered `Assigned`, at whatever moment.

@@ -1,20 +1,20 @@
 //! Looks at the groups that change nothing, by what a step would be answered.
 
-ghost use Rattle.std.specs.Prelude.{◌≡◌, ◌≢◌, ◌↔◌, ◌+◌, ◌<◌, ◌≤◌, ℕ, length, slice_get, is_some, IfSome, IsNone, IsSomeAnd, None, Some, false, true};
+ghost use Rattle.std.specs.Prelude.{◌≡◌, ◌≢◌, ◌↔◌, ◌+◌, ◌<◌, ◌≤◌, ℕ, length, slice_get, is_some, option_copied, IfSome, IsNone, IsSomeAnd, None, Some, false, true};
 ghost use Rattle.bh_base.specs.declared.step.Op.{Op};
 ghost use Rattle.bh_base.specs.declared.step.Op.TheVariants as op;
 ghost use Rattle.bh_base.specs.Commands.{is_known};
-ghost use Rattle.bh_base.specs.Runs.{View};
+ghost use Rattle.bh_base.specs.Runs.{View, is_worn};
 ghost use Rattle.bh_base.specs.Seen.{view_reply};
 ghost use Rattle.bh_core.specs.CoreView.{Life, is_retired, most_groups, registered_as, slots_in, view_at};
 ghost use Rattle.bh_core.specs.GroupView.{GroupView};
 ghost use Rattle.bh_core.specs.declared.service.entry.Entry.TheVariants as entry;
-ghost use Rattle.bh_core.specs.Looks.{expires_some, is_assigned, is_pending, is_worn_out};
+ghost use Rattle.bh_core.specs.Looks.{circuit_shown, expires_some, is_assigned, is_pending, is_worn_out, metrics_shown, metrics_told, ticket_meant};
 
 use super::entry::Entry;
 use super::{Core, MOST_GROUPS, RegisterError};
 use crate::group::Group;
-use bh_base::{GroupId, GroupProps, Moment, Serial};
+use bh_base::{CircuitState, GroupId, GroupProps, Metrics, Moment, Op, Serial, Ticket};
 
 impl Core {
     /// How many groups were registered, retired ones included. Their numbers are those below it.
@@ -84,6 +84,59 @@ impl Core {
         match find(&self.groups, group) {
             Some(found) => found.steps(),
             None => 0,
+        }
+    }
+
+    /// The moment of the group's last step, before which none of its steps counts; 0 where it did none, or is not
+    /// registered.
+    pub fn latest(&self, group: GroupId) -> Moment
+        ensures known { (v : View) → view_at self.now group.0 ≡ Some v → result ≡ v.present.latest }
+        ensures unknown { view_at self.now group.0 ≡ None → result ≡ 0 }
+    {
+        match find(&self.groups, group) {
+            Some(found) => found.latest(),
+            None => 0,
+        }
+    }
+
+    /// The state of the command's circuit breaker, as the group's last step left it: what `Metrics` say of it, and shown
+    /// of a worn group too. None where the group is not registered, or lacks the command.
+    pub fn circuit(&self, group: GroupId, command: u8) -> Option<CircuitState>
+        ensures known { (v : View) → view_at self.now group.0 ≡ Some v → result ≡ circuit_shown command v }
+        ensures unknown { view_at self.now group.0 ≡ None → result ≡ None }
+    {
+        match find(&self.groups, group) {
+            Some(found) => found.circuit(command),
+            None => None,
+        }
+    }
+
+    /// The metrics of the command at the moment: those that a `Read` would be answered. A moment before that of the group's
+    /// last step counts as that one, as in every step. A worn group shows them too. None where the group is not
+    /// registered, or lacks the command.
+    pub fn metrics(&self, group: GroupId, command: u8, now: Moment) -> Option<Metrics>
+        ensures known { (v : View) → view_at self.now group.0 ≡ Some v → result ≡ metrics_shown command now v }
+        ensures read { (v : View) → view_at self.now group.0 ≡ Some v → is_worn v.present ≡ false → result ≡ metrics_told (view_reply v (op.Read command) now) }
+        ensures unknown { view_at self.now group.0 ≡ None → result ≡ None }
+    {
+        match find(&self.groups, group) {
+            Some(found) => found.metrics(&self.tickets, command, now),
+            None => None,
+        }
+    }
+
+    /// The ticket that a step of the operation would go by, as it is before the step: of a `Finish` or a `Fail` the one
+    /// whose run ends, of a `Collect` the one whose answer is asked for, of a `FallbackDone` the one whose fallback ends.
+    /// So it is known whose step it is, of which command, and when that was submitted.
+    ///
+    /// None where there is no such ticket, the operation says no serial, or the group is not registered.
+    pub fn ticket(&self, group: GroupId, op: &Op) -> Option<&Ticket>
+        ensures known { (v : View) → view_at self.now group.0 ≡ Some v → option_copied result ≡ ticket_meant op.now v.present.tickets }
+        ensures unknown { view_at self.now group.0 ≡ None → IsNone result }
+    {
+        match find(&self.groups, group) {
+            Some(found) => found.ticket(&self.tickets, op),
+            None => None,
         }
     }
 

@@ -1,0 +1,28 @@
+use Rattle.std.proofs.Common.{◌∙◌, sym, ap, refl}
+use Rattle.bh_base.specs.Runs.{View}
+use Rattle.bh_core.specs.Looks.{metrics_shown}
+use Rattle.bh_core.proofs.AllGroups.{not_shown, shown_is, shown_some}
+use Rattle.bh_core.proofs.Looks.{read_seen}
+use Rattle.bh_core.proofs.service.Core.metrics.Goals as goal
+
+pub metrics-requires : goal.metrics-requires
+metrics-requires c = c.self.invariant.tickets c.args.group.0 c.in-Some.found.now (rw c.deref.ensures.value at c.in-Some.ensures.found)
+
+pub returns-in-Some-clause-known : goal.returns-in-Some-clause-known
+returns-in-Some-clause-known c = λ v shown.
+    let same = shown_is c.self.inside.tickets c.self.inside.groups.items c.args.group.0 c.in-Some.found.now v (rw c.deref.ensures.value at c.in-Some.ensures.found) (rw (← c.self.view_is) at shown) in
+    c.metrics.ensures ∙ ap (λ (x : View). metrics_shown c.args.command c.args.now x) (sym same)
+
+pub returns-in-Some-clause-read : goal.returns-in-Some-clause-read
+returns-in-Some-clause-read c = λ v shown fresh.
+    let same = shown_is c.self.inside.tickets c.self.inside.groups.items c.args.group.0 c.in-Some.found.now v (rw c.deref.ensures.value at c.in-Some.ensures.found) (rw (← c.self.view_is) at shown) in
+    c.metrics.ensures ∙ ap (λ (x : View). metrics_shown c.args.command c.args.now x) (sym same) ∙ read_seen v c.args.command c.args.now fresh
+
+pub returns-in-Some-clause-unknown : goal.returns-in-Some-clause-unknown
+returns-in-Some-clause-unknown c = λ none. absurd (shown_some c.self.inside.tickets c.self.inside.groups.items c.args.group.0 c.in-Some.found.now (rw c.deref.ensures.value at c.in-Some.ensures.found) (rw (← c.self.view_is) at none))
+
+pub returns-in-None-clause-known : goal.returns-in-None-clause-known
+returns-in-None-clause-known c = λ v shown. absurd (not_shown c.self.inside.tickets c.self.inside.groups.items c.args.group.0 v (rw c.deref.ensures.value at c.in-None.ensures.missing refl) (rw (← c.self.view_is) at shown))
+
+pub returns-in-None-clause-read : goal.returns-in-None-clause-read
+returns-in-None-clause-read c = λ v shown fresh. absurd (not_shown c.self.inside.tickets c.self.inside.groups.items c.args.group.0 v (rw c.deref.ensures.value at c.in-None.ensures.missing refl) (rw (← c.self.view_is) at shown))
