@@ -29,8 +29,12 @@ pub slot_more : (x : ℕ) (few new : FewSlots) → take new.count new.slots ≡ 
 slot_more x few new is = record {
   it = all x ∙ ap (λ b. has x (take few.count few.slots) || (b || false)) (eq-eqb x x refl) ∙ or_true (has x (take few.count few.slots));
   more = λ y e. all y ∙ ap (λ b. b || has y (x ∷ [])) e;
+  few = λ before e room. (new, refl, is ∙ ap (λ (f : FewSlots). take f.count f.slots ++ x ∷ []) (inside before e));
 }
   where
+    inside : (before : FewSlots) → noted.Few few ≡ noted.Few before → few ≡ before
+    inside before e = cc
+
     all : (y : ℕ) → has y (take new.count new.slots) ≡ (has y (take few.count few.slots) || has y (x ∷ []))
     all y = ap (has y) is ∙ has_append y (take few.count few.slots) (x ∷ [])
 

@@ -1,7 +1,8 @@
 -- Slots that are noted, to be looked at again.
-use Rattle.std.specs.Prelude.{◌≡◌, ℕ, Bool, true, replicate, take, slice_get}
+use Rattle.std.specs.Prelude.{◌≡◌, ℕ, ◌<◌, Bool, true, [], ◌∷◌, ◌++◌, replicate, take, slice_get}
 use Rattle.bh_base.specs.Tickets.{is_cached_in}
 use Rattle.bh_cache.specs.Slots.{Slots, has, has_one}
+use Rattle.bh_cache.specs.declared.notes.FewSlots.{FewSlots}
 use Rattle.bh_cache.specs.declared.notes.Noted.{Noted}
 use Rattle.bh_cache.specs.declared.notes.Noted.TheVariants as noted
 
@@ -22,6 +23,9 @@ nothing = noted.Few (record { slots = replicate most_noted 0; count = 0 })
 pub record IsNoted (x : ℕ) (n m : Noted) : Type 0 where
   pub it : is_noted m x ≡ true
   pub more : (y : ℕ) → is_noted n y ≡ true → is_noted m y ≡ true
+  -- and no other slot, as long as there is room
+  pub few : (before : FewSlots) → n ≡ noted.Few before → before.count < most_noted →
+      (after : FewSlots) × (m ≡ noted.Few after) × (take after.count after.slots ≡ take before.count before.slots ++ x ∷ [])
 
 -- those of the slots are noted now whose tickets are cached in the context, and what was noted still is
 pub record AreNoted (context : ℕ) (among : ℕ → Bool) (a : Slots) (n m : Noted) : Type 0 where
