@@ -1,5 +1,5 @@
 -- There is an error exactly where a check refuses, and the first is its refusal.
-use Rattle.std.proofs.Common.{◌≡◌, ℕ, List, [], ◌∷◌, ◌++◌, cond, codes, Bool, true, false, ◌&&◌, Option, Some, None, Result, Ok, Err, refl, sym, ap, subst, ◌∙◌}
+use Rattle.std.proofs.Common.{◌≡◌, ℕ, List, [], ◌∷◌, ◌++◌, cond, codes, Bool, true, false, ◌&&◌, Option, Some, None, Result, Ok, Err, refl, sym, subst}
 use Rattle.std.specs.Prelude.{if◌then◌else◌}
 use Rattle.std.specs.List.{flat_map, find}
 use Rattle.std.specs.Result.{result_and}
@@ -14,7 +14,6 @@ use Rattle.bh_props.specs.Tree.{all_members}
 use Rattle.bh_props.specs.Subjects.{properties_of, subjects}
 use Rattle.bh_props.specs.Commands.{Commands, commands_of}
 use Rattle.bh_props.specs.InForce.{given}
-use Rattle.bh_props.specs.Names.{names_of}
 use Rattle.bh_props.specs.SettingsView.{SettingsView}
 use Rattle.bh_props.specs.Refusals.{Checked, is_at_fault, refusal, refused_at, first_at_fault, checked_values, checked_windows, has_whole_buckets, is_service, is_service_member, checked_service}
 use Rattle.bh_props.specs.Settings.{settings_in_force, settings_of_subjects, settings_of_commands, settings_of_groups, settings_of_named}
@@ -123,10 +122,10 @@ one-member key true all rest h = h
 one-member key false all rest h = refl
 
 members-refused : (names : List (List ℕ)) (ms : Members)
-    → RefusesAs (unknown_members names [] tables.Service [] ms) (let c : Checked = if all_members (is_service_member names) ms then Ok tt else Err errors.UnknownService in c)
+    → RefusesAs (unknown_members (is_service_member names) tables.Service [] ms) (let c : Checked = if all_members (is_service_member names) ms then Ok tt else Err errors.UnknownService in c)
 members-refused names no_members = refl
 members-refused names (member key d rest) =
-    one-member key (is_service_member names key d) (all_members (is_service_member names) rest) (unknown_members names [] tables.Service [] rest)
+    one-member key (is_service_member names key d) (all_members (is_service_member names) rest) (unknown_members (is_service_member names) tables.Service [] rest)
     (members-refused names rest)
 
 service-refused : (names : List (List ℕ)) (o : Option Data) → RefusesAs (service_errors_at names o) (let c : Checked = if is_service names o then Ok tt else Err errors.UnknownService in c)

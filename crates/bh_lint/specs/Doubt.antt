@@ -1,5 +1,5 @@
 -- Values in force that can hardly be meant.
-use Rattle.std.specs.Prelude.{ℕ, List, [], ◌∷◌, drop, nat_lt, Bool, true, false, ◌&&◌, ◌==◌, Option, is_some, Result, Ok}
+use Rattle.std.specs.Prelude.{ℕ, List, [], ◌∷◌, drop, nat_lt, Bool, true, false, ◌&&◌, ◌==◌, is_some, Result, Ok}
 use Rattle.std.specs.List.{list_any}
 use Rattle.toml.specs.Data.{Data}
 use Rattle.bh_base.specs.declared.props.Strategy.TheVariants as strategies

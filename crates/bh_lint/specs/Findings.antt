@@ -1,5 +1,5 @@
 -- All that is amiss in a settings file.
-use Rattle.std.specs.Prelude.{ℕ, List, [], ◌∷◌, ◌++◌, map, codes, Bool, true, false, not, if◌then◌else◌, Option, Some, None, Result, Ok, Err}
+use Rattle.std.specs.Prelude.{ℕ, List, [], ◌∷◌, ◌++◌, map, codes, Bool, if◌then◌else◌, Option, Some, None, Result, Ok, Err}
 use Rattle.std.specs.List.{flat_map}
 use Rattle.toml.specs.Data.{Data, get, table, Members, no_members, member}
 use Rattle.toml.specs.Parse.{parse_document}
@@ -16,7 +16,7 @@ use Rattle.bh_props.specs.Names.{names_of}
 use Rattle.bh_props.specs.Commands.{Commands, commands_of}
 use Rattle.bh_props.specs.Subjects.{a_group, properties_of, subjects}
 use Rattle.bh_props.specs.InForce.{given}
-use Rattle.bh_props.specs.Refusals.{is_at_fault, has_whole_buckets}
+use Rattle.bh_props.specs.Refusals.{is_at_fault, is_service_member, has_whole_buckets}
 use Rattle.bh_lint.specs.declared.finding.Finding.{Finding}
 use Rattle.bh_lint.specs.declared.finding.Finding.TheVariants as findings
 use Rattle.bh_lint.specs.declared.table.Table.{Table}
@@ -25,28 +25,33 @@ use Rattle.bh_lint.specs.declared.table.Part.{Part}
 use Rattle.bh_lint.specs.declared.table.Part.TheVariants as parts
 use Rattle.bh_lint.specs.declared.doubt.Doubt.{Doubt}
 use Rattle.bh_lint.specs.Finding.{shown, stands_at, words_at, refused}
-use Rattle.bh_lint.specs.Table.{knows, table_path}
+use Rattle.bh_lint.specs.Table.{Test, table_path}
+use Rattle.bh_lint.specs.LookedUp.{is_looked_up}
 use Rattle.bh_lint.specs.Doubt.{doubts_of, is_doubtful}
 
 -- Names that nothing looks up.
 
--- a member of the table, which is of the name if it is of one, where nothing looks it up
-abbrev pub unknown_member : List (List ℕ) → Commands → Table → List ℕ → List ℕ → Data → List Finding
-unknown_member names commands t name key d = if knows names commands t key d then [] else findings.Unknown t name (shown key) ∷ []
+-- a value in force of one of the subjects is looked up through the member
+abbrev pub is_used : List Subject → Test
+is_used some t name key d = is_looked_up some (table_path t name ++ key ∷ [])
+
+-- a member of the table, where the test of its key and of what stands there fails
+abbrev pub unknown_member : (List ℕ → Data → Bool) → Table → List ℕ → List ℕ → Data → List Finding
+unknown_member known t name key d = if known key d then [] else findings.Unknown t name (shown key) ∷ []
 
 -- those of some members
-abbrev pub unknown_members : List (List ℕ) → Commands → Table → List ℕ → Members → List Finding
-unknown_members names commands t name no_members = []
-unknown_members names commands t name (member key d rest) = unknown_member names commands t name key d ++ unknown_members names commands t name rest
+abbrev pub unknown_members : (List ℕ → Data → Bool) → Table → List ℕ → Members → List Finding
+unknown_members known t name no_members = []
+unknown_members known t name (member key d rest) = unknown_member known t name key d ++ unknown_members known t name rest
 
 -- those of what stands at the table's place, if it is a table
-abbrev pub unknown_at : List (List ℕ) → Commands → Table → List ℕ → Option Data → List Finding
-unknown_at names commands t name (Some (table ms)) = unknown_members names commands t name ms
-unknown_at names commands t name _ = []
+abbrev pub unknown_at : Test → Table → List ℕ → Option Data → List Finding
+unknown_at known t name (Some (table ms)) = unknown_members (known t name) t name ms
+unknown_at known t name _ = []
 
 -- those of a table
-abbrev pub unknown_in : List (List ℕ) → Commands → Data → List ℕ → Table → List Finding
-unknown_in names commands d name t = unknown_at names commands t name (look_up (table_path t name) d)
+abbrev pub unknown_in : Test → Data → List ℕ → Table → List Finding
+unknown_in known d name t = unknown_at known t name (look_up (table_path t name) d)
 
 -- all parts of a command's properties
 abbrev pub all_parts : List Part
@@ -71,14 +76,14 @@ file_tables = tables.Root ∷ tables.Hystrix ∷ tables.Commands ∷ tables.Pool
 unfoldable pub by_default : Subject
 by_default = a_group (codes "default")
 
--- the names that nothing looks up in the tables of a group, a further command or `default`
-abbrev pub unknown_of : List (List ℕ) → Commands → Data → Subject → List Finding
-unknown_of names commands d s = flat_map (unknown_in names commands d s.name) (tables_of s.scope)
+-- the names in the tables of a group, a further command or `default` of which the test fails
+abbrev pub unknown_of : Test → Data → Subject → List Finding
+unknown_of known d s = flat_map (unknown_in known d s.name) (tables_of s.scope)
 
 -- those in all tables, beside `service`
-unfoldable pub unknown_names : List (List ℕ) → Commands → Data → List Subject → List Finding
-unknown_names names commands d some =
-    flat_map (unknown_in names commands d []) file_tables ++ unknown_of names commands d by_default ++ flat_map (unknown_of names commands d) some
+unfoldable pub unknown_names : Test → Data → List Subject → List Finding
+unknown_names known d some =
+    flat_map (unknown_in known d []) file_tables ++ unknown_of known d by_default ++ flat_map (unknown_of known d) some
 
 -- Values that are refused.
 
@@ -111,7 +116,7 @@ subject_errors d some = windows_behind d some (bad_values WrongType d some ++ ba
 
 -- what stands under `service`, where it may not; it is a table
 abbrev pub service_errors_at : List (List ℕ) → Option Data → List Finding
-service_errors_at names (Some (table ms)) = unknown_members names [] tables.Service [] ms
+service_errors_at names (Some (table ms)) = unknown_members (is_service_member names) tables.Service [] ms
 service_errors_at names _ = refused refusals.UnknownService ∷ []
 
 -- the same of a file
@@ -159,10 +164,13 @@ doubts_at d s = flat_map (doubt_at d s.name) (doubts_of s.scope)
 unfoldable pub doubts_in : Data → List Subject → List Finding
 doubts_in d some = doubts_at d by_default ++ flat_map (doubts_at d) some
 
+-- the warnings of a file with these subjects: the names through which none of their values in force is looked up, and the doubts
+abbrev pub warnings_of_subjects : Data → List Subject → List Finding
+warnings_of_subjects d some = unknown_names (is_used some) d some ++ doubts_in d some
+
 -- the warnings of a file with these groups and further commands
 abbrev pub warnings_with : List (List ℕ) → Commands → Data → List Finding
-warnings_with names commands d =
-    unknown_names names commands d (subjects names commands) ++ doubts_in d (subjects names commands)
+warnings_with names commands d = warnings_of_subjects d (subjects names commands)
 
 -- the warnings, unless the names of the groups are refused
 abbrev pub warnings_of_named : Data → Result (List (List ℕ)) SettingsError → List Finding

@@ -1,5 +1,6 @@
 -- Tables of a file, values in force that are in doubt, and findings of both:
 pub mod Table  -- the tables that are looked into, and the names in them that are looked up
+pub mod LookedUp  -- the places of a file on which a value in force depends
 pub mod Doubt  -- values in force that can hardly be meant
 pub mod Finding  -- what a finding tells of a file
 pub mod Findings  -- all errors and warnings of a file

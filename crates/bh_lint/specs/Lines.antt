@@ -1,7 +1,7 @@
 -- The lines that tell findings.
-use Rattle.std.specs.Prelude.{ℕ, ◌-◌, ◌==◌, List, [], ◌∷◌, ◌++◌, codes, Bool, if◌then◌else◌, Option, Some, None, is_some, take, length, map}
+use Rattle.std.specs.Prelude.{ℕ, ◌-◌, ◌==◌, List, [], ◌∷◌, ◌++◌, codes, Bool, if◌then◌else◌, Option, Some, None, is_some, take, length}
 use Rattle.std.specs.List.{flat_map}
-use Rattle.std.specs.Fmt.{decimal, signed_decimal}
+use Rattle.std.specs.Fmt.{decimal}
 use Rattle.bh_props.specs.declared.property.Property.{Property}
 use Rattle.bh_props.specs.declared.value.Kind.{Kind}
 use Rattle.bh_props.specs.declared.value.Kind.TheVariants as kinds

@@ -1,5 +1,5 @@
 -- The tables that are looked into, and the names in them that are looked up.
-use Rattle.std.specs.Prelude.{ℕ, List, [], ◌∷◌, ◌++◌, codes, length, nat_le, Bool, true, false, ◌&&◌, ◌||◌, Option, Some, None}
+use Rattle.std.specs.Prelude.{ℕ, List, [], ◌∷◌, ◌++◌, codes, length, nat_le, Bool, ◌&&◌, ◌||◌, Option, Some, None}
 use Rattle.std.specs.List.{list_any}
 use Rattle.std.specs.Map.{keys_of as entry_keys}
 use Rattle.std.specs.Str.{bytes_eq}
@@ -87,3 +87,11 @@ knows names commands tables.Service key d = is_service_member names key d
 knows names commands tables.Commands key d = is_key names key || is_further commands key
 knows names commands tables.Pools key d = is_key names key
 knows names commands t key d = list_any (λ child. bytes_eq child key) (children t)
+
+-- a test of the members of tables: of the table, of the name that it is of if it is of one, of the key and of what stands there
+abbrev pub Test : Type 0
+Test = Table → List ℕ → List ℕ → Data → Bool
+
+-- the member may be looked up, whatever name the table is of
+abbrev pub knows_in : List (List ℕ) → Commands → Test
+knows_in names commands t name = knows names commands t

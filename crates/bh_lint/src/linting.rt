@@ -5,6 +5,7 @@ ghost use Rattle.toml.specs.View.{view};
 ghost use Rattle.bh_props.specs.Names.{names_of};
 ghost use Rattle.bh_props.specs.Commands.{commands_of};
 ghost use Rattle.bh_lint.specs.Findings.{errors_of_named, warnings_of_named, errors_with, warnings_with, commands_or_none, command_errors, service_errors, subject_errors, unknown_names, doubts_in};
+ghost use Rattle.bh_lint.specs.Table.{knows_in};
 ghost use Rattle.bh_props.specs.Found.{AreFound};
 ghost use Rattle.bh_props.specs.Subjects.{subjects};
 
@@ -48,7 +49,8 @@ pub fn lint_tree(alloc: Global, root: &Value) -> Result<Findings, AllocError>
 
 /// All that is amiss in a parsed file with these groups.
 fn lint_named(alloc: Global, root: &Value, names: &Names) -> Result<Findings, AllocError>
-    requires { length names.now.texts.keys ≤ 1000 }
+    requires few { length names.now.texts.keys ≤ 1000 }
+    requires listed { names_of (view root.now) ≡ Ok names.now.texts.keys }
     ensures errors { IfOk result (λ found. found.errors.items
         ≡ errors_with names.now.texts.keys (commands_of names.now.texts.keys (view root.now)) (view root.now)) }
     ensures warnings { IfOk result (λ found. found.warnings.items
@@ -68,7 +70,8 @@ fn lint_refused(
     names: &Names,
     refusal: SettingsError,
 ) -> Result<Findings, AllocError>
-    requires { length names.now.texts.keys ≤ 1000 }
+    requires few { length names.now.texts.keys ≤ 1000 }
+    requires listed { names_of (view root.now) ≡ Ok names.now.texts.keys }
     ensures errors { IfOk result (λ found. found.errors.items ≡ errors_with names.now.texts.keys (Err refusal) (view root.now)) }
     ensures warnings { IfOk result (λ found. found.warnings.items ≡ warnings_with names.now.texts.keys [] (view root.now)) }
 {
@@ -90,7 +93,8 @@ fn lint_with(
         ≡ service_errors names.now.texts.keys (view root.now)
         ++ (refused.now ++ subject_errors (view root.now) (subjects names.now.texts.keys commands.now.entries))) }
     ensures warnings { IfOk result (λ found. found.warnings.items
-        ≡ warnings_with names.now.texts.keys commands.now.entries (view root.now)) }
+        ≡ unknown_names (knows_in names.now.texts.keys commands.now.entries) (view root.now) (subjects names.now.texts.keys commands.now.entries)
+        ++ doubts_in (view root.now) (subjects names.now.texts.keys commands.now.entries)) }
 {
     let further = commands_by_group(alloc, names.texts.len(), commands)?;
     let subjects = all_subjects(alloc, names.texts.as_slice(), &further)?;
@@ -130,7 +134,7 @@ fn warnings_with(
 ) -> Result<Vec<Finding>, AllocError>
     requires { AreFound sections.now }
     ensures { IfOk result (λ warnings. warnings.items
-        ≡ unknown_names names.now.texts.keys commands.now.entries (view sections.now.root.now) subjects.now
+        ≡ unknown_names (knows_in names.now.texts.keys commands.now.entries) (view sections.now.root.now) subjects.now
         ++ doubts_in (view sections.now.root.now) subjects.now) }
 {
     let mut warnings = unknown_names(alloc, sections.root, names, commands, subjects)?;

@@ -6,7 +6,7 @@ ghost use Rattle.bh_props.specs.Refusals.{is_key};
 ghost use Rattle.std.specs.List.{flat_map, list_any};
 ghost use Rattle.std.specs.Str.{bytes_eq};
 ghost use Rattle.toml.specs.View.{view, table_view};
-ghost use Rattle.bh_lint.specs.Table.{knows, is_further};
+ghost use Rattle.bh_lint.specs.Table.{knows, knows_in, is_further};
 ghost use Rattle.bh_lint.specs.Findings.{unknown_member, unknown_members, unknown_at, unknown_in, unknown_of, file_tables, service_errors};
 
 use crate::finding::{Finding, shown};
@@ -58,7 +58,7 @@ pub(crate) fn add_of_file(
     commands: &Commands,
 ) -> Result<(), AllocError>
     ensures { OnOk result (findings.new.items ≡ findings.old.items
-        ++ flat_map (unknown_in names.now.texts.keys commands.now.entries (view root.now) []) file_tables) }
+        ++ flat_map (unknown_in (knows_in names.now.texts.keys commands.now.entries) (view root.now) []) file_tables) }
 {
     add_in_each(
         findings,
@@ -79,7 +79,7 @@ pub(crate) fn add_of_subject(
     subject: &Subject,
 ) -> Result<(), AllocError>
     ensures { OnOk result (findings.new.items ≡ findings.old.items
-        ++ unknown_of names.now.texts.keys commands.now.entries (view root.now) subject.now) }
+        ++ unknown_of (knows_in names.now.texts.keys commands.now.entries) (view root.now) subject.now) }
 {
     add_in_each(
         findings,
@@ -101,7 +101,7 @@ fn add_in_each(
     name: &Text<32>,
 ) -> Result<(), AllocError>
     ensures { OnOk result (findings.new.items ≡ findings.old.items
-        ++ flat_map (unknown_in names.now.texts.keys commands.now.entries (view root.now) name.now) tables.now) }
+        ++ flat_map (unknown_in (knows_in names.now.texts.keys commands.now.entries) (view root.now) name.now) tables.now) }
 {
     for table in tables {
         add_in(findings, root, names, commands, *table, name)?;
@@ -119,7 +119,7 @@ fn add_in(
     name: &Text<32>,
 ) -> Result<(), AllocError>
     ensures { OnOk result (findings.new.items ≡ findings.old.items
-        ++ unknown_in names.now.texts.keys commands.now.entries (view root.now) name.now table) }
+        ++ unknown_in (knows_in names.now.texts.keys commands.now.entries) (view root.now) name.now table) }
 {
     match table.value_in(root, name.as_str()) {
         Some(Value::Table(members)) => {
@@ -139,7 +139,7 @@ fn add_members(
     name: &Text<32>,
 ) -> Result<(), AllocError>
     ensures { OnOk result (findings.new.items ≡ findings.old.items
-        ++ unknown_members names.now.texts.keys commands.now.entries table name.now (table_view members.now)) }
+        ++ unknown_members (knows names.now.texts.keys commands.now.entries table) table name.now (table_view members.now)) }
 {
     for (key, value) in members.iter() {
         if !knows(names, commands, table, key.as_str(), value) {

@@ -4,6 +4,7 @@ ghost use Rattle.std.specs.Prelude.{◌≡◌, ◌++◌, IfOk, OnOk};
 ghost use Rattle.std.specs.List.{flat_map};
 ghost use Rattle.toml.specs.View.{view};
 ghost use Rattle.bh_props.specs.Found.{AreFound, IsFound};
+ghost use Rattle.bh_lint.specs.Table.{knows_in};
 ghost use Rattle.bh_lint.specs.Findings.{by_default, doubt_at, doubts_at, doubts_in, unknown_names, unknown_of};
 
 use crate::doubt::Doubt;
@@ -35,7 +36,7 @@ pub(crate) fn unknown_names(
     subjects: &[Subject],
 ) -> Result<Vec<Finding>, AllocError>
     ensures { IfOk result (λ warnings. warnings.items
-        ≡ unknown_names names.now.texts.keys commands.now.entries (view root.now) subjects.now) }
+        ≡ unknown_names (knows_in names.now.texts.keys commands.now.entries) (view root.now) subjects.now) }
 {
     let mut warnings = Vec::new(alloc);
     add_of_file(&mut warnings, root, names, commands)?;
@@ -53,7 +54,7 @@ fn add_of_subjects(
     subjects: &[Subject],
 ) -> Result<(), AllocError>
     ensures { OnOk result (warnings.new.items ≡ warnings.old.items
-        ++ flat_map (unknown_of names.now.texts.keys commands.now.entries (view root.now)) subjects.now) }
+        ++ flat_map (unknown_of (knows_in names.now.texts.keys commands.now.entries) (view root.now)) subjects.now) }
 {
     for subject in subjects {
         add_of_subject(warnings, root, names, commands, subject)?;

@@ -1,7 +1,8 @@
-use Rattle.std.proofs.Common.{◌≡◌, ◌∙◌, ◌++◌, List, ℕ, Vec, Global, ap, sym, subst}
+use Rattle.std.proofs.Common.{◌≡◌, ◌∙◌, ◌++◌, ap, sym, subst}
 use Rattle.toml.specs.View.{view}
 use Rattle.bh_props.specs.ByGroup.{AreByGroup}
 use Rattle.bh_props.specs.Subjects.{subjects}
+use Rattle.bh_lint.specs.Table.{knows_in}
 use Rattle.bh_lint.specs.Findings.{service_errors, subject_errors, unknown_names, doubts_in}
 use Rattle.bh_lint.proofs.linting.lint_with.Goals as goal
 
@@ -25,4 +26,4 @@ returns-clause-warnings c =
     c.in_ok-subjects.ensures commands by_groups ∙ ap (λ names. subjects names commands) c.as_slice.ensures.keys in
     let some = c.deref-3.ensures.value ∙ made in
     c.in_ok-warnings.ensures
-    ∙ (λ i. unknown_names keys commands (view (c.of-sections.ensures.root i)) (some i) ++ doubts_in (view (c.of-sections.ensures.root i)) (some i))
+    ∙ (λ i. unknown_names (knows_in keys commands) (view (c.of-sections.ensures.root i)) (some i) ++ doubts_in (view (c.of-sections.ensures.root i)) (some i))
