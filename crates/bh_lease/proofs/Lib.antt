@@ -1,0 +1,1 @@
+pub mod Lists  -- the lease at the first place that passes a test
