@@ -1,5 +1,5 @@
 -- What a step would be answered, by what the code looks at.
-use Rattle.std.proofs.Common.{◌≡◌, ℕ, ◌<◌, Bool, true, false, not, cond, List, [], ◌∷◌, filter, length, Some, None, refl, ◌∙◌, sym, ap, arith}
+use Rattle.std.proofs.Common.{◌≡◌, ℕ, Bool, true, false, not, cond, List, [], ◌∷◌, filter, length, Some, None, refl, ◌∙◌, sym, ap, arith}
 use Rattle.std.specs.Prelude.{◌||◌, find, nat_lt, nat_le, if◌then◌else◌}
 use Rattle.std.specs.List.{list_any}
 use Rattle.std.proofs.lemmas.Bool.Decides.{nat_tests}
@@ -80,12 +80,21 @@ started_with (t ∷ ts) g = at (is_queued t) (started_with ts g)
     at true h = refl
     at false h = h
 
--- a worker that is free gets a run where a ticket is queued
-pub start_seen : (v : View) (now : ℕ) → is_worn v.present ≡ false → pool_busy_count v.present < v.present.props.core → list_any is_queued v.present.tickets ≡ is_assigned (view_reply v op.Start now)
-start_seen v now fresh room =
-    let free : nat_lt (pool_busy_count v.present) v.present.props.core ≡ true = grind (arith, nat_tests) in
-    started_with v.present.tickets (begun now v.present)
-    ∙ sym (reply_fresh is_assigned v op.Start now refl fresh ∙ ap (λ b. is_assigned (started (if b then find is_queued v.present.tickets else None) (begun now v.present)).reply) free)
+-- where no ticket is queued nobody gets a run
+pub none_queued : (v : View) (now : ℕ) → is_worn v.present ≡ false → list_any is_queued v.present.tickets ≡ false → is_assigned (view_reply v op.Start now) ≡ false
+none_queued v now fresh none = reply_fresh is_assigned v op.Start now refl fresh ∙ at (nat_lt (pool_busy_count v.present) v.present.props.core)
+  where
+    at : (b : Bool) → is_assigned (started (if b then find is_queued v.present.tickets else None) (begun now v.present)).reply ≡ false
+    at true = sym (started_with v.present.tickets (begun now v.present)) ∙ none
+    at false = refl
+
+-- where one is queued, a worker that is free gets a run
+pub some_queued : (v : View) (now : ℕ) → is_worn v.present ≡ false → list_any is_queued v.present.tickets ≡ true → is_assigned (view_reply v op.Start now) ≡ nat_lt (pool_busy_count v.present) v.present.props.core
+some_queued v now fresh some = reply_fresh is_assigned v op.Start now refl fresh ∙ at (nat_lt (pool_busy_count v.present) v.present.props.core)
+  where
+    at : (b : Bool) → is_assigned (started (if b then find is_queued v.present.tickets else None) (begun now v.present)).reply ≡ b
+    at true = sym (started_with v.present.tickets (begun now v.present)) ∙ some
+    at false = refl
 
 -- Collect
 

@@ -110,7 +110,8 @@ impl Group {
         if self.is_worn() {
             return false;
         }
-        self.pool_busy_count(tickets) < self.workers() && tickets.any_queued(self.place)
+        // Most often nothing is queued, and then no worker is counted.
+        tickets.any_queued(self.place) && self.pool_busy_count(tickets) < self.workers()
     }
 
     /// Whether a `Collect` of the serial would be answered `Pending`, at whatever moment.
