@@ -27,6 +27,7 @@ pub enum TicketChange<'a> {
 }
 
 /// Changes the ticket.
+#[inline(always)]
 pub fn apply(change: &TicketChange, ticket: &mut Ticket)
     requires { IsAllowed change.now ticket.old }
     ensures { ticket.new ≡ changed_by change.now ticket.old }

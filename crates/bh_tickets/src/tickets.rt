@@ -324,6 +324,7 @@ impl Tickets {
     }
 
     /// The run of the ticket has ended in time.
+    #[inline(always)]
     pub fn end_run(&mut self, group: usize, slot: u32, state: &TicketState)
         requires group { group < length self.old.groups }
         requires there { IsThere (group_at self.old group) slot }

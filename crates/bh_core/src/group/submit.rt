@@ -12,7 +12,7 @@ ghost use Rattle.bh_tickets.specs.TicketsView.{group_at};
 use super::Group;
 use bh_admit::pool_admits;
 use bh_base::{
-    Admit, Cause, End, EventKind, Health, Reply, Request, Strategy, Ticket, TicketState,
+    Admit, Cause, End, EventKind, Health, Reply, Request, Serial, Strategy, Ticket, TicketState,
 };
 use bh_tickets::Tickets;
 
@@ -138,12 +138,12 @@ impl Group {
         match self.props.command(request.command).strategy {
             Strategy::Semaphore => {
                 self.add_ticket(tickets, request, &TicketState::Running, true, test);
-                *reply = Reply::Inline(serial);
+                write_inline(serial, reply);
                 return;
             }
             Strategy::Thread => {
                 self.add_ticket(tickets, request, &TicketState::Queued, false, test);
-                *reply = Reply::Queued(serial);
+                write_queued(serial, reply);
                 return;
             }
         }
@@ -265,4 +265,19 @@ impl Group {
         };
         tickets.push(self.place, &ticket);
     }
+}
+
+/// The reply to a request that the caller runs, written where it is kept: a function that makes several replies clears the
+/// room for each as it begins.
+fn write_inline(serial: Serial, reply: &mut Reply)
+    ensures { reply.new ≡ Reply.Inline serial }
+{
+    *reply = Reply::Inline(serial);
+}
+
+/// The reply to a request that waits, written where it is kept.
+fn write_queued(serial: Serial, reply: &mut Reply)
+    ensures { reply.new ≡ Reply.Queued serial }
+{
+    *reply = Reply::Queued(serial);
 }
