@@ -106,6 +106,7 @@ class Case(unittest.TestCase):
         """No ticket is left, in Python and in the core."""
         self.until(lambda: not service.runs())
         self.until(lambda: all(not (told.busy or told.queued) for told in service.metrics().values()))
+        self.assertEqual({group.queued for group in service.turns.groups.values()}, {0})
 
 
 def replayed(settings: Path, lines: bytes) -> bytes:

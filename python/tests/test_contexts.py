@@ -236,6 +236,27 @@ class Contexts(Case):
         self.assertEqual(len(set(map(id, values))), 1)
         self.assertEqual(len(values), 4)
 
+    def test_a_run_that_outlives_its_context_answers_all_who_share_it(self) -> None:
+        for name in ("pool", "permits"):
+            service, gate, values = self.open(), Gate(), []
+            call = service.command(name, key=lambda: 1)(lambda gate=gate: gate(7))
+            with service.context():
+                threads = [
+                    threading.Thread(
+                        target=contextvars.copy_context().run,
+                        args=(lambda call=call, values=values: values.append(call()),),
+                    )
+                    for _ in range(3)
+                ]
+                for thread in threads:
+                    thread.start()
+                self.until(lambda service=service: [run.holders for run in service.runs()] == [3])
+            gate.open()
+            for thread in threads:
+                thread.join()
+            self.assertEqual(values, [7] * 3)
+            self.assert_idle(service)
+
     def test_a_switched_off_cache_shares_nothing(self) -> None:
         service = self.open(SETTINGS + "\n[hystrix.command.pool.requestCache]\nenabled = false\n")
         call = service.command("pool", key=lambda: 1)(object)

@@ -64,6 +64,26 @@ class Interrupts(Case):
         ]
         self.interrupt_at_random(service, calls)
 
+    def test_a_step_that_is_not_made_leaves_nothing(self) -> None:
+        for name, steps in (("permits", 3), ("pool", 2)):
+            service = self.open()
+            call, ask = service.command(name)(lambda: 1), service.turns.ask
+            call()
+            for number in range(steps):
+                at = itertools.count()
+
+                def refuse(number: int = number, at: Any = at, ask: Any = ask) -> None:
+                    if next(at) == number:
+                        raise MemoryError
+                    ask()
+
+                service.turns.ask = refuse
+                with self.assertRaises(MemoryError):
+                    call()
+                service.turns.ask = ask
+                self.assert_idle(service)
+                self.assertEqual((call(), service.metrics(name).free), (1, 64))
+
     def interrupt_at_random(self, service: bulkhead.CommandService, calls: list[Any]) -> None:
         told: Counter[str] = Counter()
         is_armed = False
@@ -173,6 +193,7 @@ class Interrupts(Case):
                         if not self.at_place(call, number):
                             break
                         reached += 1
+                    self.assert_idle(service)
                 self.assertGreater(reached, 20)
                 self.assert_idle(service)
                 self.assertEqual({metrics.free for metrics in service.metrics().values()}, {64})

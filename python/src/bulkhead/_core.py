@@ -50,10 +50,10 @@ class Core(Answers):
         """Times out what is due in a group, and tells how many tickets those were."""
         late: list[Run] = []
         if not group.over:
-            self.step(self._expired, (group, late), group, words.EXPIRE)
+            self.step(group, words.EXPIRE, 0, self._expired, group, late, None)
         return len(late)
 
-    def _expired(self, group: Group, late: list[Run]) -> None:
+    def _expired(self, group: Group, late: list[Run], _: None) -> None:
         if self.reply[_KIND_AT] == words.WORN:
             self.is_over(group, words.WORN)
             self.unit = None
@@ -70,7 +70,7 @@ class Core(Answers):
                 self.told += told_of
             if run.state == LIVE:
                 run.state, group.queued = FALLBACK_DUE, group.queued - run.is_queued
-                place.counters.runs["timeout"] += 1
+                place.counters.timeouts += 1
         self.todo += late
         self.unit = None
 
@@ -94,7 +94,7 @@ class Core(Answers):
         group = place.group
         if not group.over:
             self.given[_COMMAND_AT] = place.number
-            self.step(self._was_read, (group,), group, words.READ)
+            self.step(group, words.READ, 0, self._was_read, group, None, None)
         if group.over == RETIRED:
             raise NoSuchGroup(f"{group.name}: the group was retired")
         if group.over == words.WORN:
@@ -103,7 +103,7 @@ class Core(Answers):
             raise Stopped("the service is closed")
         return self.reply[:]
 
-    def _was_read(self, group: Group) -> None:
+    def _was_read(self, group: Group, *_: None) -> None:
         if self.reply[_KIND_AT] == words.WORN:
             self.is_over(group, words.WORN)
         self.unit = None

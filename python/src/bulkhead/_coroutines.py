@@ -9,12 +9,12 @@ from contextlib import suppress
 from typing import TYPE_CHECKING, Any, Optional, Union
 
 from . import _words as words
-from ._runs import UNTOLD, Holder, Run, end_of
+from ._runs import UNTOLD, End, FallbackEnd, Holder, Run, end_of
 from .errors import Reentered
 
 if TYPE_CHECKING:
     from ._core import Core
-    from .contexts import RequestContext
+    from ._submits import Shared
 
 
 def is_coroutine_function(function: object) -> bool:
@@ -73,7 +73,7 @@ class Carried:
         try:
             coroutine = run.body.function(*run.arguments, **run.named)
         except Exception as error:
-            self._turns.turn(self._turns.end, run, end_of(error), None, error, None)
+            self._turns.turn_of(self._turns.end, run, (end_of(error), None, error), None)
             holder.runs_it = False
             return
         self.task = self._loop.create_task(coroutine)
@@ -97,27 +97,27 @@ class Carried:
 
     def _done(self, task: asyncio.Task[Any]) -> None:
         if task.cancelled():
-            self.end(words.FAIL_BAD_REQUEST, None, asyncio.CancelledError())
+            self.end((words.FAIL_BAD_REQUEST, None, asyncio.CancelledError()))
             return
         error = task.exception()
         if error is None:
-            self.end(words.FINISH, task.result(), None)
+            self.end((words.FINISH, task.result(), None))
         else:
-            self.end(end_of(error), None, error)
+            self.end((end_of(error), None, error))
 
-    def end(self, operation: int, value: Any, error: Optional[BaseException]) -> None:
+    def end(self, ended: End) -> None:
         """Tells how the run ended, unless it was told."""
-        self._turns.turn(self._end, operation, value, error)
+        self._turns.turn(self._end, ended)
         forget(self._turns, self._loop, self)
 
-    def _end(self, operation: int, value: Any, error: Optional[BaseException]) -> None:
+    def _end(self, ended: End) -> None:
         if self._run.task is self:
-            self._turns.end(self._run, operation, value, error, None)
+            self._turns.end(self._run, ended, None)
 
     def sweep(self) -> None:
         """Ends the run of a loop that does not run: where the loop was closed, or an interrupt kept the end from it."""
         if self._loop.is_closed():
-            self.end(words.FAIL_BAD_REQUEST, None, RuntimeError("the event loop was closed"))
+            self.end((words.FAIL_BAD_REQUEST, None, RuntimeError("the event loop was closed")))
         elif self.task is not None and self.task.done():
             self._done(self.task)
 
@@ -149,8 +149,7 @@ def _is_own(run: Run) -> bool:
 async def execute(
     turns: Core,
     run: Run,
-    context: Optional[RequestContext],
-    key: Optional[tuple[type, object]],
+    shared: Optional[Shared],
     leave: Callable[[Holder, BaseException], None],
 ) -> Any:
     """Executes a call in the loop that runs."""
@@ -160,7 +159,7 @@ async def execute(
     holder = Awaiter(turns, loop)
     try:
         turns.loops.setdefault(loop, {})[holder] = None
-        turns.turn(turns.submit, run, holder, context, key)
+        turns.turn_of(turns.submit, run, holder, shared)
         if holder.run is None:
             return holder.answer()
         run = holder.run
@@ -171,8 +170,7 @@ async def execute(
             raise Reentered(f"{run.place.spelled}: the run would wait for itself")
         await holder.wait()
         if holder.outcome == words.RUN_FALLBACK:
-            operation, value = await _fall_back(run)
-            turns.turn(turns.end_fallback, run, operation, value, holder)
+            turns.turn_of(turns.end_fallback, run, await _fall_back(run), holder)
             await holder.wait()
     except BaseException as error:
         carried = run.task
@@ -185,7 +183,7 @@ async def execute(
     return holder.answer()
 
 
-async def _fall_back(run: Run) -> tuple[int, Any]:
+async def _fall_back(run: Run) -> FallbackEnd:
     """Runs the fallback, which may be a coroutine function."""
     operation, value = run.fall_back()
     if operation != words.FALLBACK_SUCCESS or not inspect.isawaitable(value):

@@ -53,9 +53,9 @@ class FutureHolder(Holder):
         assert run is not None, "a fallback is of a ticket"
         try:
             variables = run.variables.copy() if run.variables is not None else None
-            operation, value = variables.run(turns.run_fallback, run) if variables else turns.run_fallback(run)
+            ended = variables.run(turns.run_fallback, run) if variables else turns.run_fallback(run)
         except BaseException:
-            operation, value = words.FALLBACK_FAILURE, None
-        turns.turn(turns.end_fallback, run, operation, value, self)
+            ended = words.FALLBACK_FAILURE, None
+        turns.turn_of(turns.end_fallback, run, ended, self)
         if not self.is_open():
             self.resolve()

@@ -20,6 +20,10 @@ TEXT_ROOM = 256
 
 # group, moment, ticket, context; operation, length of the key and of the text; then the key, the text and the command
 STEP = struct.Struct("=QQQQIII")
+# the parts of it that are written alone: what each step has, and what stands before the key
+STEP_HEAD = struct.Struct("=QQQ")
+STEP_SHARED = struct.Struct("=QII")
+SHARED_AT = STEP_HEAD.size
 KEY_AT = STEP.size
 TEXT_AT = KEY_AT + KEY_ROOM
 COMMAND_AT = TEXT_AT + TEXT_ROOM
@@ -32,8 +36,12 @@ METRICS = struct.Struct(f"={len(words.METRICS)}Q")
 METRICS_AT = REPLY_TEXT_AT + TEXT_ROOM
 REPLY_SIZE = METRICS_AT + METRICS.size
 
-# the byte of a reply that alone tells its kind, which is below 256
-KIND_AT = 0 if sys.byteorder == "little" else 3
+# the byte that alone tells the operation of a step, or the kind of a reply and so on, all of which are below 256
+_LOWEST = 0 if sys.byteorder == "little" else 3
+OPERATION_AT = SHARED_AT + 8 + _LOWEST
+KIND_AT, CAUSE_AT, FALLBACK_AT = _LOWEST, 4 + _LOWEST, 8 + _LOWEST
+# which of the 8-byte words of a reply is its number
+NUMBER_WORD = 2
 
 
 # a place for the answer to a line, and for its length

@@ -8,15 +8,13 @@ from typing import TYPE_CHECKING, Any, Optional
 
 from . import _library, _words as words
 from ._groups import Group
-from ._runs import Caller, Run
+from ._runs import End, Run, Waiter
 
 if TYPE_CHECKING:
     from ._core import Core
 
-_unpack_reply = _library.REPLY.unpack_from
-
-# how a run ended: operation, value and exception
-End = tuple[int, Any, Optional[BaseException]]
+_KIND_AT, _NUMBER_WORD = _library.KIND_AT, _library.NUMBER_WORD
+_START, _ASSIGNED = words.START, words.ASSIGNED
 
 
 class Worker:
@@ -28,12 +26,12 @@ class Worker:
         self._wake.acquire()
         # whether the group does not count it yet
         self.is_new = True
-        self._is_idle = self._is_over = False
+        self._is_started = self._is_idle = self._is_over = False
         self._given: Optional[Run] = None
 
     def tell(self, by_timer: bool) -> None:
         """Wakes its thread, or starts it. One that cannot be started leaves its work to the others."""
-        if self._claim.locked():
+        if self._is_started:
             try:
                 self._wake.release()
             except RuntimeError:
@@ -48,55 +46,60 @@ class Worker:
     def _work(self) -> None:
         if not self._claim.acquire(blocking=False):
             return  # it was told twice, and another thread is at it
-        turns = self._turns
-        ended: Optional[tuple[Run, End]] = None
+        self._is_started = True
+        turn, ask, wait, thread = self._turns.turn_of, self._ask, self._wake.acquire, threading.get_ident()
+        run = ended = None
         while not self._is_over:
-            run: Optional[Run] = turns.turn(self._next, ended)
-            ended = None
+            run = turn(ask, run, ended, None)
             if run is None and self._is_idle:
-                self._wake.acquire()
+                wait()
                 run, self._given = self._given, None
             if run is not None:
-                run.thread = threading.get_ident()
-                ended = run, _run(run)
+                if run.is_cached:
+                    run.thread = thread
+                ended = _run(run)
 
     def go_on(self, turns: Core) -> None:
         """Asks for a run while the worker sleeps, in the turn of a submit, which spares it a turn of its own."""
         group = self._group
         if self._given is None and group.queued and not group.over:
-            turns.step(self._started, (), group, words.START)
+            turns.step(group, _START, 0, self.started, group, None, None)
         turns.work_done()
 
-    def _next(self, ended: Optional[tuple[Run, End]]) -> Optional[Run]:
-        """Tells how a run ended, and asks for the next one."""
-        turns, group, told = self._turns, self._group, self._turns.told
-        if self._is_idle and self in group.idle:
-            group.idle.remove(self)  # it was woken for nothing
-        self._is_idle = False
-        if ended is not None:
-            run, (operation, value, error) = ended
-            turns.end(run, operation, value, error, None)
-            turns.settle()
-            if told and not (type(told[0]) is Caller and len(told) == 1 or turns.tells_only(Caller)):
+    def _ask(self, before: Optional[Run], ended: Optional[End], _: None) -> Optional[Run]:
+        """Tells how the run before ended, if there was one, and asks for the next one."""
+        turns, group = self._turns, self._group
+        if self._is_idle:
+            if self in group.idle:
+                group.idle.remove(self)  # it was woken for nothing
+            self._is_idle = False
+        if before is not None and ended is not None:
+            turns.end(before, ended, None)
+            if turns.todo:
+                turns.settle()
+            told = turns.told
+            if told and (type(told[0]) is not Waiter or len(told) > 1) and turns.calls_back():
                 return None  # callbacks of futures come before the next run
         if group.over:
             self._is_over = True
             return None
-        if group.queued and self._given is None:
-            turns.step(self._started, (), group, words.START)
         given = self._given
+        if group.queued and given is None:
+            turns.step(group, _START, 0, self.started, group, None, None)
+            given = self._given
         if given is None:
             self._is_idle = True
             group.idle += (self,)
         self._given = None
         return given
 
-    def _started(self) -> None:
-        turns, group = self._turns, self._group
-        kind, _, _, _, ticket, _ = _unpack_reply(turns.reply)
-        if kind == words.ASSIGNED:
-            run = group.runs[ticket]
-            self._given, run.is_queued, run.started, group.queued = run, False, group.latest, group.queued - 1
+    def started(self, group: Group, *_: None) -> None:
+        """Takes over the reply to a start."""
+        turns = self._turns
+        kind = turns.reply[_KIND_AT]
+        if kind == _ASSIGNED:
+            self._given = run = group.runs[turns.numbers[_NUMBER_WORD]]
+            run.is_queued, run.started, group.queued = False, group.latest, group.queued - 1
         elif kind == words.WORN:
             turns.is_over(group, kind)
         turns.unit = None

@@ -11,14 +11,19 @@ from math import inf
 from typing import TYPE_CHECKING, Any, Optional
 
 from . import _words as words
-from ._groups import Place
+from ._groups import Group, Place
 from .errors import BadRequest, CommandError, GroupFull, Interrupted, NoSuchGroup, Stopped, Worn, error_of
 
 if TYPE_CHECKING:
     from ._core import Core
 
+_FINISH, _COLLECT = words.FINISH, words.COLLECT
+
 # states of a ticket, as far as Python has to know them
 LIVE, FALLBACK_DUE, IN_FALLBACK, ANSWERED = range(4)
+
+# the states in which a holder has something to collect
+_COLLECTABLE = (ANSWERED, FALLBACK_DUE)
 
 # who waits for a run for which nobody does; a list that waits is never changed but for another one
 NOBODY: list[Holder] = []
@@ -28,15 +33,21 @@ UNTOLD, STOPPED, RETIRED = 0, -1, -2
 
 STILL_OPEN = frozenset((UNTOLD, words.PENDING, words.RUN_FALLBACK))
 
+# how a run ended: the operation that tells it, its value and its exception; and how a fallback did
+End = tuple[int, Any, Optional[BaseException]]
+FallbackEnd = tuple[int, Any]
+
 
 class Body:
     """A function with its fallback, as a command of a group has them."""
 
-    __slots__ = ("fallback", "function", "group", "place")
+    __slots__ = ("fallback", "function", "group", "is_awaited", "place")
 
-    def __init__(self, place: Place, function: Callable[..., Any], fallback: Optional[Callable[..., Any]]) -> None:
+    def __init__(
+        self, place: Place, function: Callable[..., Any], fallback: Optional[Callable[..., Any]], is_awaited: bool
+    ) -> None:
         self.place, self.group = place, place.group
-        self.function, self.fallback = function, fallback
+        self.function, self.fallback, self.is_awaited = function, fallback, is_awaited
 
 
 class Run:
@@ -45,10 +56,10 @@ class Run:
     Its arguments and values never cross to the core.
     """
 
-    # what a run begins with stands in the class, so that to make one is short
+    # what stands in the class need not be set for each run; what a usual call reads is set, as that is read sooner
     ticket = started = cause = 0
-    state, due, holders = LIVE, inf, 1
-    is_cached = is_queued = is_unowned = False
+    state, due = LIVE, inf
+    is_queued = False
     waiting = NOBODY
     value: Any = None
     error: Optional[BaseException] = None
@@ -59,16 +70,19 @@ class Run:
 
     def __init__(self, body: Body, arguments: tuple[Any, ...], named: dict[str, Any]) -> None:
         self.body, self.arguments, self.named = body, arguments, named
-        self.place, self.group = body.place, body.group
+        self.place: Place = body.place
+        self.group: Group = body.group
+        self.holders = 1
+        self.is_cached = self.is_unowned = False
 
-    def perform(self) -> tuple[int, Any, Optional[BaseException]]:
-        """Runs the function: the operation that tells how it ended, its value and its exception."""
+    def perform(self) -> End:
+        """Runs the function."""
         try:
-            return words.FINISH, self.body.function(*self.arguments, **self.named), None
+            return _FINISH, self.body.function(*self.arguments, **self.named), None
         except BaseException as error:
             return end_of(error), None, error
 
-    def fall_back(self) -> tuple[int, Any]:
+    def fall_back(self) -> FallbackEnd:
         """Runs the fallback, if there is one. A BaseException that is no Exception passes through."""
         fallback = self.body.fallback
         if fallback is None:
@@ -79,8 +93,17 @@ class Run:
             return words.FALLBACK_FAILURE, None
 
     def go_on(self, turns: Core) -> None:
-        """Makes the next step that a holder's answer wants."""
-        turns.collect(self)
+        """Makes the next step that a holder's answer wants: a collect for a holder, if one is due."""
+        group, waiting = self.group, self.waiting
+        if group.over:
+            turns.answer_all(self, group.over)
+        elif waiting and self.state in _COLLECTABLE and not self.is_unowned:
+            holder, left = (waiting[0], NOBODY) if len(waiting) == 1 else _first(waiting)
+            turns.step(group, _COLLECT, self.ticket, turns.collected, self, holder, left)
+        elif self.is_unowned:
+            turns.step(group, words.FALLBACK_MISSING, self.ticket, turns.fallback_ended, self, None, None)
+        else:
+            turns.work_done()
 
     def error_due(self) -> CommandError:
         """Why the fallback is due, as a new exception."""
@@ -91,6 +114,12 @@ def end_of(error: BaseException) -> int:
     """How a run ended that raised: what says nothing of the dependency counts as a bad request."""
     says_nothing = isinstance(error, BadRequest) or not isinstance(error, Exception)
     return words.FAIL_BAD_REQUEST if says_nothing else words.FAIL
+
+
+def _first(waiting: list[Holder]) -> tuple[Holder, list[Holder]]:
+    """Who collects next, and who after that: those who are gone come last, so that another one runs the fallback."""
+    first = next((holder for holder in waiting if not holder.is_gone()), waiting[0])
+    return first, [holder for holder in waiting if holder is not first]
 
 
 class Holder:
@@ -165,25 +194,39 @@ def _interrupted(spelled: str, error: Optional[BaseException]) -> Interrupted:
 
 
 class Caller(Holder):
-    """A thread that waits."""
+    """A thread that runs the function itself, and waits only where it shares an answer or its run timed out."""
 
     is_told = False
-    _wake: Optional[threading.Lock] = None
+    wake: Optional[threading.Lock] = None
 
     def wait_ready(self) -> None:
-        if self._wake is None:
-            wake = threading.Lock()
-            wake.acquire()
-            self._wake, self.is_told = wake, True
+        if self.wake is None:
+            self.wake, self.is_told = _locked(), True
 
     def wait(self) -> None:
         """Waits until it is told."""
-        if self._wake is not None and self.outcome in (UNTOLD, words.PENDING):
-            self._wake.acquire()
+        if self.wake is not None and self.outcome in (UNTOLD, words.PENDING):
+            self.wake.acquire()
 
     def tell(self, by_timer: bool) -> None:
-        if self._wake is not None:
-            try:
-                self._wake.release()
-            except RuntimeError:
-                pass  # released already
+        try:
+            if self.wake is not None:
+                self.wake.release()
+        except RuntimeError:
+            pass  # released already
+
+
+class Waiter(Caller):
+    """A thread that waits for what another one runs."""
+
+    is_told = True
+
+    def __init__(self) -> None:
+        self.wake = _locked()
+
+
+def _locked() -> threading.Lock:
+    """A lock that whoever waits takes when it was let go."""
+    lock = threading.Lock()
+    lock.acquire()
+    return lock

@@ -2,7 +2,6 @@
 
 from __future__ import annotations
 
-from contextvars import copy_context
 from typing import TYPE_CHECKING, Optional
 
 from . import _library, _words as words
@@ -14,81 +13,121 @@ from ._turns import Turns
 if TYPE_CHECKING:
     from .contexts import RequestContext
 
-_unpack_reply = _library.REPLY.unpack_from
+_pack_shared, _SHARED_AT = _library.STEP_SHARED.pack_into, _library.SHARED_AT
 _KEY_AT, _COMMAND_AT = _library.KEY_AT, _library.COMMAND_AT
+_OPERATION_AT, _KIND_AT = _library.OPERATION_AT, _library.KIND_AT
+_CAUSE_AT, _NUMBER_WORD = _library.CAUSE_AT, _library.NUMBER_WORD
+_SUBMIT, _START = words.SUBMIT, words.START
+_INLINE, _QUEUED, _FALLBACK_DUE = words.INLINE, words.QUEUED, words.FALLBACK_DUE
 # the replies to a submit that made a ticket
-_PLACED = (words.INLINE, words.QUEUED, words.FALLBACK_DUE)
+_PLACED = (_QUEUED, _INLINE, _FALLBACK_DUE)
+# the request context of a call, and its key of `checked_key`
+Shared = tuple["RequestContext", tuple[type, object]]
 
 
 class Submits(Turns):
     """Turns that submit calls."""
 
-    def submit(
-        self,
-        run: Run,
-        holder: Holder,
-        context: Optional[RequestContext] = None,
-        key: Optional[tuple[type, object]] = None,
-    ) -> None:
+    def submit(self, run: Run, holder: Holder, shared: Optional[Shared]) -> None:
         """Submits a call for a holder, who gets the ticket of this run or that of another one."""
-        group, place = run.group, run.place
+        group, place, context = run.group, run.place, None
         if group.over:
             holder.outcome, holder.spelled = group.over, place.spelled
             return
+        operation = _SUBMIT
+        if shared is not None and shared[0].is_open and place.settings.is_cached:
+            operation, context = words.SUBMIT_SHARED, self._share(run, *shared)
         self.given[_COMMAND_AT] = place.number
-        if context is not None and key is not None and context.is_open and place.settings.is_cached:
-            name = context.name_of(key)
-            self.given[_KEY_AT : _KEY_AT + len(name)] = name
-            context.groups[group], run.is_cached = None, True
-            self.step(self._submitted, (run, holder, context), group, words.SUBMIT_SHARED, 0, context.number, len(name))
+        kind = self.make_step(group, operation, 0, (self._submitted, run, holder, context))
+        if context is not None or place.circuit.state:
+            self._submitted(run, holder, context)
+        elif kind == _INLINE and not run.body.is_awaited:
+            # what is usual is taken over in place, and nothing is called
+            run.ticket = ticket = self.numbers[_NUMBER_WORD]
+            run.started = started = group.latest
+            holder.run, holder.runs_it, group.runs[ticket] = run, True, run
+            run.due = due = started + place.limit
+            if due < self.alarm_at and self.alarm is not None:
+                self.alarm_at = due
+                self.told += (self.alarm,)
+            self.unit = None
+        elif kind == _QUEUED and group.idle:
+            self._handed(run, holder, group.idle[-1])
         else:
-            self.step(self._submitted, (run, holder, None), group, words.SUBMIT)
+            self._submitted(run, holder, None)
+
+    def _handed(self, run: Run, holder: Holder, worker: Worker) -> None:
+        """Takes over a ticket for which a worker sleeps, and hands it to that one at once."""
+        group = run.group
+        # nothing is called but the library
+        run.ticket = ticket = self.numbers[_NUMBER_WORD]
+        run.started = started = group.latest
+        run.waiting, holder.run, group.runs[ticket] = [holder], run, run
+        run.is_queued, group.queued = True, group.queued + 1
+        run.due = due = started + run.place.limit
+        if due < self.alarm_at and self.alarm is not None:
+            self.alarm_at = due
+            self.told += (self.alarm,)
+        del group.idle[-1]
+        self.told += (worker,)
+        self.todo += (worker,)
+        self.unit = None
+        self.make_next(_START, (worker.started, group, None, None))
+        worker.started(group, None, None)
+        del self.todo[-1]
+
+    def _share(self, run: Run, context: RequestContext, key: tuple[type, object]) -> RequestContext:
+        """Has the submit that follows share an answer within a context."""
+        name = context.name_of(key)
+        self.given[_KEY_AT : _KEY_AT + len(name)] = name
+        _pack_shared(self.given, _SHARED_AT, context.number, 0, len(name))
+        context.groups[run.group], run.is_cached = None, True
+        return context
 
     def _submitted(self, run: Run, holder: Holder, context: Optional[RequestContext]) -> None:
         """Takes over the reply to a submit, mostly a new ticket."""
-        kind, cause, _, _, ticket, _ = _unpack_reply(self.reply)
-        if kind not in _PLACED:
-            self._not_placed(run, holder, kind, ticket)
-            return
-        group, place, changes, woken, waiting = run.group, run.place, None, None, NOBODY
-        if place.circuit.state or kind == words.FALLBACK_DUE:
+        kind, ticket, group, place = self.reply[_KIND_AT], self.numbers[_NUMBER_WORD], run.group, run.place
+        cause, changes, worker, waiting = 0, None, None, NOBODY
+        if kind != _INLINE or holder.awaits:
+            if kind not in _PLACED:
+                self._not_placed(run, holder, kind, ticket)
+                return
+            worker, waiting = self._waits(run, holder, kind)
+        if place.circuit.state or kind == _FALLBACK_DUE:
+            cause = self.reply[_CAUSE_AT]
             changes = self.circuit_changes(place, place.circuit.submitted(kind, cause, ticket))
-        if kind != words.INLINE or holder.awaits:
-            woken, waiting = self._waits(run, holder, kind)
         # from here on nothing is called
         run.ticket, run.waiting, run.started = ticket, waiting, group.latest
-        holder.run, holder.runs_it = run, kind == words.INLINE
+        holder.run, holder.runs_it = run, kind == _INLINE
         group.runs[ticket] = run
         if context is not None:
             context.runs += (run,)
         if changes:
             place.circuit.state, place.circuit.test, told_of = changes
             self.told += told_of
-        if kind == words.FALLBACK_DUE:
+        if kind == _FALLBACK_DUE:
             run.state = FALLBACK_DUE
             place.counters.rejections[words.CAUSES[cause - 1]] += 1
             self.todo += (run,)
         else:
-            run.due = group.latest + place.limit
-            if run.due < self.alarm_at and self.alarm is not None:
-                self.alarm_at = run.due
+            run.due = due = group.latest + place.limit
+            if due < self.alarm_at and self.alarm is not None:
+                self.alarm_at = due
                 self.told += (self.alarm,)
-        if kind == words.QUEUED:
-            run.is_queued, group.queued = True, group.queued + 1
-        if woken is not None:
-            self.told += (woken,)
-            if woken.is_new:
-                group.threads, group.workers, woken.is_new = group.threads + 1, [*group.workers, woken], False
+            if kind == _QUEUED:
+                run.is_queued, group.queued = True, group.queued + 1
+        if worker is not None:
+            self.told += (worker,)
+            if worker.is_new:
+                group.threads, group.workers, worker.is_new = group.threads + 1, [*group.workers, worker], False
             else:
                 del group.idle[-1]
-                self.todo += (woken,)
+                self.todo += (worker,)
         self.unit = None
 
     def _waits(self, run: Run, holder: Holder, kind: int) -> tuple[Optional[Worker], list[Holder]]:
         """What a ticket wants that its holder waits for: who is to be told of it, and who waits."""
         holder.wait_ready()
-        if kind != words.INLINE:
-            run.variables = copy_context()
         return (self._free_worker(run.group) if kind == words.QUEUED else None), [holder]
 
     def _not_placed(self, run: Run, holder: Holder, kind: int, ticket: int) -> None:

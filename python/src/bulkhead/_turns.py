@@ -12,12 +12,12 @@ from collections.abc import Callable
 from functools import partial
 from math import inf
 from time import monotonic_ns as _monotonic_ns
-from typing import TYPE_CHECKING, Any, Optional, Protocol
+from typing import TYPE_CHECKING, Any, Optional, Protocol, TypeVar
 
 from . import _library
 from ._groups import Group, Place
 from ._recording import Act
-from ._runs import Run
+from ._runs import Caller, Run
 from ._transitions import Transition
 from .errors import BadStep, Reentered, Stopped
 
@@ -26,11 +26,14 @@ if TYPE_CHECKING:
     from .steps import Service as StepService
 
 # how often something is begun again that an exception of a signal handler broke off
-_AGAIN = range(100)
-_pack_step = _library.STEP.pack_into
-_KIND_AT = _library.KIND_AT
+AGAIN = range(100)
+_pack_head = _library.STEP_HEAD.pack_into
+_OPERATION_AT, _KIND_AT = _library.OPERATION_AT, _library.KIND_AT
 # the kind while a group is registered or retired, which no reply has
 _ACT = 255
+# what takes a reply over, by three things of its own
+Done = Callable[[Any, Any, Any], None]
+Unit = tuple[Done, Any, Any, Any]
 
 
 class Told(Protocol):
@@ -45,8 +48,17 @@ class Work(Protocol):
     def go_on(self, turns: Any) -> None: ...
 
 
+A = TypeVar("A")
+B = TypeVar("B")
+C = TypeVar("C")
+T = TypeVar("T")
+
 # of no turn: nobody is ever put into it
 _NOBODY: list[Told] = []
+
+
+def _spread(begin: Callable[..., T], arguments: tuple[Any, ...], _: None) -> T:
+    return begin(*arguments)
 
 
 def _tell_each(told: list[Told], by_timer: bool) -> None:
@@ -64,14 +76,16 @@ class Turns:
         self._opened = opened
         # the clock of a test, if it has one of its own
         self._clock = clock
-        # a step as the library reads it, its reply, and the call that makes the one of the other
-        self.given, self.reply = opened.given, opened.told
-        self._make = partial(_library.make_step, *opened.places)
+        # a step as the library reads it, its reply, the words of that, and the call that makes the one of the other
+        self.given, self.reply, self.numbers = opened.given, opened.told, opened.numbers
+        self._ask_library: Callable[[], object] = partial(_library.make_step, *opened.places)
+        # the same, and with a record a note of it
+        self.ask: Callable[[], object] = self._ask_library
         # the line of a registration or a retirement, and its answer
         self._line, self._answer, self._length = b"", _library.Answer(), _library.Length()
         # who is let go on after the turn that goes on, if one does
         self.told: list[Told] = _NOBODY
-        self.unit: Optional[tuple[Callable[..., None], tuple[Any, ...]]] = None
+        self.unit: Optional[Unit] = None
         self.todo: list[Work] = []
         self._is_noted = True
         self.kind_at = _KIND_AT
@@ -93,11 +107,15 @@ class Turns:
 
     # -- a turn
 
-    def turn(self, begin: Callable[..., Any], *arguments: Any, by_timer: bool = False) -> Any:
+    def turn(self, begin: Callable[..., T], *arguments: Any, by_timer: bool = False) -> T:
         """One turn of the lock: what `begin` does, and all that follows from it. Then who was told is let go on.
 
         Raises `Reentered` where this thread is in a turn already, and leaves nothing half done at any exception.
         """
+        return self.turn_of(_spread, begin, arguments, None, by_timer)
+
+    def turn_of(self, begin: Callable[[A, B, C], T], one: A, other: B, more: C, by_timer: bool = False) -> T:
+        """The same of a function of three arguments, as each call needs it, which is shorter."""
         told: list[Told] = []
         try:
             with self._lock:
@@ -105,7 +123,7 @@ class Turns:
                     raise Reentered("a command was called in the midst of a turn, as by a finalizer or a signal handler")
                 self.told, self._moment = told, None
                 try:
-                    result = begin(*arguments)
+                    result = begin(one, other, more)
                     if self.todo:
                         self.settle()
                 except BaseException:
@@ -117,7 +135,7 @@ class Turns:
         finally:
             if told:
                 stopped: Optional[BaseException] = None
-                for _ in _AGAIN:  # a signal handler may raise wherever a call begins or ends, so there is none outside
+                for _ in AGAIN:  # a signal handler may raise wherever a call begins or ends, so there is none outside
                     try:
                         _tell_each(told, by_timer)
                         break
@@ -132,19 +150,20 @@ class Turns:
 
     def settle(self) -> None:
         """Makes the steps that follow from what was done."""
-        while self.todo:
-            self.todo[-1].go_on(self)
+        todo = self.todo
+        while todo:
+            todo[-1].go_on(self)
 
     def _mend(self) -> None:
         """Brings to its end what an exception left half done. Another exception in the midst of it does not stop it."""
-        for _ in _AGAIN:
+        for _ in AGAIN:
             try:
                 unit = self.unit
                 if unit is not None and self._is_made():
                     if not self._is_noted:
                         self._note()
-                    done, data = unit
-                    done(*data)
+                    done, one, other, more = unit
+                    done(one, other, more)
                 self.unit = None
                 self.settle()
                 return
@@ -157,19 +176,18 @@ class Turns:
         kind = self.reply[_KIND_AT]
         return self._length.value > 0 if kind == _ACT else kind > 0
 
-    def step(
-        self,
-        done: Callable[..., None],
-        data: tuple[Any, ...],
-        group: Group,
-        operation: int,
-        ticket: int = 0,
-        context: int = 0,
-        key_length: int = 0,
-    ) -> None:
+    def step(self, group: Group, operation: int, ticket: int, done: Done, one: Any, other: Any, more: Any) -> None:
         """Makes a step of a group that is not over, at the moment of the turn, and hands its reply over to `done`.
 
-        A key and the number of a command stand in `given` before.
+        What it has beside a ticket stands in `given` before.
+        """
+        self.make_step(group, operation, ticket, (done, one, other, more))
+        done(one, other, more)
+
+    def make_step(self, group: Group, operation: int, ticket: int, unit: Unit) -> int:
+        """Makes a step of a group that is not over, at the moment of the turn, and gives the kind of its reply.
+
+        Whoever calls it takes the reply over at once; `unit` does where an exception breaks that off.
         """
         moment = self._moment
         if moment is None:
@@ -178,33 +196,51 @@ class Turns:
         try:
             if moment < group.latest:
                 moment = group.latest
-            _pack_step(self.given, 0, group.number, moment, ticket, context, operation, key_length, 0)
+            _pack_head(self.given, 0, group.number, moment, ticket)
         except Exception:
             raise BadStep(f"the clock has to give whole milliseconds from 0 on, and gave {moment!r}") from None
-        self.reply[_KIND_AT] = 0
+        reply = self.reply
+        self.given[_OPERATION_AT] = operation
+        reply[_KIND_AT] = 0
         group.latest = moment
-        self.unit = done, data
-        if self.record is not None:
-            self._is_noted = False
-        self._make()
-        if self.record is not None:
-            self._note()
-        done(*data)
+        self.unit = unit
+        ask = self.ask  # in two: a call of what an object holds is longer else
+        ask()
+        return reply[_KIND_AT]
 
-    def act(self, done: Callable[..., None], data: tuple[Any, ...], line: bytes) -> None:
+    def make_next(self, operation: int, unit: Unit) -> int:
+        """The same for the group and the ticket of the step before, in the same turn."""
+        reply = self.reply
+        self.given[_OPERATION_AT] = operation
+        reply[_KIND_AT] = 0
+        self.unit = unit
+        ask = self.ask
+        ask()
+        return reply[_KIND_AT]
+
+    def act(self, line: bytes, done: Done, one: Any, other: Any, more: Any) -> None:
         """Has a line answered that registers or retires a group, and hands over to `done`, which asks for the `answer`."""
         if not self.is_open:
             raise Stopped("the service is closed")
         self._line, self._length.value, self._has_acted = line, 0, True
         self.reply[_KIND_AT] = _ACT
-        self.unit, self._is_noted = (done, data), self.record is None
+        self.unit, self._is_noted = (done, one, other, more), self.record is None
         self._opened.line_into(line, self._answer, self._length)
         self._note()
-        done(*data)
+        done(one, other, more)
 
     def answer(self) -> bytes:
         """The answer to the line of an act."""
         return bytes(self._answer[: self._length.value])
+
+    def begin_record(self, record: Record) -> None:
+        """Notes each step from now on."""
+        self.record, self.ask = record, self._ask_and_note
+
+    def _ask_and_note(self) -> None:
+        self._is_noted = False
+        self._ask_library()
+        self._note()
 
     def _note(self) -> None:
         """Keeps what was done for the record, in order."""
@@ -245,9 +281,9 @@ class Turns:
         """Has somebody go on after this turn."""
         self.told.append(one)
 
-    def tells_only(self, kind: type) -> bool:
-        """Whether all who are let go on after this turn are of a kind."""
-        return all(type(one) is kind for one in self.told)
+    def calls_back(self) -> bool:
+        """Whether what follows this turn is more than to let callers go on."""
+        return not all([isinstance(one, Caller) for one in self.told])
 
     def circuit_changes(self, place: Place, after: tuple[int, int]) -> Any:
         """What changes of a circuit breaker: its state and test call afterwards, and who is told of that."""

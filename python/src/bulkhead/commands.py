@@ -7,19 +7,23 @@ import copy
 import functools
 from collections.abc import Callable, Coroutine
 from concurrent.futures import Future
+from contextvars import copy_context
 from threading import get_ident
 from typing import TYPE_CHECKING, Any, Generic, Optional, ParamSpec, TypeVar
 
 from . import _coroutines, _words as words
 from ._futures import FutureHolder
 from ._groups import Place
-from ._runs import UNTOLD, Body, Caller, Holder, Run
+from ._runs import UNTOLD, Body, Caller, Holder, Run, Waiter
 from .contexts import checked_key
 from .errors import BadRequest, Reentered, Refused
 
 if TYPE_CHECKING:
     from ._core import Core
+    from ._submits import Shared
     from .service import CommandService
+
+_VALUE = words.VALUE
 
 P = ParamSpec("P")
 R = TypeVar("R")
@@ -40,8 +44,9 @@ class _Declared:
     ) -> None:
         self._service, self._key = service, key
         self._turns: Core = service.turns
-        self._submit, self._end = self._turns.submit, self._turns.end
-        self._body = Body(place, function, fallback)
+        # looked up once, which each call would do else
+        self._turn, self._submit, self._end = self._turns.turn_of, self._turns.submit, self._turns.end
+        self._body = Body(place, function, fallback, isinstance(self, AsyncCommand))
         self._is_pooled = place.settings.is_pooled
         # the instance, where it is the command of a method that was bound
         self._bound: tuple[Any, ...] = ()
@@ -62,7 +67,7 @@ class _Declared:
         if of.like != body.group.like:
             raise Refused(f"{group} was not registered like {body.group.like}, which has the command {self.name}")
         made = copy.copy(self)
-        made._body = Body(of.places[body.place.number], body.function, body.fallback)
+        made._body = Body(of.places[body.place.number], body.function, body.fallback, body.is_awaited)
         return made
 
     def __get__(self: Self, instance: object, owner: Optional[type] = None) -> Self:
@@ -77,12 +82,13 @@ class _Declared:
         """A call that has not been submitted yet."""
         return Run(self._body, (*self._bound, *arguments) if self._bound else arguments, named)
 
-    def _named(self, run: Run) -> tuple[Any, Any]:
+    def _shared(self, run: Run) -> Optional[Shared]:
         """The request context and the key of a call, if it has both."""
         context = self._service.current.get()
         if context is None or self._key is None:
-            return None, None
-        return context, checked_key(self._key(*run.arguments, **run.named))
+            return None
+        key = checked_key(self._key(*run.arguments, **run.named))
+        return None if key is None else (context, key)
 
     def _leave(self, holder: Holder, error: BaseException) -> None:
         """What a holder owes is done, whatever comes in between."""
@@ -105,51 +111,52 @@ class Command(_Declared, Generic[P, R]):
 
     def __call__(self, *args: P.args, **kwargs: P.kwargs) -> R:
         """Executes the command: its value, or the fallback's. Raises a `CommandError` where there is neither."""
-        turns, body = self._turns, self._body
+        body, turn = self._body, self._turn
         arguments: tuple[Any, ...] = args
         if self._bound:
             arguments = (*self._bound, *args)
         run = Run(body, arguments, kwargs)
-        context, key = (None, None) if self._key is None else self._named(run)
-        if self._is_pooled and not body.group.threads:
-            self._hire()
-        holder = Caller()
+        shared = None if self._key is None else self._shared(run)
+        holder = self._pooled_holder(run) if self._is_pooled else Caller()
         try:
-            turns.turn(self._submit, run, holder, context, key)
+            turn(self._submit, run, holder, shared)
             if holder.runs_it:
                 if run.is_cached:
                     run.thread = get_ident()
-                operation, value, holder.error = run.perform()
-                turns.turn(self._end, run, operation, value, holder.error, holder)
-                if operation != words.FINISH:
-                    _raise_own(holder, operation)
-                if holder.is_told:
+                ended = run.perform()
+                holder.error = ended[2]
+                turn(self._end, run, ended, holder)
+                if holder.outcome != _VALUE:
+                    _raise_own(holder, ended[0])
                     holder.wait()
             elif holder.outcome == UNTOLD:
                 if holder.run is not run:
                     self._refuse_own(holder)
                 holder.wait()
+            if holder.outcome == _VALUE:
+                value: R = holder.value
+                return value
             if holder.outcome == words.RUN_FALLBACK and holder.run is not None:
                 run = holder.run
-                operation, value = turns.run_fallback(run)
-                turns.turn(turns.end_fallback, run, operation, value, holder)
+                turn(self._turns.end_fallback, run, self._turns.run_fallback(run), holder)
         except BaseException as error:
             self._leave(holder, error)
             raise
-        answer: R = holder.value if holder.outcome == words.VALUE else holder.answer()
+        answer: R = holder.answer()
         return answer
 
     def queue(self, *args: P.args, **kwargs: P.kwargs) -> Future[R]:
         """Queues the command, which has to run under THREAD: a future of what a call would give or raise."""
         if not self._is_pooled:
             raise Refused(f"{self.name} runs under SEMAPHORE: to queue it, it has to run under THREAD")
-        turns, run = self._turns, self._run(args, kwargs)
-        context, key = (None, None) if self._key is None else self._named(run)
+        run = self._run(args, kwargs)
+        shared = None if self._key is None else self._shared(run)
+        run.variables = copy_context()
         if not run.group.threads:
             self._hire()
-        holder = FutureHolder(turns)
+        holder = FutureHolder(self._turns)
         try:
-            turns.turn(self._submit, run, holder, context, key)
+            self._turn(self._submit, run, holder, shared)
             if holder.run is None:
                 holder.resolve()
             elif holder.outcome == UNTOLD and holder.run is not run:
@@ -168,6 +175,13 @@ class Command(_Declared, Generic[P, R]):
         run = holder.run
         if run is not None and run.thread == get_ident():
             raise Reentered(f"{self.name}: the run would wait for itself")
+
+    def _pooled_holder(self, run: Run) -> Waiter:
+        """Who waits for a run of a worker, which has the variables of its caller."""
+        run.variables = copy_context()
+        if not run.group.threads:
+            self._hire()
+        return Waiter()
 
     def _hire(self) -> None:
         """Starts the first worker of the group."""
@@ -195,7 +209,7 @@ class AsyncCommand(_Declared, Generic[P, T]):
     async def run(self, *args: P.args, **kwargs: P.kwargs) -> T:
         """The same. At its timeout the caller is answered at once, and the task is cancelled."""
         run = self._run(args, kwargs)
-        value: T = await _coroutines.execute(self._turns, run, *self._named(run), self._leave)
+        value: T = await _coroutines.execute(self._turns, run, self._shared(run), self._leave)
         return value
 
     def queue(self, *args: P.args, **kwargs: P.kwargs) -> Future[T]:

@@ -6,13 +6,16 @@ from contextvars import ContextVar, Token
 from types import TracebackType
 from typing import TYPE_CHECKING, Any, Optional
 
-from . import _words as words
+from . import _library, _words as words
 from .errors import BadKey, Error
 
 if TYPE_CHECKING:
     from ._core import Core
     from ._groups import Group
     from ._runs import Run
+
+
+_pack_shared, _SHARED_AT = _library.STEP_SHARED.pack_into, _library.SHARED_AT
 
 
 class RequestContext:
@@ -69,9 +72,10 @@ class RequestContext:
             self.forget(group)
             self.groups.pop(group, None)
         else:
-            turns.step(self._closed, (group,), group, words.CLOSE_CONTEXT, 0, self.number)
+            _pack_shared(turns.given, _SHARED_AT, self.number, 0, 0)
+            turns.step(group, words.CLOSE_CONTEXT, 0, self._closed, group, None, None)
 
-    def _closed(self, group: Group) -> None:
+    def _closed(self, group: Group, *_: None) -> None:
         turns = self._turns
         if turns.reply[turns.kind_at] == words.WORN:
             turns.is_over(group, words.WORN)

@@ -150,7 +150,7 @@ class CommandService:
     def _register(self, name: str, like: str) -> dict[str, Any]:
         told: dict[str, Any] = {}
         line = json.dumps({"op": "register", "group": name, "like": like}).encode()
-        self.turns.act(self._registered, (told, name, like), line)
+        self.turns.act(line, self._registered, told, name, like)
         return told
 
     def _registered(self, told: dict[str, Any], name: str, like: str) -> None:
@@ -175,9 +175,9 @@ class CommandService:
     def _retire(self, group: Group) -> None:
         if self.turns.groups.get(group.name) is group:
             line = json.dumps({"op": "retire", "group": group.name}).encode()
-            self.turns.act(self._retired, (group,), line)
+            self.turns.act(line, self._retired, group, None, None)
 
-    def _retired(self, group: Group) -> None:
+    def _retired(self, group: Group, *_: None) -> None:
         turns, answer = self.turns, json.loads(self.turns.answer())
         if answer.get("reply") == "retired":
             turns.end_group(group, RETIRED)
@@ -255,7 +255,8 @@ class CommandService:
             raise Stopped("the service is closed")
         if self.turns.has_stepped() or self.turns.record is not None:
             raise Error("a record begins before the first step, and there is one of a service")
-        self.turns.record = record
+        if record is not None:
+            self.turns.begin_record(record)
 
     def runs(self) -> list[Run]:
         """The tickets that are there, for tests and for a look at what goes on."""

@@ -112,6 +112,8 @@ class Service:
         self.held = held
         self.given = bytearray(_library.STEP_SIZE)
         self.told = bytearray(_library.REPLY_SIZE)
+        # the words of 8 bytes that a reply begins with
+        self.numbers = memoryview(self.told)[: _library.REPLY.size].cast("Q")
         step = (c_char * _library.STEP_SIZE).from_buffer(self.given)
         reply = (c_char * _library.REPLY_SIZE).from_buffer(self.told)
         self.places = byref(held), byref(step), byref(reply)
