@@ -64,6 +64,36 @@ class Interrupts(Case):
         ]
         self.interrupt_at_random(service, calls)
 
+    def test_a_context_may_be_interrupted_by_the_kernel_at_random_places(self) -> None:
+        service, opened, is_armed, count = self.open(), [], False, 0
+        call = service.command("permits", key=lambda: 1)(lambda: 1)
+
+        def handle(number: int, frame: Optional[FrameType]) -> None:
+            nonlocal is_armed
+            if is_armed:
+                is_armed = False
+                raise Interrupt
+
+        before = signal.signal(signal.SIGALRM, handle)
+        self.addCleanup(signal.signal, signal.SIGALRM, before)
+        random.seed(11)
+        while count < ROUNDS:
+            try:
+                is_armed = True
+                signal.setitimer(signal.ITIMER_REAL, random.uniform(0.000_001, 0.000_100))
+                while is_armed:
+                    opened = [service.context()]
+                    with opened[0]:
+                        call()
+            except Interrupt:
+                count += 1
+            finally:
+                is_armed = False
+            self.assertIsNone(service.current.get())
+            self.assertEqual([context for context in opened if context.groups], [])
+        self.assert_idle(service)
+        self.assertEqual(service.metrics("permits").free, 64)
+
     def test_a_step_that_is_not_made_leaves_nothing(self) -> None:
         for name, steps in (("permits", 3), ("pool", 2)):
             service = self.open()
@@ -226,7 +256,7 @@ class Interrupts(Case):
     def test_each_place_of_the_end_of_a_context_may_be_interrupted(self) -> None:
         service = self.open()
         calls = [service.command(name, key=lambda: 1)(lambda: 1) for name in ("permits", "pool")]
-        for number in range(2, 1_000):  # where the end has not begun, the context goes on
+        for number in range(2, 1_000):  # at the first, where its generator goes on, no signal handler is called
             context = service.context()
             context.__enter__()
             for call in calls:

@@ -2,11 +2,13 @@
 
 from __future__ import annotations
 
-from contextvars import ContextVar, Token
-from types import TracebackType
+from collections.abc import Generator
+from contextvars import ContextVar
+from io import IOBase
 from typing import TYPE_CHECKING, Any, Optional
 
 from . import _library, _words as words
+from ._turns import AGAIN
 from .errors import BadKey, Error
 
 if TYPE_CHECKING:
@@ -18,40 +20,54 @@ if TYPE_CHECKING:
 _pack_shared, _SHARED_AT = _library.STEP_SHARED.pack_into, _library.SHARED_AT
 
 
-class RequestContext:
-    """A request context, from `with service.context():` until that block ends. It is entered once."""
+class RequestContext(IOBase):
+    """A request context, from `with service.context():` until that block ends. It is entered once.
+
+    An exception of a signal handler can come at the first instruction of a Python function, and nothing of that is run
+    then. So `__exit__` is that of `IOBase`, which is none, and calls `close`: that of a generator, which goes on from
+    within its `try`.
+    """
 
     def __init__(self, turns: Core, current: ContextVar[Optional[RequestContext]], number: int) -> None:
         self._turns, self._current = turns, current
-        self._token: Optional[Token[Optional[RequestContext]]] = None
         self._names: dict[tuple[type, object], bytes] = {}
         self.number, self.is_open = number, True
         self.groups: dict[Group, None] = {}
         self.runs: list[Run] = []
+        self._is_entered, self._block = False, self._within()
+        self.close = self._block.close  # type: ignore[assignment]
 
     def __enter__(self) -> RequestContext:
-        if self._token is not None or not self.is_open:
+        if self._is_entered or self._block.gi_frame is None:
             raise Error("a request context is entered once")
-        self._token = self._current.set(self)
+        self._is_entered = True
+        try:
+            next(self._block)
+        except BaseException:
+            self.close()
+            raise
         return self
 
-    def __exit__(
-        self, kind: Optional[type[BaseException]], error: Optional[BaseException], trace: Optional[TracebackType]
-    ) -> None:
-        interrupt: Optional[BaseException] = None
+    def _within(self) -> Generator[None, None, None]:
+        """Lasts as long as the block."""
+        before, interrupt = self._current.get(), None
         try:
-            while self.is_open:
+            self._current.set(self)
+            yield
+        finally:
+            for _ in AGAIN:
                 try:
-                    self._turns.turn(self._close)
+                    if self.is_open:
+                        self._turns.turn(self._close)
+                    if self._current.get() is self:
+                        self._current.set(before)
+                    break
                 except Exception:
                     raise
                 except BaseException as stopped:
                     interrupt = stopped
-        finally:
-            if self._token is not None:
-                self._current.reset(self._token)
-        if interrupt is not None:
-            raise interrupt
+            if interrupt is not None:
+                raise interrupt
 
     def name_of(self, key: tuple[type, object]) -> bytes:
         """What the core knows a key by. Called under the lock, with a key of `checked_key`."""
