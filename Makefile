@@ -18,8 +18,12 @@ archive = bindings/out/libbulkhead.a
 wheel = python/out/made
 pack = bulkhead-$(VERSION)-linux-$(MACHINE)
 
-.PHONY: all install uninstall dist
-all: $(program) $(archive) $(wheel)
+.PHONY: all tools install uninstall dist
+all: tools $(program) $(archive) $(wheel)
+
+# What is wanted of Python is looked for before anything is proved.
+tools:
+	@python/build-wheel --check
 
 $(program):
 	cd crates/bulkhead && rt run -- --help
