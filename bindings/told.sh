@@ -1,6 +1,7 @@
 #!/bin/bash
 # What the program tells its user: each refusal and fault with the fixed text, its status and, with --explain, the line that
-# says more, and the same output without it; and that the man page has the commands and options of --help, no more, no fewer.
+# says more, and the same output without it; the forms of a lint; and that the man page has the commands and options of --help,
+# no more, no fewer.
 #
 #   bindings/told.sh [PROGRAM]     PROGRAM is proved and built where none is given
 set -euo pipefail
@@ -105,6 +106,23 @@ tells 0 "" "explain: line 2: ticket is missing; it has to be a whole number from
 explain: line 3: there is no group \"paymnt\"" run settings.toml
 printf '{"op":"start","group":"payment","now":1}\n%01025d\n' 0 >input
 tells 3 "fault: line" "explain: line 2: more than 1024 bytes, the most that a line may have" run settings.toml
+
+# A lint has colours on a terminal alone, and none where they are refused or it tells objects: `on_terminal WORDS..`.
+on_terminal() {
+    python3 -c 'import os, pty, sys
+sys.exit(os.waitstatus_to_exitcode(pty.spawn(sys.argv[1:])))' "$@" </dev/null | tr -d '\r'
+}
+cat >settings.toml <<'END'
+service.groups = ["payment"]
+paymnt = 1
+END
+found='nothing looks up `paymnt` in the file'
+object='{"column":1,"file":"settings.toml","line":2,"message":"'$found'","nearest":null,"range":null,"severity":"warning"}'
+agree "a lint" "$("$program" lint settings.toml)" "settings.toml:2:1: warning: $found"
+agree "a lint on a terminal" "$(on_terminal "$program" lint settings.toml)" $'\e[1msettings.toml:2:1: \e[33mwarning: \e[0m'"$found"
+agree "a lint on a terminal without colours" "$(NO_COLOR=1 on_terminal "$program" lint settings.toml)" "settings.toml:2:1: warning: $found"
+agree "the objects of a lint" "$("$program" lint --json settings.toml)" "$object"
+agree "the objects of a lint on a terminal" "$(on_terminal "$program" lint --json settings.toml)" "$object"
 
 # Commands and options, one a line: of --help, of the program and of each command, and of the man page.
 options() {

@@ -13,6 +13,6 @@ pub mod serve;
 pub use check::{check_explained, check_file};
 pub use cut::cut_file;
 pub use file::{FILE_LIMIT, FileError, Unread, read_file};
-pub use lint::lint_file;
+pub use lint::{Linting, lint_file};
 pub use run::{Explained, run_explained, run_file};
 pub use serve::{Serving, serve_file, watch};

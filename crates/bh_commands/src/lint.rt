@@ -7,14 +7,23 @@ ghost use Rattle.bh_lint.specs.Reports.{Reports};
 ghost use Rattle.bh_commands.specs.Linted.{LintStatus};
 
 use crate::report;
-use bh_lint::{Report, lint, put_lines};
+use bh_lint::{Form, Report, lint, put_findings};
 use bh_props::SettingsError;
 use bh_streams::{WatchedWriter, write};
 use std::alloc::{AllocError, Global};
 use std::io::Write;
 
-/// Writes a line for each finding in the settings of the file of the name, the errors first, at most 1,000, and then
-/// how many more there are. Answers the exit status.
+/// How a lint tells what it finds, and what counts as an error.
+#[derive(Clone, Copy, Debug)]
+pub struct Linting {
+    /// How findings are written.
+    pub form: Form,
+    /// Whether a warning counts as an error.
+    pub denies_warnings: bool,
+}
+
+/// Writes a line for each finding in the settings of the file of the name, in the form that is asked for, the errors
+/// first, at most 1,000, and then how many more there are. Answers the exit status.
 ///
 /// - 0: nothing is amiss, or there are warnings alone that are not denied.
 /// - 1: there is an error, or a warning and warnings are denied.
@@ -24,17 +33,17 @@ pub fn lint_file<W: Write, E: Write>(
     alloc: Global,
     file: &str,
     settings: &[u8],
-    denies_warnings: bool,
+    linting: Linting,
     writer: &mut W,
     errors: &mut E,
 ) -> u8
     ensures status { (result ≡ 0) ⊎ ((result ≡ 1) ⊎ (result ≡ 3)) }
     ensures refused { IsErr (settings_in settings.now) → (result ≡ 1) ⊎ (result ≡ 3) }
     ensures quiet { result ≢ 3 → errors.new ≡ errors.old }
-    ensures told { result ≢ 3 → LintStatus file.now denies_warnings settings.now (W.contents writer.old) (W.contents writer.new) result }
+    ensures told { result ≢ 3 → LintStatus linting file.now settings.now (W.contents writer.old) (W.contents writer.new) result }
 {
     match lint(alloc, settings) {
-        Ok(found) => tell(alloc, file, &found, denies_warnings, writer, errors),
+        Ok(found) => tell(alloc, file, &found, linting, writer, errors),
         Err(AllocError) => report::settings(errors, SettingsError::Memory),
     }
 }
@@ -44,22 +53,22 @@ fn tell<W: Write, E: Write>(
     alloc: Global,
     file: &str,
     found: &Report,
-    denies_warnings: bool,
+    linting: Linting,
     writer: &mut W,
     errors: &mut E,
 ) -> u8
     ensures status { (result ≡ 0) ⊎ ((result ≡ 1) ⊎ (result ≡ 3)) }
     ensures quiet { result ≢ 3 → errors.new ≡ errors.old }
     ensures told { result ≢ 3 → (bytes : List ℕ) → Reports (errors_in bytes) (warnings_in bytes) found.now
-        → LintStatus file.now denies_warnings bytes (W.contents writer.old) (W.contents writer.new) result }
+        → LintStatus linting file.now bytes (W.contents writer.old) (W.contents writer.new) result }
 {
     let mut lines = Vec::new(alloc);
-    if put_lines(&mut lines, file, &found.told, found.more).is_err() {
+    if put_findings(&mut lines, linting.form, file, &found.told, found.more).is_err() {
         return report::settings(errors, SettingsError::Memory);
     }
     let mut writer = WatchedWriter::new(writer);
     match write(&mut writer, lines.as_slice()) {
-        Ok(()) => found.status(denies_warnings),
+        Ok(()) => found.status(linting.denies_warnings),
         Err(error) => report::port(errors, error),
     }
 }

@@ -42,8 +42,8 @@ top-within : (place kids : List (List ℕ)) (key : List ℕ) → ((sc : Scope) (
     → list_any (λ child. bytes_eq child key) kids ≡ true
 top-within place kids key within s h =
     elim (or_cases (list_any (is_on (place ++ key ∷ [])) (under s.scope s.name)) (list_any (is_on (place ++ key ∷ [])) (under s.scope default)) h) [
-      inl own ↦ one s.name own
-    | inr given ↦ one default given
+      | inl own ↦ one s.name own
+      | inr given ↦ one default given
     ]
   where
     one : (n : List ℕ) → list_any (is_on (place ++ key ∷ [])) (under s.scope n) ≡ true → list_any (λ child. bytes_eq child key) kids ≡ true
@@ -53,15 +53,15 @@ any-const : {X : Type 0} (p : X → Bool) (r : Bool) → ((x : X) → p x ≡ tr
 any-const p r all [] h = absurd (false≢true h)
 any-const p r all (x ∷ xs) h = elim (or_cases (p x) (list_any p xs) h) [ inl here ↦ all x here | inr later ↦ any-const p r all xs later ]
 
-top : (place kids : List (List ℕ)) (key n : List ℕ) (more : List Subject) → ((sc : Scope) (m : List ℕ) → is_within (next place (under sc m)) kids ≡ true)
+pub top : (place kids : List (List ℕ)) (key n : List ℕ) (more : List Subject) → ((sc : Scope) (m : List ℕ) → is_within (next place (under sc m)) kids ≡ true)
     → is_within kids (next place (under scopes.Group n)) ≡ true → is_looked_up (a_group n ∷ more) (place ++ key ∷ []) ≡ list_any (λ child. bytes_eq child key) kids
 top place kids key n more within back =
     all-paths (a_group n ∷ more) (place ++ key ∷ [])
     ∙ together (list_any test (a_group n ∷ more)) (list_any (λ child. bytes_eq child key) kids)
-      (any-const test (list_any (λ child. bytes_eq child key) kids) (top-within place kids key within) (a_group n ∷ more))
-      (λ known. or_left (test (a_group n)) (list_any test more)
-        (or_left (list_any (is_on (place ++ key ∷ [])) (under scopes.Group n)) (list_any (is_on (place ++ key ∷ [])) (under scopes.Group default))
-        (on-next place key (under scopes.Group n) ∙ any-within (λ child. bytes_eq child key) kids (next place (under scopes.Group n)) back known)))
+    (any-const test (list_any (λ child. bytes_eq child key) kids) (top-within place kids key within) (a_group n ∷ more))
+    (λ known. or_left (test (a_group n)) (list_any test more)
+    (or_left (list_any (is_on (place ++ key ∷ [])) (under scopes.Group n)) (list_any (is_on (place ++ key ∷ [])) (under scopes.Group default))
+    (on-next place key (under scopes.Group n) ∙ any-within (λ child. bytes_eq child key) kids (next place (under scopes.Group n)) back known)))
   where
     test : Subject → Bool
     test s = list_any (is_on (place ++ key ∷ [])) (under s.scope s.name) || list_any (is_on (place ++ key ∷ [])) (under s.scope default)
@@ -230,11 +230,16 @@ module _ (n : List ℕ) (more : List (List ℕ)) (commands : Commands) (h : AreL
   file-same : flat_map (unknown_in by_table d []) file_tables ≡ flat_map (unknown_in (is_used some) d []) file_tables
   unfolding file_tables
   file-same =
-      same-rows (unknown_in by_table d []) (unknown_in (is_used some) d []) file_tables
-      ( in-same by_table (is_used some) d [] tables.Root (λ key x. sym (top [] (children tables.Root) key n _ root-within (root-back n)))
-      , ( in-same by_table (is_used some) d [] tables.Hystrix (λ key x. sym (top (hystrix ∷ []) (children tables.Hystrix) key n _ hystrix-within (hystrix-back n)))
-        , ( in-same by_table (is_used some) d [] tables.Commands (λ key x. sym (in-commands n more commands key h))
-          , (in-same by_table (is_used some) d [] tables.Pools (λ key x. sym (in-pools n more commands key)), tt) ) ) )
+      same-rows (unknown_in by_table d []) (unknown_in (is_used some) d []) file_tables (
+        in-same by_table (is_used some) d [] tables.Root (λ key x. sym (top [] (children tables.Root) key n _ root-within (root-back n))),
+        (
+          in-same by_table (is_used some) d [] tables.Hystrix (λ key x. sym (top (hystrix ∷ []) (children tables.Hystrix) key n _ hystrix-within (hystrix-back n))),
+          (
+            in-same by_table (is_used some) d [] tables.Commands (λ key x. sym (in-commands n more commands key h)),
+            (in-same by_table (is_used some) d [] tables.Pools (λ key x. sym (in-pools n more commands key)), tt),
+          ),
+        ),
+      )
 
   each-same : AllByRecursion (λ s. unknown_of by_table d s ≡ unknown_of (is_used some) d s) some
   each-same =

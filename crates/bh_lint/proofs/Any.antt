@@ -79,8 +79,8 @@ module _ {X : Type 0} where
       by true e later =
           let passed : (g x || list_any (λ y. p y && g y) xs) ≡ true = rw e at h in
           rw e (elim (or_cases (g x) (list_any (λ y. p y && g y) xs) passed) [
-            inl here ↦ or_left (g x) (list_any g (filter p xs)) here
-          | inr rest ↦ or_right (g x) (list_any g (filter p xs)) (later rest)
+            | inl here ↦ or_left (g x) (list_any g (filter p xs)) here
+            | inr rest ↦ or_right (g x) (list_any g (filter p xs)) (later rest)
           ])
       by false e later = rw e (later (rw e at h))
 
@@ -122,8 +122,8 @@ among : (test : List ℕ → Bool) (x : List ℕ) (ys : List (List ℕ)) → lis
 among test x [] h passes = absurd (false≢true h)
 among test x (y ∷ ys) h passes =
     elim (or_cases (bytes_eq y x) (list_any (λ z. bytes_eq z x) ys) h) [
-      inl here ↦ or_left (test y) (list_any test ys) (subst (λ (z : List ℕ). test z ≡ true) (sym ((bytes_eq-Decides y x).0 here)) passes)
-    | inr later ↦ or_right (test y) (list_any test ys) (among test x ys later passes)
+      | inl here ↦ or_left (test y) (list_any test ys) (subst (λ (z : List ℕ). test z ≡ true) (sym ((bytes_eq-Decides y x).0 here)) passes)
+      | inr later ↦ or_right (test y) (list_any test ys) (among test x ys later passes)
     ]
 
 pub any-within : (test : List ℕ → Bool) (xs ys : List (List ℕ)) → is_within xs ys ≡ true → list_any test xs ≡ true → list_any test ys ≡ true

@@ -6,3 +6,5 @@ pub mod Any  -- whether one of a list passes a test
 pub mod Ways  -- the keys that follow a place on the paths at which values are looked up
 pub mod Listed  -- the groups and the further commands of a file, as subjects
 pub mod Agree  -- the tables of names agree with the paths at which values are looked up
+pub mod Floatless  -- objects that tell findings have no floats
+pub mod Unused  -- what stands at a name that nothing looks up changes no settings

@@ -50,21 +50,21 @@ module _ (commands : Commands) (f : List ℕ → Bool) where
   rows-either from [] r group further h = absurd (false≢true h)
   rows-either from (n ∷ names) r group further h =
       elim (or_cases (f n) (list_any (λ s. f s.name) (those_at commands from ++ rows commands (from + 1) names)) h) [
-        inl here ↦ group (or_left (f n) (list_any f names) here)
-      | inr later ↦ elim (or_cases (list_any (λ s. f s.name) (those_at commands from)) (list_any (λ s. f s.name) (rows commands (from + 1) names))
-          (sym (list_any-append (λ s. f s.name) (those_at commands from) (rows commands (from + 1) names)) ∙ later)) [
-          inl there ↦ further (at-place-some from there)
-        | inr rest ↦ rows-either (from + 1) names r (λ e. group (or_right (f n) (list_any f names) e)) further rest
-        ]
+        | inl here ↦ group (or_left (f n) (list_any f names) here)
+        | inr later ↦ elim (or_cases (list_any (λ s. f s.name) (those_at commands from)) (list_any (λ s. f s.name) (rows commands (from + 1) names))
+            (sym (list_any-append (λ s. f s.name) (those_at commands from) (rows commands (from + 1) names)) ∙ later)) [
+              | inl there ↦ further (at-place-some from there)
+              | inr rest ↦ rows-either (from + 1) names r (λ e. group (or_right (f n) (list_any f names) e)) further rest
+            ]
       ]
 
   groups-rows : (from : ℕ) (names : List (List ℕ)) → list_any f names ≡ true → list_any (λ s. f s.name) (rows commands from names) ≡ true
   groups-rows from [] h = absurd (false≢true h)
   groups-rows from (n ∷ names) h =
       elim (or_cases (f n) (list_any f names) h) [
-        inl here ↦ or_left (f n) (list_any (λ s. f s.name) (those_at commands from ++ rows commands (from + 1) names)) here
-      | inr later ↦ or_right (f n) (list_any (λ s. f s.name) (those_at commands from ++ rows commands (from + 1) names))
-          (any-back (λ s. f s.name) (those_at commands from) (rows commands (from + 1) names) (groups-rows (from + 1) names later))
+        | inl here ↦ or_left (f n) (list_any (λ s. f s.name) (those_at commands from ++ rows commands (from + 1) names)) here
+        | inr later ↦ or_right (f n) (list_any (λ s. f s.name) (those_at commands from ++ rows commands (from + 1) names))
+            (any-back (λ s. f s.name) (those_at commands from) (rows commands (from + 1) names) (groups-rows (from + 1) names later))
       ]
 
   place-rows : (from place : ℕ) (names : List (List ℕ)) → place < length names → list_any (λ s. f s.name) (those_at commands (from + place)) ≡ true
@@ -86,9 +86,9 @@ module _ (commands : Commands) (f : List ℕ → Bool) where
   placed-at groups [] h some = absurd (false≢true some)
   placed-at groups (c ∷ rest) h some =
       elim (or_cases (f c.0) (list_any (λ x. f x.0) rest) some) [
-        inl here ↦ (c.1.0, h.0, or_left ((c.1.0 == c.1.0) && f c.0) (list_any (λ x. (x.1.0 == c.1.0) && f x.0) rest) (and_from (c.1.0 == c.1.0) (f c.0) (eq-eqb c.1.0 c.1.0 refl) here))
-      | inr later ↦ let found = placed-at groups rest h.1 later in
-          (found.0, found.1, or_right ((c.1.0 == found.0) && f c.0) (list_any (λ x. (x.1.0 == found.0) && f x.0) rest) found.2)
+        | inl here ↦ (c.1.0, h.0, or_left ((c.1.0 == c.1.0) && f c.0) (list_any (λ x. (x.1.0 == c.1.0) && f x.0) rest) (and_from (c.1.0 == c.1.0) (f c.0) (eq-eqb c.1.0 c.1.0 refl) here))
+        | inr later ↦ let found = placed-at groups rest h.1 later in
+            (found.0, found.1, or_right ((c.1.0 == found.0) && f c.0) (list_any (λ x. (x.1.0 == found.0) && f x.0) rest) found.2)
       ]
 
   further-rows : (names : List (List ℕ)) → AllByRecursion (λ c. c.1.0 < length names) commands → list_any (λ c. f c.0) commands ≡ true → list_any (λ s. f s.name) (subjects names commands) ≡ true
@@ -130,8 +130,8 @@ fits : (key : List ℕ) (commands : Commands) → AllByRecursion (λ c. length c
 fits key [] h some = absurd (false≢true some)
 fits key (c ∷ rest) h some =
     elim (or_cases (bytes_eq c.0 key) (list_any (λ x. bytes_eq x.0 key) rest) some) [
-      inl here ↦ subst (λ (s : List ℕ). length s ≤ 32) ((bytes_eq-Decides c.0 key).0 here) h.0
-    | inr later ↦ fits key rest h.1 later
+      | inl here ↦ subst (λ (s : List ℕ). length s ≤ 32) ((bytes_eq-Decides c.0 key).0 here) h.0
+      | inr later ↦ fits key rest h.1 later
     ]
 
 -- a further command has the name
@@ -186,7 +186,8 @@ counted (Some ys) xs h = by (nat_le 1 (length ys) && nat_le (length ys) 1000) re
         inner e = cc
     by false e = let bad : None ≡ Some xs = rw e at h in cc
 
-some-names : (d : Data) (names : List (List ℕ)) → names_of d ≡ Ok names → nat_le 1 (length names) ≡ true
+-- a file that is read names a group
+pub some-names : (d : Data) (names : List (List ℕ)) → names_of d ≡ Ok names → nat_le 1 (length names) ≡ true
 some-names d names h = by (listed d) refl
   where
     by_twice : (xs : List (List ℕ)) (o : Option ℕ) → unless_twice xs o ≡ Ok names → xs ≡ names

@@ -1,5 +1,5 @@
 -- The lines that tell findings.
-use Rattle.std.specs.Prelude.{ℕ, ◌-◌, ◌==◌, List, [], ◌∷◌, ◌++◌, codes, Bool, if◌then◌else◌, Option, Some, None, is_some, take, length}
+use Rattle.std.specs.Prelude.{ℕ, ◌-◌, ◌==◌, List, [], ◌∷◌, ◌++◌, codes, Bool, true, false, if◌then◌else◌, Option, Some, None, is_some, take, length}
 use Rattle.std.specs.List.{flat_map}
 use Rattle.std.specs.Fmt.{decimal}
 use Rattle.bh_props.specs.declared.property.Property.{Property}
@@ -118,9 +118,24 @@ message (findings.Doubtful name doubt) = name ++ codes ": " ++ doubt_text doubt
 abbrev pub is_error : Finding → Bool
 is_error f = is_some (refusal_of f)
 
--- its word
+-- its word, with what stands between it and what the finding says
 abbrev pub severity : Finding → List ℕ
 severity f = if is_error f then codes "error: " else codes "warning: "
+
+-- the word alone
+abbrev pub severity_word : Finding → List ℕ
+severity_word f = if is_error f then codes "error" else codes "warning"
+
+-- what makes a terminal write bold, and as it does by itself
+abbrev pub bold : List ℕ
+bold = 27 ∷ codes "[1m"
+
+abbrev pub no_colour : List ℕ
+no_colour = 27 ∷ codes "[0m"
+
+-- an error is red, and a warning yellow
+abbrev pub colour : Finding → List ℕ
+colour f = if is_error f then 27 ∷ codes "[31m" else 27 ∷ codes "[33m"
 
 -- the name that is nearest, if there is one
 abbrev pub nearest_text : List ℕ → List ℕ
@@ -132,14 +147,25 @@ abbrev pub reason_text : List ℕ → List ℕ
 reason_text [] = []
 reason_text (b ∷ rest) = codes ": " ++ (b ∷ rest)
 
+-- what a finding says, and what the reader of TOML does
+abbrev pub said : Told → List ℕ
+said t = message t.finding ++ reason_text t.reason
+
 -- where it stands
 abbrev pub place_text : List ℕ → ℕ → ℕ → List ℕ
 place_text file line column = file ++ codes ":" ++ decimal line ++ codes ":" ++ decimal column ++ codes ": "
 
+-- what stands behind its word
+abbrev pub back_of : Told → List ℕ
+back_of t = message t.finding ++ nearest_text t.nearest ++ reason_text t.reason ++ codes "\n"
+
 -- its line
 abbrev pub line_of : List ℕ → Told → List ℕ
-line_of file t =
-    place_text file t.line t.column ++ severity t.finding ++ message t.finding ++ nearest_text t.nearest ++ reason_text t.reason ++ codes "\n"
+line_of file t = place_text file t.line t.column ++ severity t.finding ++ back_of t
+
+-- the line with colours for a terminal: the place is bold, and the word has a colour
+abbrev pub coloured_line_of : List ℕ → Told → List ℕ
+coloured_line_of file t = bold ++ place_text file t.line t.column ++ colour t.finding ++ severity t.finding ++ no_colour ++ back_of t
 
 -- how many more there are than are told
 abbrev pub more_text : List ℕ → ℕ → List ℕ
@@ -148,6 +174,15 @@ more_text file more = if more == 0 then [] else file ++ codes ": " ++ decimal mo
 -- the lines of what is told, and how many more there are
 abbrev pub lines_of : List ℕ → List Told → ℕ → List ℕ
 lines_of file told more = flat_map (line_of file) told ++ more_text file more
+
+-- with colours where they are wanted
+abbrev pub line_in : Bool → List ℕ → Told → List ℕ
+line_in true file t = coloured_line_of file t
+line_in false file t = line_of file t
+
+-- the same lines, with colours where they are wanted
+abbrev pub lines_in : Bool → List ℕ → List Told → ℕ → List ℕ
+lines_in coloured file told more = flat_map (line_in coloured file) told ++ more_text file more
 
 -- the most findings that are told
 abbrev pub most_told : ℕ

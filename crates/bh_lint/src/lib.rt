@@ -4,10 +4,13 @@
 mod doubt;
 mod errors;
 mod finding;
+mod form;
+mod laws;
 mod lines;
 mod linting;
 mod messages;
 mod nearest;
+mod objects;
 mod path;
 mod place;
 mod put;
@@ -21,6 +24,8 @@ mod warnings;
 
 pub use doubt::Doubt;
 pub use finding::{Finding, MOST_SHOWN, Refusal, Stands};
+pub use form::{Form, put_findings};
+pub use laws::unused_changes_nothing;
 pub use lines::put_lines;
 pub use linting::{Findings, lint_tree};
 pub use report::{Report, lint};

@@ -1,8 +1,8 @@
 //! What findings say.
 
-ghost use Rattle.std.specs.Prelude.{◌≡◌, ◌++◌, codes, decimal, OnOk};
+ghost use Rattle.std.specs.Prelude.{◌≡◌, ◌++◌, codes, decimal, OnOk, string_bytes};
 ghost use Rattle.bh_lint.specs.Table.{part_name};
-ghost use Rattle.bh_lint.specs.Lines.{message, named_text, part_text, stands_text, kind_text, fault_text, bad_value_text, refusal_text, range_text, command_text, table_text, unknown_text, doubt_text, severity, is_error};
+ghost use Rattle.bh_lint.specs.Lines.{message, named_text, part_text, stands_text, kind_text, fault_text, bad_value_text, refusal_text, range_text, command_text, table_text, unknown_text, doubt_text, severity, severity_word, colour, is_error};
 
 use crate::doubt::Doubt;
 use crate::finding::{Finding, Refusal, Stands};
@@ -12,8 +12,8 @@ use bh_props::{Fault, Kind, Property};
 use std::alloc::AllocError;
 
 /// Adds what the finding says.
-pub(crate) fn put_message(out: &mut Vec<u8>, finding: &Finding) -> Result<(), AllocError>
-    ensures { OnOk result (out.new.items ≡ out.old.items ++ message finding.now) }
+pub(crate) fn put_message(out: &mut String, finding: &Finding) -> Result<(), AllocError>
+    ensures { OnOk result (string_bytes out.new ≡ string_bytes out.old ++ message finding.now) }
 {
     match finding {
         Finding::Refused(refusal) => put_refusal(out, *refusal),
@@ -47,8 +47,8 @@ pub(crate) fn put_message(out: &mut Vec<u8>, finding: &Finding) -> Result<(), Al
 }
 
 /// Adds a refusal that is told without more.
-fn put_refusal(out: &mut Vec<u8>, refusal: Refusal) -> Result<(), AllocError>
-    ensures { OnOk result (out.new.items ≡ out.old.items ++ refusal_text refusal) }
+fn put_refusal(out: &mut String, refusal: Refusal) -> Result<(), AllocError>
+    ensures { OnOk result (string_bytes out.new ≡ string_bytes out.old ++ refusal_text refusal) }
 {
     match refusal {
         Refusal::Syntax => put(out, "1 syntax"),
@@ -83,12 +83,12 @@ fn put_refusal(out: &mut Vec<u8>, refusal: Refusal) -> Result<(), AllocError>
 
 /// Adds the fault, the name and the property.
 fn put_named(
-    out: &mut Vec<u8>,
+    out: &mut String,
     fault: Fault,
     name: &str,
     property: Property,
 ) -> Result<(), AllocError>
-    ensures { OnOk result (out.new.items ≡ out.old.items ++ named_text fault name.now property) }
+    ensures { OnOk result (string_bytes out.new ≡ string_bytes out.old ++ named_text fault name.now property) }
 {
     put(out, fault_text(fault))?;
     put(out, name)?;
@@ -98,14 +98,14 @@ fn put_named(
 
 /// Adds a value that is refused.
 fn put_bad_value(
-    out: &mut Vec<u8>,
+    out: &mut String,
     fault: Fault,
     name: &str,
     property: Property,
     stands: Stands,
     words: &str,
 ) -> Result<(), AllocError>
-    ensures { OnOk result (out.new.items ≡ out.old.items ++ bad_value_text fault name.now property stands words.now) }
+    ensures { OnOk result (string_bytes out.new ≡ string_bytes out.old ++ bad_value_text fault name.now property stands words.now) }
 {
     put_named(out, fault, name, property)?;
     put(out, " is ")?;
@@ -125,8 +125,8 @@ fn fault_text(fault: Fault) -> &'static str
 }
 
 /// Adds what stands where a property is given.
-fn put_stands(out: &mut Vec<u8>, stands: Stands, words: &str) -> Result<(), AllocError>
-    ensures { OnOk result (out.new.items ≡ out.old.items ++ stands_text stands words.now) }
+fn put_stands(out: &mut String, stands: Stands, words: &str) -> Result<(), AllocError>
+    ensures { OnOk result (string_bytes out.new ≡ string_bytes out.old ++ stands_text stands words.now) }
 {
     match stands {
         Stands::Nothing => put(out, "nothing"),
@@ -140,8 +140,8 @@ fn put_stands(out: &mut Vec<u8>, stands: Stands, words: &str) -> Result<(), Allo
 }
 
 /// Adds what a property may be.
-fn put_kind(out: &mut Vec<u8>, kind: Kind) -> Result<(), AllocError>
-    ensures { OnOk result (out.new.items ≡ out.old.items ++ kind_text kind) }
+fn put_kind(out: &mut String, kind: Kind) -> Result<(), AllocError>
+    ensures { OnOk result (string_bytes out.new ≡ string_bytes out.old ++ kind_text kind) }
 {
     match kind {
         Kind::Number { least, most } => put_range(out, least, most),
@@ -152,16 +152,16 @@ fn put_kind(out: &mut Vec<u8>, kind: Kind) -> Result<(), AllocError>
 }
 
 /// Adds the range of a number.
-fn put_range(out: &mut Vec<u8>, least: u64, most: u64) -> Result<(), AllocError>
-    ensures { OnOk result (out.new.items ≡ out.old.items ++ range_text least most) }
+fn put_range(out: &mut String, least: u64, most: u64) -> Result<(), AllocError>
+    ensures { OnOk result (string_bytes out.new ≡ string_bytes out.old ++ range_text least most) }
 {
     put_between(out, "a whole number from ", least, " to ")?;
     put_number(out, most)
 }
 
 /// Adds a name that nothing looks up.
-fn put_unknown(out: &mut Vec<u8>, table: Table, name: &str, key: &str) -> Result<(), AllocError>
-    ensures { OnOk result (out.new.items ≡ out.old.items ++ unknown_text table name.now key.now) }
+fn put_unknown(out: &mut String, table: Table, name: &str, key: &str) -> Result<(), AllocError>
+    ensures { OnOk result (string_bytes out.new ≡ string_bytes out.old ++ unknown_text table name.now key.now) }
 {
     match table {
         Table::Service => put_around(
@@ -178,8 +178,8 @@ fn put_unknown(out: &mut Vec<u8>, table: Table, name: &str, key: &str) -> Result
 }
 
 /// Adds the table that a name stands in.
-fn put_table(out: &mut Vec<u8>, table: Table, name: &str) -> Result<(), AllocError>
-    ensures { OnOk result (out.new.items ≡ out.old.items ++ table_text table name.now) }
+fn put_table(out: &mut String, table: Table, name: &str) -> Result<(), AllocError>
+    ensures { OnOk result (string_bytes out.new ≡ string_bytes out.old ++ table_text table name.now) }
 {
     match table {
         Table::Root => put(out, "the file"),
@@ -193,8 +193,8 @@ fn put_table(out: &mut Vec<u8>, table: Table, name: &str) -> Result<(), AllocErr
 }
 
 /// Adds the part of the properties of a command of the name.
-fn put_command(out: &mut Vec<u8>, name: &str, part: Part) -> Result<(), AllocError>
-    ensures { OnOk result (out.new.items ≡ out.old.items ++ command_text name.now part) }
+fn put_command(out: &mut String, name: &str, part: Part) -> Result<(), AllocError>
+    ensures { OnOk result (string_bytes out.new ≡ string_bytes out.old ++ command_text name.now part) }
 {
     put(out, "`hystrix.command.")?;
     put(out, name)?;
@@ -202,8 +202,8 @@ fn put_command(out: &mut Vec<u8>, name: &str, part: Part) -> Result<(), AllocErr
 }
 
 /// Adds the part of a command's properties, behind a dot, and the accent behind it.
-fn put_part(out: &mut Vec<u8>, part: Part) -> Result<(), AllocError>
-    ensures { OnOk result (out.new.items ≡ out.old.items ++ part_text (part_name part)) }
+fn put_part(out: &mut String, part: Part) -> Result<(), AllocError>
+    ensures { OnOk result (string_bytes out.new ≡ string_bytes out.old ++ part_text (part_name part)) }
 {
     match part.name() {
         Some(name) => put_around(out, ".", name, "`"),
@@ -263,7 +263,7 @@ impl Finding {
         }
     }
 
-    /// The word before what it says.
+    /// The word before what it says, with what stands between.
     pub(crate) fn severity(&self) -> &'static str
         ensures { result.now ≡ severity self.now }
     {
@@ -271,6 +271,24 @@ impl Finding {
             "error: "
         } else {
             "warning: "
+        }
+    }
+
+    /// The word alone.
+    pub(crate) fn severity_word(&self) -> &'static str
+        ensures { result.now ≡ severity_word self.now }
+    {
+        if self.is_error() { "error" } else { "warning" }
+    }
+
+    /// What makes a terminal write red or yellow.
+    pub(crate) fn colour(&self) -> &'static str
+        ensures { result.now ≡ colour self.now }
+    {
+        if self.is_error() {
+            "\x1b[31m"
+        } else {
+            "\x1b[33m"
         }
     }
 }

@@ -3,7 +3,6 @@
 ghost use Rattle.bh_props.specs.Found.{AreFound, IsFound};
 
 use crate::finding::{Finding, Refusal, shown};
-use crate::put::put;
 use crate::table::Table;
 use bh_props::{Given, Place, Property, Sections, value_at};
 use std::alloc::{AllocError, Global};
@@ -14,8 +13,8 @@ pub(crate) type Path = Vec<u8>;
 
 /// Adds a key to a path.
 pub(crate) fn push_key(path: &mut Path, key: &str) -> Result<(), AllocError> {
-    put(path, "\n")?;
-    put(path, shown(key).as_str())
+    path.push(b'\n')?;
+    path.extend_from_slice(shown(key).as_str().as_bytes())
 }
 
 /// Adds some keys.

@@ -1,32 +1,32 @@
-//! Texts and numbers at the end of bytes.
+//! Texts and numbers at the end of a text.
 
-ghost use Rattle.std.specs.Prelude.{◌≡◌, ◌++◌, decimal, OnOk};
+ghost use Rattle.std.specs.Prelude.{◌≡◌, ◌++◌, decimal, OnOk, string_bytes};
 
 use itoa::Buffer;
 use std::alloc::AllocError;
 
 /// Adds a text.
-pub(crate) fn put(out: &mut Vec<u8>, text: &str) -> Result<(), AllocError>
-    ensures { OnOk result (out.new.items ≡ out.old.items ++ text.now) }
+pub(crate) fn put(out: &mut String, text: &str) -> Result<(), AllocError>
+    ensures { OnOk result (string_bytes out.new ≡ string_bytes out.old ++ text.now) }
 {
-    out.extend_from_slice(text.as_bytes())
+    out.push_str(text)
 }
 
 /// Adds a number.
-pub(crate) fn put_number(out: &mut Vec<u8>, number: u64) -> Result<(), AllocError>
-    ensures { OnOk result (out.new.items ≡ out.old.items ++ decimal number) }
+pub(crate) fn put_number(out: &mut String, number: u64) -> Result<(), AllocError>
+    ensures { OnOk result (string_bytes out.new ≡ string_bytes out.old ++ decimal number) }
 {
     put(out, Buffer::new().format(number))
 }
 
 /// Adds a number between two texts.
 pub(crate) fn put_between(
-    out: &mut Vec<u8>,
+    out: &mut String,
     before: &str,
     number: u64,
     after: &str,
 ) -> Result<(), AllocError>
-    ensures { OnOk result (out.new.items ≡ out.old.items ++ (before.now ++ decimal number ++ after.now)) }
+    ensures { OnOk result (string_bytes out.new ≡ string_bytes out.old ++ (before.now ++ decimal number ++ after.now)) }
 {
     put(out, before)?;
     put_number(out, number)?;
@@ -35,12 +35,12 @@ pub(crate) fn put_between(
 
 /// Adds a text between two others.
 pub(crate) fn put_around(
-    out: &mut Vec<u8>,
+    out: &mut String,
     before: &str,
     text: &str,
     after: &str,
 ) -> Result<(), AllocError>
-    ensures { OnOk result (out.new.items ≡ out.old.items ++ (before.now ++ text.now ++ after.now)) }
+    ensures { OnOk result (string_bytes out.new ≡ string_bytes out.old ++ (before.now ++ text.now ++ after.now)) }
 {
     put(out, before)?;
     put(out, text)?;

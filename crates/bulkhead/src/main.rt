@@ -5,16 +5,18 @@
 mod tests;
 
 use bh_commands::{
-    Serving, Unread, check_explained, check_file, cut_file, explain, lint_file, read_file, report,
-    run_explained, run_file, serve_file,
+    Linting, Serving, Unread, check_explained, check_file, cut_file, explain, lint_file, read_file,
+    report, run_explained, run_file, serve_file,
 };
+use bh_lint::Form;
 use bh_props::SettingsError;
 use bh_serve::Limits;
 use clap::error::ErrorKind;
 use clap::{Arg, ArgAction, ArgMatches, Command};
 use std::alloc::{AllocError, Global};
+use std::env::VarError;
 use std::fs::File;
-use std::io::Write;
+use std::io::{IsTerminal, Write};
 use std::net::{Net, TcpListener, TcpStream};
 use std::process::ExitCode;
 use std::rt::Clock;
@@ -92,7 +94,7 @@ where
         Some(("lint", found)) => Ok(lint_path(
             rt,
             found.get_str("FILE").unwrap_or(""),
-            found.get_flag("deny-warnings"),
+            linting_in(rt, found),
         )),
         Some(("run", found)) => Ok(run_path(rt, file_in(found))),
         Some(("serve", found)) => Ok(serve_path(
@@ -118,6 +120,30 @@ fn file_in<'a>(found: &ArgMatches<'a>) -> SettingsFile<'a> {
     SettingsFile {
         path: found.get_str("FILE").unwrap_or(""),
         explains: found.get_flag("explain"),
+    }
+}
+
+/// What the arguments of `lint` say. Lines have colours where standard output is a terminal.
+fn linting_in(rt: &HostRuntime, found: &ArgMatches<'_>) -> Linting {
+    let form = if found.get_flag("json") {
+        Form::Objects
+    } else if rt.stdout().is_terminal() && !refuses_colours(rt) {
+        Form::Coloured
+    } else {
+        Form::Lines
+    };
+    Linting {
+        form,
+        denies_warnings: found.get_flag("deny-warnings"),
+    }
+}
+
+/// Whether the user wants no colours: the variable `NO_COLOR` is set, and not to an empty text.
+fn refuses_colours(rt: &HostRuntime) -> bool {
+    match env::var(rt, "NO_COLOR") {
+        Ok(text) => !text.is_empty(),
+        Err(VarError::NotPresent) => false,
+        Err(_) => true,
     }
 }
 
@@ -187,7 +213,18 @@ fn lint_command<'a>(alloc: Global) -> Result<Command<'a>, AllocError> {
         "lint",
         "Tells all that is amiss in the settings, a line each: what check refuses, and what is there to no purpose",
     )?
-    .arg(deny_warnings(alloc))
+    .arg(deny_warnings(alloc))?
+    .arg(json(alloc))
+}
+
+/// Whether findings are objects.
+fn json<'a>(alloc: Global) -> Arg<'a> {
+    Arg::new(alloc, "json")
+        .long("json")
+        .help(
+            "Tells each finding as an object of JSON, a line each, for editors and other programs",
+        )
+        .action(ArgAction::SetTrue)
 }
 
 /// Whether a warning counts as an error.
@@ -301,14 +338,14 @@ fn check_path(rt: &HostRuntime, file: SettingsFile<'_>) -> u8 {
 }
 
 /// Tells what is amiss in the settings of the file.
-fn lint_path(rt: &HostRuntime, path: &str, denies_warnings: bool) -> u8 {
+fn lint_path(rt: &HostRuntime, path: &str, linting: Linting) -> u8 {
     let mut errors = rt.stderr();
     match read_path(rt, path) {
         Ok(settings) => lint_file(
             rt.alloc(),
             path,
             settings.as_slice(),
-            denies_warnings,
+            linting,
             &mut io::writer(rt),
             &mut errors,
         ),

@@ -43,6 +43,8 @@ bulkhead stop
 bulkhead check
 bulkhead run --explain
 bulkhead run settings.toml more
+bulkhead lint
+bulkhead lint settings.toml --json more
 bulkhead cut
 bulkhead cut settings.toml
 bulkhead cut --group a
@@ -65,6 +67,12 @@ fn refused_arguments_leave_status_2(rt: HostRuntime) {
     }
     assert_status(&rt, &rt, "bulkhead --help", 0);
     assert_status(&rt, &rt, "bulkhead check no-such-file", 3);
+    assert_status(
+        &rt,
+        &rt,
+        "bulkhead lint --json --deny-warnings no-such-file",
+        3,
+    );
     assert_status(&rt, &rt, "bulkhead cut no-such-file --group a --group b", 3);
     assert_status(&rt, &rt, "bulkhead run --explain no-such-file", 3);
 }

@@ -1,0 +1,5 @@
+use Rattle.bh_lint.proofs.Floatless.{object-floatless}
+use Rattle.bh_lint.proofs.objects.put_object.Goals as goal
+
+pub put_value-requires : goal.put_value-requires
+put_value-requires c = rw c.in_ok-value.ensures (object-floatless c.args.file.now c.args.told.now)
