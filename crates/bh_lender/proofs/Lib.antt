@@ -1,0 +1,3 @@
+pub mod Settled  -- one holder more has collected
+pub mod Returned  -- one lease more was given back
+pub mod Expiring  -- an Expire of a group with a due ticket

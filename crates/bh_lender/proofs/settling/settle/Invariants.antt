@@ -1,0 +1,10 @@
+use Rattle.std.proofs.Common.{List, length}
+use Rattle.bh_lender.specs.Steps.{Made}
+use Rattle.bh_lender.specs.Settling.{Settles}
+use Rattle.bh_lender.proofs.settling.settle.Given as goal
+
+abbrev pub invariant-loop-place : goal.invariant-loop-place
+invariant-loop-place l = (chunks : List (List Made)) × Settles l.now l.initial.core l.initial.left.items chunks l.core l.left.items
+
+abbrev pub decreases-loop-place : goal.decreases-loop-place
+decreases-loop-place l = length l.left.items

@@ -1,0 +1,63 @@
+-- What is done in one turn.
+use Rattle.std.specs.Prelude.{◌≡◌, ◌<◌, ℕ, false, List, ◌++◌, map, filter, Option, None, Some}
+use Rattle.bh_base.specs.declared.reply.Reply.{Reply}
+use Rattle.bh_base.specs.declared.reply.Reply.TheVariants as replies
+use Rattle.bh_base.specs.declared.step.FallbackEnd.TheVariants as fallback
+use Rattle.bh_base.specs.declared.step.GroupId.{GroupId}
+use Rattle.bh_base.specs.declared.step.Op.{Op}
+use Rattle.bh_base.specs.declared.step.Op.TheVariants as op
+use Rattle.bh_base.specs.declared.step.Step.{Step}
+use Rattle.bh_core.specs.CoreView.{CoreView}
+use Rattle.bh_core.specs.Step.{IsStep}
+use Rattle.bh_lease.specs.declared.lease.Lease.{Lease}
+use Rattle.bh_lease.specs.declared.lease.Part.{Part}
+use Rattle.bh_lease.specs.declared.lease.Part.TheVariants as part
+use Rattle.bh_lease.specs.Lease.{has}
+use Rattle.bh_lender.specs.declared.lender.Left.{Left}
+use Rattle.bh_lender.specs.Steps.{AreSteps, Made, step_at, steps_of}
+use Rattle.bh_lender.specs.Settling.{Settles}
+
+-- all groups, and the holders that are left with the service, in the order in which their connections ended
+pub record LenderView : Type 0 where
+  pub groups : CoreView
+  pub left : List Left
+
+-- the step was made, and then what it lets holders that are left do
+abbrev pub DoesStep : Step → Reply → LenderView → LenderView → Type 0
+DoesStep step reply old new =
+    (mid : CoreView) × (chunks : List (List Made)) × IsStep old.groups step reply mid × Settles step.now mid old.left chunks new.groups new.left
+
+-- the operation that ends the part of the ticket: of a connection that is gone a run has failed, and so has a fallback
+abbrev pub end_of : Part → ℕ → Op
+end_of part.Holder serial = op.Collect serial
+end_of part.Run serial = op.Fail serial false
+end_of part.Fallback serial = op.FallbackDone serial fallback.Failure
+
+-- the step that ends this part of the lease
+abbrev pub end_step : ℕ → Part → Lease → Step
+end_step now p l = step_at l.group now (end_of p l.serial)
+
+-- the holder of the lease, left with the service
+abbrev pub left_of : Lease → Left
+left_of l = record { group = l.group; serial = l.serial }
+
+-- all that a connection has was given back: each run has failed, then each fallback, and each holder is left with the
+-- service, which has collected at once for those that need not wait
+pub record IsGivenBack (now : ℕ) (leases : List Lease) (old new : LenderView) : Type 0 where
+  pub runs : List Made
+  pub fallbacks : List Made
+  pub after_runs : CoreView
+  pub after_fallbacks : CoreView
+  pub chunks : List (List Made)
+  -- each run is ended by one step, in the order of the leases, and each fallback by one step then
+  pub runs_are : steps_of runs ≡ map (end_step now part.Run) (filter (has part.Run) leases)
+  pub fallbacks_are : steps_of fallbacks ≡ map (end_step now part.Fallback) (filter (has part.Fallback) leases)
+  pub ends_runs : AreSteps old.groups runs after_runs
+  pub ends_fallbacks : AreSteps after_runs fallbacks after_fallbacks
+  -- each holder is left behind those that were left, and whoever of these need not wait has collected
+  pub settles : Settles now after_fallbacks (old.left ++ map left_of (filter (has part.Holder) leases)) chunks new.groups new.left
+
+-- an Expire was made where a ticket of the group was due, by which so many timed out; or nothing was done
+abbrev pub IsExpired : GroupId → ℕ → Option ℕ → LenderView → LenderView → Type 0
+IsExpired group now (Some number) old new = (0 < number) × DoesStep (step_at group now op.Expire) (replies.Expired number) old new
+IsExpired group now None old new = new ≡ old

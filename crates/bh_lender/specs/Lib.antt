@@ -1,0 +1,3 @@
+pub mod Steps  -- steps one after another
+pub mod Settling  -- the holders that are left with the service, and what is done for them
+pub mod Lender  -- what is done in one turn

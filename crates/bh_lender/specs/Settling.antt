@@ -1,0 +1,45 @@
+-- The holders that are left with the service, and what is done for them.
+use Rattle.std.specs.Prelude.{◌≡◌, ◌⊎◌, ◌<◌, ℕ, Bool, true, false, List, [], ◌∷◌, length, slice_index_or, remove, Option, None, Some}
+use Rattle.std.specs.List.{AllByRecursion}
+use Rattle.bh_base.specs.declared.reply.Cause.{Cause}
+use Rattle.bh_base.specs.declared.reply.Reply.{Reply}
+use Rattle.bh_base.specs.declared.reply.Reply.TheVariants as replies
+use Rattle.bh_base.specs.declared.step.FallbackEnd.TheVariants as fallback
+use Rattle.bh_base.specs.declared.step.Op.TheVariants as op
+use Rattle.bh_base.specs.Runs.{View}
+use Rattle.bh_base.specs.Seen.{view_reply}
+use Rattle.bh_core.specs.CoreView.{CoreView, view_at}
+use Rattle.bh_core.specs.Looks.{is_pending}
+use Rattle.bh_lender.specs.declared.lender.Left.{Left}
+use Rattle.bh_lender.specs.Steps.{AreSteps, Made, step_at}
+
+-- whether a Collect of the serial would be answered Pending, which no moment plays a part in
+abbrev pub would_wait : Option View → ℕ → Bool
+would_wait None serial = false
+would_wait (Some v) serial = is_pending (view_reply v (op.Collect serial) 0)
+
+-- whether a holder has to wait: the group is there and not worn, and the run or the fallback of the ticket has still to end
+abbrev pub is_waiting : CoreView → Left → Bool
+is_waiting groups holder = would_wait (view_at groups holder.group.0) holder.serial
+
+-- each of the holders has to wait
+abbrev pub AreWaiting : CoreView → List Left → Type 0
+AreWaiting groups left = AllByRecursion (λ (holder : Left). is_waiting groups holder ≡ true) left
+
+-- the steps by which a holder that is gone has collected: one Collect; where that told it to run the fallback, this counts
+-- as missing, and it has collected again
+abbrev pub IsCollected : ℕ → Left → List Made → Type 0
+IsCollected now holder made =
+    ((r : Reply) × (made ≡ (step_at holder.group now (op.Collect holder.serial), r) ∷ []))
+    ⊎ ((c : Cause) × (r : Reply) × (r' : Reply) × (made ≡
+    (step_at holder.group now (op.Collect holder.serial), replies.RunFallback c)
+    ∷ (step_at holder.group now (op.FallbackDone holder.serial fallback.Missing), r)
+    ∷ (step_at holder.group now (op.Collect holder.serial), r') ∷ []))
+
+-- one after another of the holders that are left need not wait, has collected by these steps, and is left no more
+abbrev pub Settles : ℕ → CoreView → List Left → List (List Made) → CoreView → List Left → Type 0
+Settles now old left [] new left' = (new ≡ old) × (left' ≡ left)
+Settles now old left (made ∷ others) new left' =
+    (place : ℕ) × (holder : Left) × (mid : CoreView) × (place < length left) × (holder ≡ slice_index_or left place holder)
+    × (is_waiting old holder ≡ false) × IsCollected now holder made × AreSteps old made mid
+    × Settles now mid (remove left place) others new left'

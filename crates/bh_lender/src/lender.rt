@@ -1,0 +1,134 @@
+//! The groups, the steps of connections, and what is left of connections that are gone.
+
+ghost use Rattle.std.specs.Prelude.{◌≡◌, ◌↔◌, [], Err, Some, None, OnErr, OnOk, OnSome, IfSome, List};
+ghost use Rattle.bh_base.specs.declared.step.Op.TheVariants as op;
+ghost use Rattle.bh_base.specs.declared.reply.Reply.TheVariants as replies;
+ghost use Rattle.bh_lease.specs.Leases.{LeasesView, after, refusal};
+ghost use Rattle.bh_lender.specs.Steps.{step_at};
+ghost use Rattle.bh_lender.specs.Lender.{DoesStep, IsExpired, IsGivenBack};
+
+use crate::returning::{end_each, leave_each};
+use crate::settling::settle;
+use bh_base::{GroupId, Moment, Op, Reply, Serial};
+use bh_core::Core;
+use bh_lease::{Leases, Part, Refusal};
+use std::alloc::{AllocError, Global};
+use std::marker::Model;
+
+/// A holder whose connection is gone. The service collects in its place, once there is something to collect.
+#[derive(Clone, Copy, Debug, PartialEq, Eq)]
+pub struct Left {
+    /// The group of the ticket.
+    pub group: GroupId,
+    /// The number of the ticket in its group.
+    pub serial: Serial,
+}
+
+/// All groups, and the holders that connections left behind.
+///
+/// Each call is one turn: it makes its steps, and then collects for each holder that is left and need not wait any more. So
+/// between turns a Collect of each of them would be answered `Pending`.
+#[derive(Drop)]
+pub struct Lender {
+    pub(crate) core: Core,
+    pub(crate) left: Vec<Left>,
+}
+
+impl Model for Lender {
+    ghost use Rattle.bh_lender.specs.Settling.{AreWaiting};
+    ghost use Rattle.bh_lender.specs.Lender.{LenderView};
+
+    ghost Value = { LenderView };
+
+    ghost view = { λ l. record { groups = l.core; left = l.left.items } };
+
+    ghost invariant = { λ l. AreWaiting l.core l.left.items };
+}
+
+impl Lender {
+    /// The groups of a core, of which nobody has tickets.
+    pub fn new(alloc: Global, core: Core) -> Lender
+        ensures { result ≡ record { groups = core; left = [] } }
+    {
+        Lender {
+            core,
+            left: Vec::new(alloc),
+        }
+    }
+
+    /// The groups as the steps so far left them.
+    pub fn core(&self) -> &Core
+        ensures { result.now ≡ self.now.groups }
+    {
+        &self.core
+    }
+
+    /// The holders that are left, in the order in which their connections ended.
+    pub fn left(&self) -> &[Left]
+        ensures { result.now ≡ self.now.left }
+    {
+        self.left.as_slice()
+    }
+
+    /// Makes one step for the connection that has the leases, writes its reply where the caller keeps it, and notes what the
+    /// connection has then.
+    ///
+    /// The error says why it may not make this step: nothing is done then, and what is at `reply` stays.
+    pub fn step(
+        &mut self,
+        leases: &mut Leases,
+        group: GroupId,
+        now: Moment,
+        op: &Op,
+        reply: &mut Reply,
+    ) -> Result<(), Refusal>
+        ensures refused { (why : Refusal) → (result ≡ Err why) ↔ (refusal group op.now leases.old ≡ Some why) }
+        ensures does { OnOk result (DoesStep (step_at group now op.now) reply.new self.old self.new) }
+        ensures noted { OnOk result (leases.new ≡ record leases.old { listed = after group op.now reply.new leases.old.listed }) }
+        ensures err { OnErr result ((self.new ≡ self.old) × (leases.new ≡ leases.old) × (reply.new ≡ reply.old)) }
+    {
+        if let Some(refusal) = leases.refusal(group, op) {
+            return Err(refusal);
+        }
+        self.core.apply_to(group, now, op, reply);
+        leases.note(group, op, reply);
+        settle(&mut self.core, &mut self.left, now);
+        Ok(())
+    }
+
+    /// Times out the tickets of the group that are due, and says how many there were; None where none was due, with nothing
+    /// done. A group that is worn or not registered has none.
+    pub fn expire_due(&mut self, group: GroupId, now: Moment) -> Option<u64>
+        ensures { IsExpired group now result self.old self.new }
+    {
+        if !self.core.due(group, now) {
+            return None;
+        }
+        let mut reply = Reply::Idle;
+        self.core.apply_to(group, now, &Op::Expire, &mut reply);
+        settle(&mut self.core, &mut self.left, now);
+        match reply {
+            Reply::Expired(number) => Some(number),
+            _ => unreachable!(),
+        }
+    }
+
+    /// Gives back all that a connection has which ends: its runs have failed, its fallbacks too, and its holders are left with
+    /// the service, which collects at once for those that need not wait. It has no lease then.
+    ///
+    /// The error comes where memory for the holders was refused: nothing has changed then, and it may be tried again.
+    pub fn give_back(&mut self, leases: &mut Leases, now: Moment) -> Result<(), AllocError>
+        ensures given { OnOk result (IsGivenBack now leases.old.listed self.old self.new) }
+        ensures none { OnOk result (leases.new ≡ record leases.old { listed = [] }) }
+        ensures err { OnErr result ((self.new ≡ self.old) × (leases.new ≡ leases.old)) }
+    {
+        let listed = leases.as_slice();
+        self.left.reserve(listed.len())?;
+        end_each(&mut self.core, listed, Part::Run, now);
+        end_each(&mut self.core, listed, Part::Fallback, now);
+        leave_each(&mut self.left, listed);
+        settle(&mut self.core, &mut self.left, now);
+        leases.clear();
+        Ok(())
+    }
+}
