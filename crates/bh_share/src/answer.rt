@@ -1,0 +1,24 @@
+//! The lines that answer operations which make no step.
+
+ghost use Rattle.std.specs.Prelude.{◌≡◌, ◌++◌, OnErr, OnOk};
+ghost use Rattle.bh_share.specs.Answer.{refusal_line};
+
+use bh_base::Reply;
+use bh_lease::Refusal;
+use bh_replies::{put_error, put_reply};
+use std::alloc::{AllocError, Global};
+
+/// Puts the line behind the bytes that answers an operation which made no step: that of the reply which a ticket gets that
+/// nobody has, or the error `full`. It fails only for want of memory, and leaves the bytes as they were then.
+#[tactic(auto, unfolding(crate::specs::Answer::refusal_line))]
+pub fn put_refusal(alloc: Global, out: &mut Vec<u8>, refusal: Refusal) -> Result<(), AllocError>
+    ensures ok { OnOk result (out.new.items ≡ out.old.items ++ refusal_line refusal) }
+    ensures err { OnErr result (out.new.items ≡ out.old.items) }
+{
+    match refusal {
+        Refusal::Full => put_error(alloc, out, "full"),
+        Refusal::NotRunning => put_reply(alloc, out, &Reply::NotRunning, None),
+        Refusal::NoTicket => put_reply(alloc, out, &Reply::NoTicket, None),
+        Refusal::NotInFallback => put_reply(alloc, out, &Reply::NotInFallback, None),
+    }
+}
