@@ -253,6 +253,7 @@ fn is_refused(reply: &Reply) -> bool
 }
 
 /// Writes the step with its reply at the end of the journal.
+#[inline(always)]
 fn write(journal: &mut Journal, step: &Step, reply: &Reply)
     requires { 0 < journal.old.room }
     ensures { journal.new ≡ written journal.old step.entry.now reply.now }

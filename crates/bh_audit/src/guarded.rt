@@ -44,6 +44,7 @@ impl<const A: u32> Guarded<A> {
 
     /// Has done what is asked for, in one turn of the lock. Whoever has to wait gives up the lock, waits at the place,
     /// and asks again.
+    #[inline(always)]
     pub(crate) fn ask<R: Wait, C: Clock>(
         &self,
         rt: &R,

@@ -101,6 +101,7 @@ impl<const A: u32> Locked<A> {
 impl<const A: u32> Locked<A> {
     /// Does what is asked for, in the turn of the lock that the caller has, and nothing else; None where whoever asks has
     /// to wait. Then nothing has changed.
+    #[inline(always)]
     pub(crate) fn answer<C: Clock>(
         &mut self,
         ask: &Ask,
@@ -312,6 +313,7 @@ fn mark(pass: &mut Pass, reply: &Reply)
 }
 
 /// Adds the receipt of a step that was made.
+#[inline(always)]
 fn receive(pass: &mut Pass, place: u64, step: &Step, reply: &Reply)
     requires { 0 < pass.old.room }
     ensures { pass.new ≡ added pass.old (receipt_of place step.entry.now reply.now) }

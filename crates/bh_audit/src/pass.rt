@@ -99,6 +99,7 @@ impl Pass {
     }
 
     /// Adds a receipt behind those that are there. This takes no memory and cannot fail.
+    #[inline(always)]
     pub(crate) fn add(&mut self, receipt: Receipt)
         requires { 0 < self.old.room }
         ensures { self.new ≡ added self.old receipt }

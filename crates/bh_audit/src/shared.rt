@@ -416,6 +416,9 @@ impl Shared {
 
     /// Has done what is asked for in one turn of the lock, and then notifies whom that lets go on. The group is that of
     /// the pass; of a retirement, the one that is retired.
+    ///
+    /// Each call that makes steps gets code of its own, in which no case but its own is left.
+    #[inline(always)]
     fn ask<R: Wait, C: Clock>(
         &self,
         rt: &R,
@@ -442,6 +445,7 @@ impl Shared {
     }
 
     /// Asks for what makes no step, with a pass that has no room for a receipt.
+    #[inline(never)]
     fn look<R: Wait, C: Clock>(&self, rt: &R, group: GroupId, ask: &Ask, clock: &C) -> Said
         requires step { may_step ask.now ≡ false }
         requires allowed { IsAllowed ask.now }
