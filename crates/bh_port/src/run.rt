@@ -1,10 +1,11 @@
 //! A run of a script: lines are answered as they come, each by the line of what it is told or of its fault.
 
-ghost use Rattle.std.specs.Prelude.{◌≡◌, ◌⊎◌, ◌++◌, ◌<◌, ℕ, List, true, false, length, Some, Err, OnOk, OnErr, IfErr, IfOk};
+ghost use Rattle.std.specs.Prelude.{◌≡◌, ◌⊎◌, ◌++◌, ◌<◌, ℕ, List, true, false, length, option_copied, Some, Err, OnOk, OnErr, IfErr, IfOk};
 ghost use Rattle.bh_props.specs.Shown.{settings_view};
 ghost use Rattle.bh_lines.specs.Lines.{cut, has_line};
 ghost use Rattle.bh_lines.specs.Taken.{IsMemoryOrLine};
 ghost use Rattle.bh_replies.specs.FaultLine.{fault_line};
+ghost use Rattle.bh_replies.specs.ReplyLine.{reply_line};
 ghost use Rattle.bh_replies.specs.ToldLine.{told_line};
 ghost use Rattle.bh_streams.specs.Watched.{writer_of, bytes_held, OneRefused, NoneRefused};
 ghost use Rattle.bh_port.specs.CommandPlaces.{AreCommandPlaces};
@@ -15,7 +16,7 @@ ghost use Rattle.bh_port.specs.Script.{GroupsShow, AnswersLine, ScriptAnswered, 
 use crate::act::{LineAct, line_act};
 use crate::groups::Groups;
 use crate::places::CommandPlaces;
-use bh_base::Reply;
+use bh_base::{Reply, Text};
 use bh_faults::Fault;
 use bh_lines::{PortError, front_line, last_line, next_line};
 use bh_props::Settings;
@@ -27,8 +28,8 @@ use std::alloc::{AllocError, Global};
 use std::io::Write;
 
 /// A run of a script: the groups, what the last line asked for, the reply to the last step, the answers that are to be
-/// written at once, and what reading a line takes in memory. The bytes that have come stand
-/// elsewhere, so that each line is answered from where it stands in them.
+/// written at once, and what putting and reading a line takes in memory. The bytes that have come stand elsewhere, so that
+/// each line is answered from where it stands in them.
 #[derive(Drop)]
 pub struct Run {
     pub alloc: Global,
@@ -36,6 +37,8 @@ pub struct Run {
     pub act: LineAct,
     pub reply: Reply,
     pub out: Vec<u8>,
+    /// Room for one line.
+    pub line: Vec<u8>,
     pub scratch: Scratch,
 }
 
@@ -221,9 +224,26 @@ impl Run {
             let command = self
                 .groups
                 .make_step(settings, Some(places), step, &mut self.reply);
-            return put_reply(self.alloc, &mut self.out, &self.reply, command);
+            return self.put_step_reply(command);
         }
         self.answer_change(settings)
+    }
+
+    /// Puts the line of the reply to the last step behind what is to be written. One that has a text is put by itself
+    /// first: where a text needs an escape, the writer of the JSON library clears as many bytes as stand before it.
+    fn put_step_reply(&mut self, command: Option<&Text<32>>) -> Result<(), AllocError>
+        ensures ok { OnOk result (self.new.out.items ≡ self.old.out.items ++ reply_line (option_copied command.entry) self.old.reply) }
+        ensures same { self.new.groups ≡ self.old.groups }
+        ensures err { OnErr result (self.new.out.items ≡ self.old.out.items) }
+    {
+        match &self.reply {
+            Reply::Assigned { .. } | Reply::Answered(_) => {
+                self.line.clear();
+                put_reply(self.alloc, &mut self.line, &self.reply, command)?;
+                self.out.extend_from_slice(self.line.as_slice())
+            }
+            _ => put_reply(self.alloc, &mut self.out, &self.reply, command),
+        }
     }
 
     /// Does what the last line asked for, as `answer_act` says, of a line that registers or retires a group. It stands by

@@ -71,6 +71,7 @@ pub fn script<R: Read, W: Write>(
         act: LineAct::Retire(GroupId(0)),
         reply: Reply::NoGroup,
         out: Vec::new(alloc),
+        line: Vec::new(alloc),
         scratch: Scratch::new(alloc),
     };
     let mut buffer = BytesMut::new(alloc);

@@ -2,8 +2,10 @@
 
 ghost use Rattle.std.specs.Prelude.{◌≡◌, ◌<◌, Err, length, map, option_copied, IfSome, MatchResult, Ok, OnErr, OnOk};
 ghost use Rattle.bh_lines.specs.ScriptLine.{a_step};
-ghost use Rattle.bh_lines.specs.StepLine.{group_number, step_view};
+ghost use Rattle.bh_base.specs.declared.step.Op.{Op};
+ghost use Rattle.bh_lines.specs.StepLine.{group_number, if_short, op_view, step_view};
 ghost use Rattle.bh_props.specs.Shown.{settings_view};
+ghost use Rattle.bh_port.specs.declared.act.LineAct.TheVariants as acts;
 ghost use Rattle.bh_port.specs.Course.{IsActOf, act_of, command_said};
 
 use crate::act::LineAct;
@@ -32,6 +34,32 @@ pub(crate) fn tell_step(
     let number = groups.number(said.group).ok_or(Fault::Group)?;
     let group = GroupId(number);
     let command = command_said(settings, groups, group, said.op.command())?;
+    match act {
+        LineAct::Step(step) => {
+            if_short(command, said.op, &mut step.op)?;
+            step.group = group;
+            step.now = said.now;
+            Ok(())
+        }
+        _ => tell_first_step(group, command, said, act),
+    }
+}
+
+/// Tells the step where no step was told before. It stands by itself, so that the lines behind another step do not pay for
+/// the room of its locals.
+#[cold]
+#[inline(never)]
+fn tell_first_step(
+    group: GroupId,
+    command: u8,
+    said: &StepLine<'_>,
+    act: &mut LineAct,
+) -> Result<(), Fault>
+    ensures said { MatchResult result
+        (λ _. (o : Op) × (if_short command (op_view said.entry.now.op) ≡ Ok o) × (act.new ≡ acts.Step (record { group = group; now = said.entry.now.now; op = o })))
+        (λ fault. if_short command (op_view said.entry.now.op) ≡ Err fault) }
+    ensures kept { OnErr result (act.new ≡ act.old) }
+{
     let mut op = Op::Start;
     if_short(command, said.op, &mut op)?;
     *act = LineAct::Step(Step {

@@ -8,6 +8,6 @@ use Rattle.bh_port.proofs.run.Run.answer_act.Goals as goal
 
 pub returns-in-Step-clause-wrote : goal.returns-in-Step-clause-wrote
 unfolding reply_line told_line
-returns-in-Step-clause-wrote c = on_ok c.put_reply.result c.put_reply.ensures.ok (λ wrote before agrees.
+returns-in-Step-clause-wrote c = on_ok c.put_step_reply.result c.put_step_reply.ensures.ok (λ wrote before agrees.
     let told = c.make_step-command.ensures.told before agrees ∙ ap (told_by (settings_view c.args.settings.now) before) (sym c.in-Step.is) in
     wrote ∙ ap (λ said. c.args.self.now.out.items ++ told_line said) told)
