@@ -1,6 +1,6 @@
 //! Whom a step lets go on, of those that wait in its group.
 
-ghost use Rattle.std.specs.Prelude.{◌≡◌, ℕ, ◌%◌, true};
+ghost use Rattle.std.specs.Prelude.{◌≡◌, ◌≢◌, ℕ, ◌%◌, false, true};
 ghost use Rattle.bh_audit.specs.Waking.{IsEverybody, frees_by, frees_caller, frees_one, is_told_again};
 
 use crate::waiting::Waiting;
@@ -51,7 +51,9 @@ impl Freed {
     }
 
     /// Nobody, where no step was made.
-    pub(crate) fn nobody() -> Freed {
+    pub(crate) fn nobody() -> Freed
+        ensures { result ≡ record { workers = Notice.Nobody; callers = FreedCallers.Nobody } }
+    {
         Freed {
             workers: Notice::Nobody,
             callers: FreedCallers::Nobody,
@@ -62,6 +64,7 @@ impl Freed {
     /// may be of another group: it would wait again, and the notification would be lost.
     pub(crate) fn among_several_groups(self) -> Freed
         ensures workers { frees_one self.workers ≡ true → result.workers ≡ Notice.All }
+        ensures nobody { frees_one self.workers ≡ false → result.workers ≡ Notice.Nobody }
         ensures callers { result.callers ≡ self.callers }
     {
         let Freed { workers, callers } = self;
@@ -103,14 +106,22 @@ impl FreedCallers {
         }
     }
 
-    /// How many are notified of those that wait at the place: all, where one of them is let go on.
+    /// How many are notified of those that wait at the place: all, where one of them is let go on, and else nobody.
     pub(crate) fn at(self, place: u64) -> Notice
-        ensures { (serial : ℕ) → serial % 8 ≡ place → frees_caller self serial ≡ true → result ≡ Notice.All }
+        ensures all { (serial : ℕ) → serial % 8 ≡ place → frees_caller self serial ≡ true → result ≡ Notice.All }
+        ensures nobody { self ≡ FreedCallers.Nobody → result ≡ Notice.Nobody }
+        ensures elsewhere { (serial : ℕ) → self ≡ FreedCallers.Of serial → serial % 8 ≢ place → result ≡ Notice.Nobody }
     {
         match self {
             FreedCallers::Nobody => Notice::Nobody,
-            FreedCallers::Of(serial) if place_of(serial) != place => Notice::Nobody,
-            FreedCallers::Of(_) | FreedCallers::All => Notice::All,
+            FreedCallers::Of(serial) => {
+                if place_of(serial) == place {
+                    Notice::All
+                } else {
+                    Notice::Nobody
+                }
+            }
+            FreedCallers::All => Notice::All,
         }
     }
 }
