@@ -8,3 +8,4 @@ pub mod Listed  -- the groups and the further commands of a file, as subjects
 pub mod Agree  -- the tables of names agree with the paths at which values are looked up
 pub mod Floatless  -- objects that tell findings have no floats
 pub mod Unused  -- what stands at a name that nothing looks up changes no settings
+pub mod Used  -- what stands at a name that is looked up can change a value in force

@@ -10,4 +10,4 @@ pub mod Form  -- the texts that tell findings, by their forms
 pub mod Refuses  -- the errors beside the first refusal of a check
 pub mod Report  -- what is told of the bytes of a settings file
 pub mod Reports  -- a report, and the findings that it is on
-pub mod Unused  -- what stands at a name that nothing looks up changes no settings
+pub mod Unused  -- what stands at a name that nothing looks up changes no settings, and at any other it can

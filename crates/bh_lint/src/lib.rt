@@ -25,7 +25,7 @@ mod warnings;
 pub use doubt::Doubt;
 pub use finding::{Finding, MOST_SHOWN, Refusal, Stands};
 pub use form::{Form, put_findings};
-pub use laws::unused_changes_nothing;
+pub use laws::{unused_changes_nothing, used_can_change};
 pub use lines::put_lines;
 pub use linting::{Findings, lint_tree};
 pub use report::{Report, lint};
