@@ -14,8 +14,7 @@ from .metrics import RUN_BOUNDS
 _MISSING = words.FALLBACK_MISSING
 _FINISH, _FAIL, _DONE, _COLLECT, _VALUE = words.FINISH, words.FAIL, words.DONE, words.COLLECT, words.VALUE
 _ANSWERS = (words.VALUE, words.FALLBACK_VALUE, words.ERROR, words.BAD_REQUEST)
-_OPERATION_AT, _KIND_AT = _library.OPERATION_AT, _library.KIND_AT
-_CAUSE_AT, _FALLBACK_AT = _library.CAUSE_AT, _library.FALLBACK_AT
+_KIND_AT, _CAUSE_AT, _FALLBACK_AT = _library.KIND_AT, _library.CAUSE_AT, _library.FALLBACK_AT
 
 
 class Answers(Submits):
@@ -132,7 +131,7 @@ class Answers(Submits):
             return
         holder.has_left = True
         if holder.runs_it:
-            self.end(run, (words.FAIL_BAD_REQUEST, None, holder.error), None if holder.awaits else holder)
+            self.end(run, (words.FAIL_BAD_REQUEST, None, holder.error), None if run.body.is_awaited else holder)
         elif holder.outcome == words.RUN_FALLBACK:
             self.end_fallback(run, (_MISSING, None), holder)
         else:

@@ -25,8 +25,6 @@ def is_coroutine_function(function: object) -> bool:
 class Awaiter(Holder):
     """A coroutine that waits in a loop."""
 
-    awaits = True
-
     def __init__(self, turns: Core, loop: asyncio.AbstractEventLoop) -> None:
         self._turns, self._loop = turns, loop
         self._future: asyncio.Future[None] = loop.create_future()

@@ -39,7 +39,7 @@ FallbackEnd = tuple[int, Any]
 
 
 class Body:
-    """A function with its fallback, as a command of a group has them."""
+    """A function with its fallback, as a command of a group has them. A coroutine function is awaited."""
 
     __slots__ = ("fallback", "function", "group", "is_awaited", "place")
 
@@ -125,8 +125,6 @@ def _first(waiting: list[Holder]) -> tuple[Holder, list[Holder]]:
 class Holder:
     """One who has to collect the answer of a ticket. What it was told stands in `outcome` and the fields behind it."""
 
-    # whether it waits from the submit on, also where the run is not a worker's
-    awaits = False
     # whether it is let go on by `tell` once it is told
     is_told = True
     # what it begins with stands in the class, so that to make one is short
@@ -201,7 +199,9 @@ class Caller(Holder):
 
     def wait_ready(self) -> None:
         if self.wake is None:
-            self.wake, self.is_told = _locked(), True
+            wake = threading.Lock()
+            wake.acquire()
+            self.wake, self.is_told = wake, True
 
     def wait(self) -> None:
         """Waits until it is told."""
@@ -222,11 +222,5 @@ class Waiter(Caller):
     is_told = True
 
     def __init__(self) -> None:
-        self.wake = _locked()
-
-
-def _locked() -> threading.Lock:
-    """A lock that whoever waits takes when it was let go."""
-    lock = threading.Lock()
-    lock.acquire()
-    return lock
+        self.wake = wake = threading.Lock()
+        wake.acquire()

@@ -15,8 +15,7 @@ if TYPE_CHECKING:
 
 _pack_shared, _SHARED_AT = _library.STEP_SHARED.pack_into, _library.SHARED_AT
 _KEY_AT, _COMMAND_AT = _library.KEY_AT, _library.COMMAND_AT
-_OPERATION_AT, _KIND_AT = _library.OPERATION_AT, _library.KIND_AT
-_CAUSE_AT, _NUMBER_WORD = _library.CAUSE_AT, _library.NUMBER_WORD
+_KIND_AT, _CAUSE_AT, _NUMBER_WORD = _library.KIND_AT, _library.CAUSE_AT, _library.NUMBER_WORD
 _SUBMIT, _START = words.SUBMIT, words.START
 _INLINE, _QUEUED, _FALLBACK_DUE = words.INLINE, words.QUEUED, words.FALLBACK_DUE
 # the replies to a submit that made a ticket
@@ -88,7 +87,7 @@ class Submits(Turns):
         """Takes over the reply to a submit, mostly a new ticket."""
         kind, ticket, group, place = self.reply[_KIND_AT], self.numbers[_NUMBER_WORD], run.group, run.place
         cause, changes, worker, waiting = 0, None, None, NOBODY
-        if kind != _INLINE or holder.awaits:
+        if kind != _INLINE or run.body.is_awaited:
             if kind not in _PLACED:
                 self._not_placed(run, holder, kind, ticket)
                 return
