@@ -115,6 +115,16 @@ class Ends(Case):
         with self.assertRaises(bulkhead.Worn):
             service.command("permits")(lambda: 1)()
 
+    def test_a_call_whose_group_is_worn_at_any_of_its_steps_is_told(self) -> None:
+        for name, steps in (("permits", 3), ("pool", 4)):
+            for number in range(1, steps):
+                service = self.open(f"service.auditSteps = {number}\n" + SETTINGS)
+                with self.assertRaises(bulkhead.Worn):
+                    service.command(name)(lambda: 1)()
+                self.assertEqual(service.runs(), [])
+            service = self.open(f"service.auditSteps = {steps}\n" + SETTINGS)
+            self.assertEqual(service.command(name)(lambda: 1)(), 1)
+
     def run_python(self, program: str) -> subprocess.CompletedProcess[str]:
         words = [sys.executable, "-W", "ignore", "-c", program]
         return subprocess.run(words, capture_output=True, text=True, timeout=20, check=False, env=os.environ)
