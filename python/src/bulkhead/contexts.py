@@ -4,6 +4,7 @@ from __future__ import annotations
 
 from collections.abc import Generator
 from contextvars import ContextVar
+from functools import partial
 from io import IOBase
 from typing import TYPE_CHECKING, Any, Optional
 
@@ -24,8 +25,8 @@ class RequestContext(IOBase):
     """A request context, from `with service.context():` until that block ends. It is entered once.
 
     An exception of a signal handler can come at the first instruction of a Python function, and nothing of that is run
-    then. So `__exit__` is that of `IOBase`, which is none, and calls `close`: that of a generator, which goes on from
-    within its `try`.
+    then. So `__exit__` is that of `IOBase`, which is none, and calls `close`, which is none either: a generator goes on
+    by it, from within its `try`.
     """
 
     def __init__(self, turns: Core, current: ContextVar[Optional[RequestContext]], number: int) -> None:
@@ -35,7 +36,6 @@ class RequestContext(IOBase):
         self.groups: dict[Group, None] = {}
         self.runs: list[Run] = []
         self._is_entered, self._block = False, self._within()
-        self.close = self._block.close  # type: ignore[assignment]
 
     def __enter__(self) -> RequestContext:
         if self._is_entered or self._block.gi_frame is None:
@@ -43,8 +43,9 @@ class RequestContext(IOBase):
         self._is_entered = True
         try:
             next(self._block)
+            self.close = partial(next, self._block, None)  # type: ignore[assignment]
         except BaseException:
-            self.close()
+            self._block.close()
             raise
         return self
 
