@@ -1,0 +1,55 @@
+-- What a step that a connection asks for is answered, and when it has to wait.
+use Rattle.std.specs.Prelude.{◌≡◌, ℕ, Bool, false, ◌&&◌, not, List, Option, Some, None}
+use Rattle.bh_base.specs.declared.reply.Reply.{Reply}
+use Rattle.bh_base.specs.declared.reply.Reply.TheVariants as replies
+use Rattle.bh_base.specs.declared.step.GroupId.{GroupId}
+use Rattle.bh_base.specs.declared.step.Op.{Op}
+use Rattle.bh_base.specs.declared.step.Op.TheVariants as op
+use Rattle.bh_base.specs.declared.step.Step.{Step}
+use Rattle.bh_base.specs.Runs.{View}
+use Rattle.bh_base.specs.Seen.{view_reply}
+use Rattle.bh_core.specs.CoreView.{CoreView, view_at}
+use Rattle.bh_core.specs.Looks.{is_assigned, is_worn_out}
+use Rattle.bh_lease.specs.declared.leases.Refusal.{Refusal}
+use Rattle.bh_lease.specs.Leases.{LeasesView, after, refusal}
+use Rattle.bh_lender.specs.Lender.{DoesStep, LenderView}
+use Rattle.bh_lender.specs.Settling.{would_wait}
+use Rattle.bh_lines.specs.Names.{Names, command_name}
+use Rattle.bh_replies.specs.ReplyLine.{reply_line}
+use Rattle.bh_share.specs.Answer.{refusal_line}
+
+-- whether a Start would be answered Idle, which no moment plays a part in: neither with a run nor with a refusal
+abbrev pub would_idle : Option View → Bool
+would_idle None = false
+would_idle (Some v) = not (is_assigned (view_reply v op.Start 0)) && not (is_worn_out (view_reply v op.Start 0))
+
+-- whether an operation that a connection may ask for would be answered Pending or Idle
+abbrev pub would_have_to : Op → GroupId → CoreView → Bool
+would_have_to op.Start group groups = would_idle (view_at groups group.0)
+would_have_to (op.Collect serial) group groups = would_wait (view_at groups group.0) serial
+would_have_to _ group groups = false
+
+-- whoever may not ask for it does not wait
+abbrev pub unless_refused : Option Refusal → Bool → Bool
+unless_refused None waits = waits
+unless_refused (Some why) waits = false
+
+abbrev pub has_to_wait : LenderView → LeasesView → GroupId → Op → Bool
+has_to_wait lender leases group o = unless_refused (refusal group o leases) (would_have_to o group lender.groups)
+
+-- the name that stands in the line of a reply: of a run that was assigned the further command's
+abbrev pub told_name : Names → GroupId → Reply → Option (List ℕ)
+told_name names group (replies.Assigned serial command arg) = command_name names group.0 command
+told_name names group _ = None
+
+-- the answer by whether the connection may ask for the step: its refusal, with nothing done; or the step was made, and what
+-- it lets holders that are left do, the connection has then what the step says, and the line is that of the step's reply
+abbrev pub IsAnsweredBy : Option Refusal → Names → Step → LenderView → LeasesView → LenderView → LeasesView → List ℕ → Type 0
+IsAnsweredBy (Some why) names step old had new has line = (new ≡ old) × (has ≡ had) × (line ≡ refusal_line why)
+IsAnsweredBy None names step old had new has line =
+    (reply : Reply) × DoesStep step reply old new × (has ≡ record had { listed = after step.group step.op reply had.listed })
+    × (line ≡ reply_line (told_name names step.group reply) reply)
+
+-- how a step is answered that a connection with these leases asks for
+abbrev pub IsAnswered : Names → Step → LenderView → LeasesView → LenderView → LeasesView → List ℕ → Type 0
+IsAnswered names step old had new has line = IsAnsweredBy (refusal step.group step.op had) names step old had new has line

@@ -1,0 +1,6 @@
+//! What a step that a connection asks for is answered, in one turn of a service that connections share.
+#![tactic(auto)]
+
+pub mod turn;
+
+pub use turn::{answer_step, has_to_wait};
