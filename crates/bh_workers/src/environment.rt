@@ -23,6 +23,7 @@ pub(crate) struct Environment<'e, D, C, R> {
 impl<'e, D, C: Clock, R: Wait> Environment<'e, D, C, R> {
     /// Makes one step of the pass's own group, at the moment that the clock gives, and writes its reply where the caller
     /// keeps it. The moment is read before the lock is taken.
+    #[inline(always)]
     pub(crate) fn make_step(&self, pass: &mut Pass, op: &Op, reply: &mut Reply)
         requires { self.now.shared.now.audited ≡ true → 1 ≤ pass.old.room }
         ensures adds { StepAdds C.moments self.now.shared.now.audited pass.old op.now reply.new pass.new }

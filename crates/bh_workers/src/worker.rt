@@ -80,6 +80,7 @@ impl<'e, D: Dependency, C: Clock, R: Wait> Environment<'e, D, C, R> {
 }
 
 /// The operation that tells how the run of the ticket ended.
+#[inline(always)]
 pub(crate) fn end_op(serial: Serial, end: RunEnd) -> Op
     ensures { result ≡ end_op serial end }
 {
