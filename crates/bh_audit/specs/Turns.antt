@@ -1,5 +1,5 @@
 -- What is done in one turn of the lock, by what was asked for.
-use Rattle.std.specs.Prelude.{◌≡◌, ◌↔◌, ℕ, ◌+◌, ◌<◌, ◌≤◌, ◌^◌, Bool, true, false, [], ◌∷◌, ◌++◌, length, is_some, Result, Ok, Err, IfOk, OnOk, OnErr, Option, Some, None, if◌then◌else◌}
+use Rattle.std.specs.Prelude.{◌≡◌, ◌↔◌, ℕ, ◌+◌, ◌<◌, ◌≤◌, ◌^◌, Bool, true, false, [], ◌∷◌, ◌++◌, length, is_some, Result, Err, IfOk, OnOk, OnErr, Option, Some, None, if◌then◌else◌}
 use Rattle.std.specs.List.{position_from}
 use Rattle.bh_base.specs.Props.{GroupProps}
 use Rattle.bh_base.specs.declared.reply.Reply.{Reply}
@@ -25,7 +25,6 @@ use Rattle.bh_audit.specs.Calls.{AddsCollect, AddsNext, is_due, step_at, workers
 use Rattle.bh_audit.specs.Waking.{IsEverybody, KeepsWakeUps}
 use Rattle.bh_audit.specs.declared.asks.Ask.{Ask}
 use Rattle.bh_audit.specs.declared.asks.Ask.TheVariants as ask
-use Rattle.bh_audit.specs.declared.asks.Answer.{Answer}
 use Rattle.bh_audit.specs.declared.asks.Said.{Said}
 use Rattle.bh_audit.specs.declared.asks.Said.TheVariants as said
 use Rattle.bh_audit.specs.declared.freed.Freed.{Freed}
