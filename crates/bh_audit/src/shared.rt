@@ -1,6 +1,6 @@
 //! One service, which threads share.
 
-ghost use Rattle.std.specs.Prelude.{◌≡◌, ◌≢◌, ◌↔◌, ◌<◌, ◌≤◌, ◌^◌, ◌&&◌, length, is_some, nat_lt, vec_len, IfOk, IfErr, IfSome, IsErr, OnErr, OnOk, Err, Some, true, false, if◌then◌else◌};
+ghost use Rattle.std.specs.Prelude.{◌≡◌, ◌≢◌, ◌↔◌, ◌<◌, ◌≤◌, ◌^◌, ◌&&◌, length, nat_lt, IfOk, IfErr, IfSome, IsErr, OnErr, OnOk, Err, true, false, if◌then◌else◌};
 ghost use Rattle.bh_base.specs.declared.reply.Reply.TheVariants as replies;
 ghost use Rattle.bh_base.specs.declared.step.Op.TheVariants as op;
 ghost use Rattle.bh_base.specs.Ranges.{IsInRange};
@@ -13,7 +13,7 @@ ghost use Rattle.bh_audit.specs.declared.next.StepError.TheVariants.{OtherGroup,
 ghost use Rattle.bh_audit.specs.Calls.{AddsCollect, AddsExpire, AddsNext, CanBeMissing};
 ghost use Rattle.bh_audit.specs.Finish.{FinishSays};
 ghost use Rattle.bh_audit.specs.Service.{is_audited};
-ghost use Rattle.bh_audit.specs.Turns.{Did, IsAllowed, may_step, next_of};
+ghost use Rattle.bh_audit.specs.Turns.{Did, IsAllowed, may_step};
 ghost use Rattle.bh_audit.specs.declared.freed.Freed.{Freed};
 
 use crate::asks::{Answer, Ask, Said};
@@ -22,9 +22,9 @@ use crate::clock::{Clock, NoClock};
 use crate::error::AuditError;
 use crate::freed::Freed;
 use crate::guarded::Guarded;
-use crate::next::{Next, PassError, StepError};
+use crate::next::{Next, PassError, StepError, told_by};
 use crate::pass::Pass;
-use crate::waiting::{Place, Waiting};
+use crate::waiting::{Place, Waiting, all_waiting};
 use bh_base::{GroupId, GroupProps, Reply, Serial, Step};
 use bh_core::{RegisterError, RetireError};
 use bh_journal::AuditReport;
@@ -496,36 +496,4 @@ fn lock_of(book: Book) -> Lock
     } else {
         Lock::Plain(Guarded::new(book))
     }
-}
-
-/// What the reply to its Start tells a worker.
-fn told_by(reply: &Reply) -> Next
-    requires { is_some (next_of reply.now) ≡ true }
-    ensures { next_of reply.now ≡ Some result }
-{
-    match reply {
-        Reply::Assigned {
-            serial,
-            command,
-            arg,
-        } => Next::Assigned {
-            serial: *serial,
-            command: *command,
-            arg: *arg,
-        },
-        Reply::Worn => Next::Worn,
-        Reply::NoGroup => Next::NoGroup,
-        _ => unreachable!(),
-    }
-}
-
-/// For so many groups, where their calls wait.
-fn all_waiting(alloc: Global, count: u64) -> Result<Vec<Waiting>, AllocError>
-    ensures { IfOk result (λ all. vec_len all ≡ count) }
-{
-    let mut all = Vec::new(alloc);
-    for made in 0..count {
-        all.push(Waiting::new())?;
-    }
-    Ok(all)
 }

@@ -1,9 +1,10 @@
 //! Where the calls of a group wait.
 
-ghost use Rattle.std.specs.Prelude.{◌≡◌, ◌%◌};
+ghost use Rattle.std.specs.Prelude.{◌≡◌, ◌%◌, vec_len, IfOk};
 
 use crate::freed::{FreedCallers, Notice, place_of};
 use bh_base::Serial;
+use std::alloc::{AllocError, Global};
 use std::sync::atomic::{AtomicU64, Ordering};
 use std::sync::{Condvar, MutexGuard, Wait};
 
@@ -102,4 +103,15 @@ impl Waiting {
             place.notify(callers.at(number as u64));
         }
     }
+}
+
+/// For so many groups, where their calls wait.
+pub(crate) fn all_waiting(alloc: Global, count: u64) -> Result<Vec<Waiting>, AllocError>
+    ensures { IfOk result (λ all. vec_len all ≡ count) }
+{
+    let mut all = Vec::new(alloc);
+    for made in 0..count {
+        all.push(Waiting::new())?;
+    }
+    Ok(all)
 }
