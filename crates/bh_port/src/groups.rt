@@ -1,6 +1,6 @@
 //! The groups of a run by name and number: those of the settings, and those that lines registered.
 
-ghost use Rattle.std.specs.Prelude.{◌≡◌, ℕ, ◌<◌, ◌++◌, List, ◌∷◌, [], false, true, length, slice_get, option_copied, IfErr, IfOk, IfSome, IsSome, OnErr, OnOk, Some, vec_capacity, vec_len};
+ghost use Rattle.std.specs.Prelude.{◌≡◌, ℕ, ◌<◌, ◌++◌, List, ◌∷◌, [], false, true, length, slice_get, is_some, option_copied, IfErr, IfOk, IfSome, IsSome, OnErr, OnOk, Some, vec_capacity, vec_len};
 ghost use Rattle.std.specs.HashMap.{IsUnchanged, spare};
 ghost use Rattle.bh_base.specs.Props.{GroupProps};
 ghost use Rattle.bh_base.specs.Runs.{View, view};
@@ -83,6 +83,21 @@ impl Groups {
         ensures { result ≡ length self.now.entries }
     {
         self.entries.len()
+    }
+
+    /// The groups by their numbers, retired ones included.
+    pub fn entries(&self) -> &[Entry]
+        ensures { result.now ≡ self.now.entries }
+    {
+        self.entries.as_slice()
+    }
+
+    /// The groups as the core has them, to be looked at: each that is there is registered.
+    pub fn core(&self) -> &Core
+        ensures core { result.now ≡ self.now.core }
+        ensures there { (number : ℕ) → is_some (view_at self.now.core number) ≡ is_some (entry_at self.now.entries number) }
+    {
+        &self.core
     }
 
     /// The number of the group of the name, where it is there. It is found by the hash of the name.

@@ -1,0 +1,5 @@
+pub mod Timeouts  -- how many tickets time out in a step, by what is counted before and behind it
+pub mod Adding  -- what a step adds to the lanes of its group, by what is looked at and told
+pub mod Watching  -- what is kept of a script with one act more
+pub mod Taking  -- lines that are taken, from the bytes that had come to those that are left
+pub mod Reading  -- a run that is watched, from the reader's first byte to its last

@@ -1,0 +1,14 @@
+use Rattle.std.proofs.Common.{◌≡◌, ◌<◌, ◌≤◌, ℕ, Some, length}
+use Rattle.std.specs.Prelude.{slice_get}
+use Rattle.bh_base.specs.Runs.{View}
+use Rattle.bh_core.specs.CoreView.{view_at}
+use Rattle.bh_look.specs.declared.lane.Lane.{Lane}
+use Rattle.bh_look.specs.Looked.{Fits, HasNoted}
+use Rattle.bh_look.proofs.making.note_looks.Given as goal
+
+abbrev pub invariant-loop-command : goal.invariant-loop-command
+invariant-loop-command l = record {
+  done : (v : View) → view_at l.core l.group.0 ≡ Some v → Fits v l.initial.lanes → (k : ℕ) (lane : Lane) → k < l.command → slice_get l.initial.lanes k ≡ Some lane
+      → (x : Lane) × (slice_get l.lanes k ≡ Some x) × HasNoted v k l.now l.asks lane x;
+  rest : (k : ℕ) → l.command ≤ k → slice_get l.lanes k ≡ slice_get l.initial.lanes k;
+}

@@ -1,0 +1,19 @@
+use Rattle.std.proofs.Common.{length, ap, arith, length-drop}
+use Rattle.std.proofs.lemmas.Result.{err_from_is_err_and}
+use Rattle.bh_port.proofs.Answering.{front-within}
+use Rattle.bh_look.proofs.Taking.{front-taken}
+use Rattle.bh_look.proofs.watch.Watch.take_next.Goals as goal
+
+pub returns-clause-taken : goal.returns-clause-taken
+returns-clause-taken c =
+    front-taken _ _ _ _ _ c.as_slice.result.now c.args.buffer.now.items c.advance.new.self.items c.in-Some.line c.as_slice.ensures c.in-Some.ensures c.in_ok-take_line.ensures c.advance.ensures.items
+
+pub returns-clause-shorter : goal.returns-clause-shorter
+returns-clause-shorter c = λ _.
+    let f = front-within c.as_slice.result.now c.args.buffer.now.items c.in-Some.line c.as_slice.ensures c.in-Some.ensures in
+    omega (arith, f.0, f.1, ap length c.advance.ensures.items, length-drop c.in-Some.line.taken c.args.buffer.now.items)
+
+pub returns-in_err-take_line-clause-stopped : goal.returns-in_err-take_line-clause-stopped
+returns-in_err-take_line-clause-stopped c =
+    let p = err_from_is_err_and c.from_residual.result c.from_residual.ensures.1 in
+    rw (p.1, p.2) (λ before more watched. tt)
