@@ -9,6 +9,7 @@ pub mod lint;
 pub mod report;
 pub mod run;
 pub mod serve;
+pub mod summary;
 
 pub use check::{check_explained, check_file};
 pub use cut::cut_file;
@@ -16,3 +17,4 @@ pub use file::{FILE_LIMIT, FileError, Unread, read_file};
 pub use lint::{Linting, lint_file};
 pub use run::{Explained, run_explained, run_file};
 pub use serve::{Serving, serve_file, watch};
+pub use summary::{SummaryForm, summary_file};

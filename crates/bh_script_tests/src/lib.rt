@@ -16,3 +16,5 @@ mod random_cuts;
 mod scripts;
 #[cfg(test)]
 mod streams;
+#[cfg(test)]
+mod summaries;

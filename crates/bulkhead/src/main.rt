@@ -5,8 +5,8 @@
 mod tests;
 
 use bh_commands::{
-    Linting, Serving, Unread, check_explained, check_file, cut_file, explain, lint_file, read_file,
-    report, run_explained, run_file, serve_file,
+    Linting, Serving, SummaryForm, Unread, check_explained, check_file, cut_file, explain,
+    lint_file, read_file, report, run_explained, run_file, serve_file, summary_file,
 };
 use bh_lint::Form;
 use bh_props::SettingsError;
@@ -104,6 +104,11 @@ where
             serving_in(found),
             ends_with_input(found),
         )),
+        Some(("summary", found)) => Ok(summary_path(
+            rt,
+            found.get_str("FILE").unwrap_or(""),
+            form_in(found),
+        )),
         _ => Ok(BAD_ARGUMENTS),
     }
 }
@@ -160,6 +165,15 @@ fn serving_in(found: &ArgMatches<'_>) -> Serving {
     }
 }
 
+/// How a summary is written.
+fn form_in(found: &ArgMatches<'_>) -> SummaryForm {
+    if found.get_flag("json") {
+        SummaryForm::Objects
+    } else {
+        SummaryForm::Table
+    }
+}
+
 /// Whether the end of standard input ends the service.
 fn ends_with_input(found: &ArgMatches<'_>) -> bool {
     found.get_flag("keep-serving") && !found.get_flag("forever")
@@ -183,6 +197,7 @@ fn command<'a>(alloc: Global) -> Result<Command<'a>, AllocError> {
             "Answers each step on standard input, a line of JSON, by a line",
         )?)?
         .subcommand(cut_command(alloc)?)?
+        .subcommand(summary_command(alloc)?)?
         .subcommand(serve_command(alloc)?)
 }
 
@@ -204,6 +219,20 @@ fn group<'a>(alloc: Global) -> Arg<'a> {
         .help("A group whose lines are kept; it may be given more than once")
         .required(true)
         .action(ArgAction::Append)
+}
+
+/// The subcommand that tells what a script came to.
+fn summary_command<'a>(alloc: Global) -> Result<Command<'a>, AllocError> {
+    let json = Arg::new(alloc, "json")
+        .long("json")
+        .help("Prints an object of JSON for each command, a line each")
+        .action(ArgAction::SetTrue);
+    with_file(
+        alloc,
+        "summary",
+        "Prints what the requests of each command on standard input came to, in what time, and how its circuit stood",
+    )?
+    .arg(json)
 }
 
 /// The subcommand that tells what is amiss.
@@ -375,6 +404,22 @@ fn cut_path(rt: &HostRuntime, path: &str, names: &[&str]) -> u8 {
             rt.alloc(),
             settings.as_slice(),
             names,
+            &mut rt.reader(),
+            &mut io::writer(rt),
+            &mut errors,
+        ),
+        Err(unread) => report::unreadable(&mut errors, unread.error),
+    }
+}
+
+/// Tells what standard input comes to under the settings of the file.
+fn summary_path(rt: &HostRuntime, path: &str, form: SummaryForm) -> u8 {
+    let mut errors = rt.stderr();
+    match read_path(rt, path) {
+        Ok(settings) => summary_file(
+            rt.alloc(),
+            settings.as_slice(),
+            form,
             &mut rt.reader(),
             &mut io::writer(rt),
             &mut errors,
