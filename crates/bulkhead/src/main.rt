@@ -25,7 +25,7 @@ use std::thread::Threads;
 use std::{env, io};
 
 /// The version of the program, and the line by which the toolchain that proved it names itself.
-const VERSION: &str = "1.0.0\nrattle-kit-13b logic dac8208d650f15bf";
+const VERSION: &str = "1.0.0\nrattle-kit-13f logic dac8208d650f15bf";
 
 /// What `serve --help` says beneath the options.
 const WHO_IS_SERVED: &str =
