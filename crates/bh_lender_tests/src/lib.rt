@@ -1,0 +1,9 @@
+//! Tests of connections that share groups: whose tickets are, and what a connection that ends gives back.
+#![tactic(auto)]
+
+#[cfg(test)]
+mod lending;
+#[cfg(test)]
+mod returns;
+#[cfg(test)]
+mod samples;
