@@ -1,11 +1,13 @@
 -- Sixteen bytes of a text at once: where the first stands at which its plain bytes stop.
-use Rattle.std.proofs.Common.{◌≡◌, ℕ, zero, suc, ◌+◌, ◌*◌, ◌%◌, ◌^◌, ◌<◌, ◌≤◌, Bool, true, false, not, ◌&&◌, cond, eqb, ltb, List, [], ◌∷◌, map, length, drop, replicate, bit_or, Fits, w8, inl, inr, refl, sym, ap, ap₂, ◌∙◌, arith, ne_eqb}
+use Rattle.std.proofs.Common.{◌≡◌, ℕ, zero, suc, ◌+◌, ◌-◌, ◌*◌, ◌/◌, ◌%◌, ◌^◌, ◌<◌, ◌≤◌, Bool, true, false, not, ◌&&◌, cond, eqb, ltb, List, [], ◌∷◌, map, length, drop, replicate, bit_or, Fits, w8, inl, inr, refl, sym, ap, ap₂, ◌∙◌, arith, length-drop, ne_eqb}
 use Rattle.std.proofs.lemmas.Bool.{false≢true, cases_eq, and_parts, eq-eqb}
-use Rattle.std.proofs.lemmas.List.{length-map}
+use Rattle.std.proofs.Math.Nat.{div-div-eq-div-mul, div-one, zero-div}
+use Rattle.std.proofs.lemmas.List.{drop-drop, drop-map, length-map, take_all}
 use Rattle.std.proofs.lemmas.List.Folds.{prefix_len-append}
 use Rattle.std.proofs.lemmas.List.Sums.{prefix_len-le-length}
 use Rattle.std.proofs.lemmas.Simd.{zip2_splat, zip2_of_maps, mask_l-mod, chunk-drop, length-chunk, trailing_mask_l, leading_from_mask_l}
 use Rattle.std.specs.List.{prefix_len}
+use native.Mathlib.Numerals.{unary_clauses}
 use lib.Count.{count_trailing_zeros}
 use lib.Lanes.{Each1, zip2, chunk, mask_l, top}
 use Rattle.json.specs.Run.{is_stop, is_plain}
@@ -82,3 +84,36 @@ none_among d i room none =
     ap (prefix_len is_plain) (chunk-drop i 16 d) ∙ prefix_len-append is_plain c ahead
     ∙ ap (λ b. cond b (length c + prefix_len is_plain ahead) (prefix_len is_plain c)) (eq-eqb (prefix_len is_plain c) (length c) (leading_from_mask_l is_stop c none))
     ∙ ap (λ n. n + prefix_len is_plain ahead) (length-chunk i 16 d room)
+
+half : (b : Bool) (m : ℕ) → (cond b 1 0 + 2 * m) / 2 ≡ m
+half true m = omega arith
+half false m = omega arith
+
+pow_suc : (k : ℕ) → 2 ^ suc k ≡ 2 * 2 ^ k
+pow_suc k = simp unary_clauses (omega arith)
+
+-- a mask without its lowest bits is that of the lanes behind them
+shifted : (k : ℕ) (ms : List Bool) → mask_l ms / 2 ^ k ≡ mask_l (drop k ms)
+shifted zero ms = div-one (mask_l ms)
+shifted (suc k) [] = zero-div (2 ^ suc k)
+shifted (suc k) (b ∷ bs) =
+    let m = cond b 1 0 + 2 * mask_l bs in
+    ap (λ n. m / n) (pow_suc k) ∙ sym (div-div-eq-div-mul m 2 (2 ^ k)) ∙ ap (λ n. n / 2 ^ k) (half b (mask_l bs)) ∙ shifted k bs
+
+-- the mask of the last sixteen, k of which are passed over, is that of those behind them
+in_tail : (d : List ℕ) (i k : ℕ) → i + 16 ≡ length d → mask_l (map is_stop (chunk i 16 d)) / 2 ^ k ≡ mask_l (map is_stop (drop (i + k) d))
+in_tail d i k all =
+    let c = chunk i 16 d in
+    let is_tail : c ≡ drop i d = take_all 16 (drop i d) (omega (arith, length-drop i d, all)) in
+    shifted k (map is_stop c) ∙ ap mask_l (drop-map is_stop k c) ∙ ap (λ l. mask_l (map is_stop l)) (ap (drop k) is_tail ∙ drop-drop k i d)
+
+-- where there is no stop among them, all are plain
+pub none_in_tail : (d : List ℕ) (i k : ℕ) → i + 16 ≡ length d → mask_l (map is_stop (chunk i 16 d)) / 2 ^ k ≡ 0 → prefix_len is_plain (drop (i + k) d) ≡ 16 - k
+none_in_tail d i k all none =
+    leading_from_mask_l is_stop (drop (i + k) d) (sym (in_tail d i k all) ∙ none) ∙ omega (arith, length-drop (i + k) d, all)
+
+-- the first of them ends the plain ones
+pub stop_in_tail : (d : List ℕ) (i k : ℕ) → i + 16 ≡ length d → 0 < mask_l (map is_stop (chunk i 16 d)) / 2 ^ k → prefix_len is_plain (drop (i + k) d) ≡ count_trailing_zeros 64 (mask_l (map is_stop (chunk i 16 d)) / 2 ^ k)
+stop_in_tail d i k all some =
+    sym (trailing_mask_l is_stop 64 (drop (i + k) d) (omega (arith, length-drop (i + k) d, all)) (omega (arith, some, in_tail d i k all)))
+    ∙ ap (count_trailing_zeros 64) (sym (in_tail d i k all))

@@ -4,6 +4,7 @@
 
 ghost use Rattle.std.specs.Prelude.{◌≡◌, ◌<◌, ◌==◌, ◌&&◌, Bool, false, true, List, [], length, slice_index, Some, is_some, option_map, IfOk, IfSome, MatchOption, OnErr, OnSome};
 ghost use Rattle.json.specs.Lex.{tokens};
+ghost use Rattle.json.specs.Scratch.{room};
 ghost use Rattle.json.specs.Token.{Token as JsonToken};
 ghost use Rattle.serde_json.specs.Data.{unsigned};
 ghost use Rattle.serde_json.specs.Find.{get};
@@ -62,10 +63,36 @@ impl<'a> FlatObject<'a> {
         ensures err { OnErr result (self.new.members.items ≡ self.old.members.items) }
     {
         scratch.reserve(line.len())?;
-        self.members.clear();
-        if read_plain(line, &mut self.members) {
+        if self.read_plain(line) {
             return Ok(true);
         }
+        self.read_tokens(line, scratch)
+    }
+
+    /// Becomes the object that a plain line is, and says whether the line is one; where it is not, this says no more of it,
+    /// and the members mean nothing. It takes no memory, and one object serves for any number of lines.
+    ///
+    /// Plain is an object of at most eight members: texts without escapes, whole numbers of 64 bits, truth values and null,
+    /// with no white space between them but one space at a time.
+    pub fn read_plain(&mut self, line: &'a str) -> bool
+        ensures found { result ≡ true → is_flat (tokens line.now) ≡ true }
+        ensures value { result ≡ true → read line.now ≡ Some (flat_data self.new.members.items) }
+    {
+        self.members.clear();
+        read_plain(line, &mut self.members)
+    }
+
+    /// As `read`, without a look whether the line is plain.
+    pub fn read_tokens(
+        &mut self,
+        line: &'a str,
+        scratch: &'a mut Scratch,
+    ) -> Result<bool, AllocError>
+        ensures found { IfOk result (λ found. found ≡ is_flat (tokens line.now)) }
+        ensures value { IfOk result (λ found. found ≡ true → read line.now ≡ Some (flat_data self.new.members.items)) }
+        ensures err { OnErr result (self.new.members.items ≡ self.old.members.items) }
+        ensures full { OnErr result (room scratch.old < length line.now) }
+    {
         let mut reader = Reader::new(line, scratch)?;
         let Some(Token::BeginObject) = reader.next() else {
             return Ok(false);

@@ -2,6 +2,7 @@
 
 ghost use Rattle.std.specs.Prelude.{◌≡◌, Ok, if◌then◌else◌, Err, codes, option_copied, MatchResult, OnErr};
 ghost use Rattle.serde_json.specs.Find.{get};
+ghost use Rattle.bh_base.specs.declared.step.Op.TheVariants as ops;
 ghost use Rattle.bh_lines.specs.Flat.{members_data};
 ghost use Rattle.bh_lines.specs.StepLine.{op_word, cache_of, command_of, op_said, if_short, step_said, op_view, cache_view, command_view, found_op, found_cache, found_command, found_said, is_short_name, fallback_end_of, end_view, found_end, is_short_end};
 
@@ -195,23 +196,9 @@ pub fn if_short(command: u8, said: OpLine<'_>, op: &mut Op) -> Result<(), Fault>
     ensures kept { OnErr result (op.new ≡ op.old) }
 {
     match said {
-        OpLine::Submit { cache, arg, .. } => {
-            let cache = short_name(cache)?;
-            let arg = Text::new(arg).map_err(|_| Fault::Long)?;
-            *op = Op::Submit(Request {
-                command,
-                cache,
-                arg,
-            });
-        }
+        OpLine::Submit { cache, arg, .. } => return write_submit(command, cache, arg, op),
         OpLine::Start => *op = Op::Start,
-        OpLine::Finish { ticket, body } => {
-            let body = Text::new(body).map_err(|_| Fault::Long)?;
-            *op = Op::Finish {
-                serial: ticket,
-                body,
-            };
-        }
+        OpLine::Finish { ticket, body } => return write_finish(ticket, body, op),
         OpLine::Fail { ticket, bad } => {
             *op = Op::Fail {
                 serial: ticket,
@@ -220,16 +207,63 @@ pub fn if_short(command: u8, said: OpLine<'_>, op: &mut Op) -> Result<(), Fault>
         }
         OpLine::Expire => *op = Op::Expire,
         OpLine::Collect { ticket } => *op = Op::Collect { serial: ticket },
-        OpLine::FallbackDone { ticket, end } => {
-            let end = short_end(end)?;
-            *op = Op::FallbackDone {
-                serial: ticket,
-                end,
-            };
-        }
+        OpLine::FallbackDone { ticket, end } => return write_fallback(ticket, end, op),
         OpLine::Close { context } => *op = Op::Close { context },
         OpLine::Read { .. } => *op = Op::Read { command },
     }
+    Ok(())
+}
+
+/// Writes a submit, as `if_short` does. Each operation with a text is written by itself, so that a line clears the room of
+/// no other.
+fn write_submit(
+    command: u8,
+    cache: Option<(u64, &str)>,
+    arg: &str,
+    op: &mut Op,
+) -> Result<(), Fault>
+    ensures said { MatchResult result
+        (λ _. if_short command (ops.Submit (record { command = 0; cache = cache_view cache.entry; arg = arg.now })) ≡ Ok op.new)
+        (λ fault. if_short command (ops.Submit (record { command = 0; cache = cache_view cache.entry; arg = arg.now })) ≡ Err fault) }
+    ensures kept { OnErr result (op.new ≡ op.old) }
+{
+    let cache = short_name(cache)?;
+    let arg = Text::new(arg).map_err(|_| Fault::Long)?;
+    *op = Op::Submit(Request {
+        command,
+        cache,
+        arg,
+    });
+    Ok(())
+}
+
+/// Writes the end of a run, as `if_short` does.
+fn write_finish(ticket: u64, body: &str, op: &mut Op) -> Result<(), Fault>
+    ensures said { MatchResult result
+        (λ _. if_short 0 (ops.Finish ticket body.now) ≡ Ok op.new)
+        (λ fault. if_short 0 (ops.Finish ticket body.now) ≡ Err fault) }
+    ensures kept { OnErr result (op.new ≡ op.old) }
+{
+    let body = Text::new(body).map_err(|_| Fault::Long)?;
+    *op = Op::Finish {
+        serial: ticket,
+        body,
+    };
+    Ok(())
+}
+
+/// Writes the end of a fallback, as `if_short` does.
+fn write_fallback(ticket: u64, end: EndLine<'_>, op: &mut Op) -> Result<(), Fault>
+    ensures said { MatchResult result
+        (λ _. if_short 0 (ops.FallbackDone ticket (end_view end.entry)) ≡ Ok op.new)
+        (λ fault. if_short 0 (ops.FallbackDone ticket (end_view end.entry)) ≡ Err fault) }
+    ensures kept { OnErr result (op.new ≡ op.old) }
+{
+    let end = short_end(end)?;
+    *op = Op::FallbackDone {
+        serial: ticket,
+        end,
+    };
     Ok(())
 }
 

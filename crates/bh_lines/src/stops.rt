@@ -2,7 +2,7 @@
 //!
 //! There a text that is read ends or has an escape.
 
-ghost use Rattle.std.specs.Prelude.{◌≡◌, ◌+◌, ◌≤◌, length, drop, map, MatchOption, IfSome};
+ghost use Rattle.std.specs.Prelude.{◌≡◌, ◌+◌, ◌<◌, ◌≤◌, length, drop, map, MatchOption, IfSome};
 ghost use Rattle.std.specs.List.{prefix_len};
 ghost use Rattle.std.specs.Simd.Lanes.{mask_l};
 ghost use Rattle.json.specs.Run.{is_plain, is_stop};
@@ -44,8 +44,26 @@ fn plain_end_of_many(bytes: &[u8], from: usize) -> usize
     plain_end_of_few(bytes, place)
 }
 
-/// The same, where fewer than sixteen bytes are left.
+/// The same, where fewer than sixteen bytes are left: of sixteen bytes or more the last sixteen are looked at together.
 fn plain_end_of_few(bytes: &[u8], from: usize) -> usize
+    requires within { from ≤ length bytes.now }
+    requires few { length bytes.now < from + 16 }
+    ensures value { result ≡ from + prefix_len is_plain (drop from bytes.now) }
+    ensures within { result ≤ length bytes.now }
+{
+    if bytes.len() < 16 {
+        return plain_end_one_by_one(bytes, from);
+    }
+    let first = bytes.len() - 16;
+    let stops = stops_in(u8x16::from_slice(&bytes[first..])) >> (from - first);
+    if stops == 0 {
+        return bytes.len();
+    }
+    from + stops.trailing_zeros() as usize
+}
+
+/// The same, one byte after the other.
+fn plain_end_one_by_one(bytes: &[u8], from: usize) -> usize
     requires { from ≤ length bytes.now }
     ensures value { result ≡ from + prefix_len is_plain (drop from bytes.now) }
     ensures within { result ≤ length bytes.now }

@@ -9,6 +9,9 @@ use Rattle.bh_lines.specs.declared.port_error.PortError.{PortError}
 use Rattle.bh_lines.specs.declared.port_error.PortError.TheVariants.{Read, Write, Line, Memory}
 use Rattle.bh_lines.specs.Lines.{Cut, cut, stops, has_line}
 use Rattle.bh_streams.specs.Watched.{WritesFront}
+use Rattle.bh_faults.specs.declared.fault.Fault.{Fault}
+use Rattle.bh_port.specs.declared.act.LineAct.{LineAct}
+use Rattle.bh_port.specs.declared.groups.Entry.{Entry}
 use Rattle.bh_port.specs.GroupsView.{GroupsView}
 use Rattle.bh_port.specs.Course.{Course, line_act, new_course, state_at}
 use Rattle.bh_port.specs.Text.{answer_to, course_with, text}
@@ -21,6 +24,11 @@ pub record GroupsShow (service : SettingsView) (groups : GroupsView) (course : C
   pub shows : (number : ℕ) (s : State) → state_at service course number ≡ Some s → Shows groups.core number s
   pub others : (number : ℕ) → state_at service course number ≡ None → view_at groups.core number ≡ None
   pub known : AllByRecursion (λ x. x.group.0 < length course.entries) course.steps
+
+-- what the line was found to ask for, or its fault: where it asks for something, that is told here
+abbrev pub IsSaid : SettingsView → List Entry → List ℕ → LineAct → Result (Unit {0}) Fault → Type 0
+IsSaid service entries bytes told (Ok x) = line_act service entries bytes ≡ Ok told
+IsSaid service entries bytes told (Err fault) = line_act service entries bytes ≡ Err fault
 
 -- the line that answers the line stands behind what was there, and the groups did what it asks for, if anything
 pub record AnswersLine (service : SettingsView) (before : Course) (bytes : List ℕ) (groups : GroupsView) (old new : List ℕ) : Type 0 where

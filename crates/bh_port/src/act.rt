@@ -1,6 +1,6 @@
 //! What a line asks of the groups of a run, and what it is told.
 
-ghost use Rattle.std.specs.Prelude.{◌≡◌, Err, IfOk, IfSome, MatchResult, Ok, OnErr, OnOk, option_copied};
+ghost use Rattle.std.specs.Prelude.{◌≡◌, Err, IfOk, IfSome, MatchOption, MatchResult, Ok, OnErr, OnOk, option_copied};
 ghost use Rattle.bh_replies.specs.declared.told.Told.TheVariants as told;
 ghost use Rattle.bh_lines.specs.Flat.{members_data};
 ghost use Rattle.bh_lines.specs.ScriptLine.{asked_at};
@@ -9,7 +9,7 @@ ghost use Rattle.bh_props.specs.Shown.{settings_view};
 ghost use Rattle.bh_port.specs.declared.act.LineAct.TheVariants as act;
 ghost use Rattle.bh_port.specs.CommandPlaces.{AreCommandPlaces};
 ghost use Rattle.bh_port.specs.Course.{Course, IsActOf, act_asked, is_free, line_act, registration, retirement};
-ghost use Rattle.bh_port.specs.Script.{GroupsShow};
+ghost use Rattle.bh_port.specs.Script.{GroupsShow, IsSaid};
 ghost use Rattle.bh_port.specs.Text.{told_by, with_act};
 
 use crate::commands::{assigned_command, further_command};
@@ -40,7 +40,6 @@ pub enum LineAct {
 /// Tells what a line asks for in a service that has these groups, or answers its fault. It is told where the caller keeps
 /// it, since a step is too long to be copied at each return, and what is there stays where nothing is told: at a fault, and
 /// for want of memory, which is all that it fails for.
-#[tactic(auto, unfolding(bh_lines::specs::ScriptLine::line_asked, crate::specs::Course::line_act))]
 pub fn line_act(
     alloc: Global,
     settings: &Settings,
@@ -56,7 +55,47 @@ pub fn line_act(
     ensures kept { MatchResult result (λ said. OnErr said (act.new ≡ act.old)) (λ _. act.new ≡ act.old) }
 {
     let mut object = FlatObject::new();
-    if object.read(line, scratch)? {
+    match plain_act(settings, groups, &mut object, line, act) {
+        Some(said) => Ok(said),
+        None => other_act(alloc, settings, groups, scratch, line, act),
+    }
+}
+
+/// The same of a plain line, and nothing of any other. It takes no memory, and one object serves for all lines.
+#[tactic(auto, unfolding(bh_lines::specs::ScriptLine::line_asked, crate::specs::Course::line_act))]
+pub(crate) fn plain_act<'a>(
+    settings: &Settings,
+    groups: &Groups,
+    object: &mut FlatObject<'a>,
+    line: &'a str,
+    act: &mut LineAct,
+) -> Option<Result<(), Fault>>
+    ensures said { IfSome result (IsSaid (settings_view settings.now) groups.now.entries line.now act.new) }
+    ensures act { IfSome result (λ said. OnOk said (IsActOf (settings_view settings.now) groups.now.entries act.new)) }
+    ensures kept { MatchOption result (act.new ≡ act.old) (λ said. OnErr said (act.new ≡ act.old)) }
+{
+    if !object.read_plain(line) {
+        return None;
+    }
+    Some(act_at(settings, groups, Members::Flat(object), act))
+}
+
+/// The same of any line, without a look whether it is plain.
+#[tactic(auto, unfolding(bh_lines::specs::ScriptLine::line_asked, crate::specs::Course::line_act))]
+pub(crate) fn other_act(
+    alloc: Global,
+    settings: &Settings,
+    groups: &Groups,
+    scratch: &mut Scratch,
+    line: &str,
+    act: &mut LineAct,
+) -> Result<Result<(), Fault>, AllocError>
+    ensures said { IfOk result (IsSaid (settings_view settings.now) groups.now.entries line.now act.new) }
+    ensures act { IfOk result (λ said. OnOk said (IsActOf (settings_view settings.now) groups.now.entries act.new)) }
+    ensures kept { MatchResult result (λ said. OnErr said (act.new ≡ act.old)) (λ _. act.new ≡ act.old) }
+{
+    let mut object = FlatObject::new();
+    if object.read_tokens(line, scratch)? {
         return Ok(act_at(settings, groups, Members::Flat(&object), act));
     }
     match value_of(alloc, line)? {

@@ -1,7 +1,8 @@
 //! A run of a script: lines are answered as they come, each by the line of what it is told or of its fault.
 
-ghost use Rattle.std.specs.Prelude.{◌≡◌, ◌⊎◌, ◌++◌, ◌<◌, ℕ, List, true, false, length, option_copied, Some, Err, OnOk, OnErr, IfErr, IfOk};
+ghost use Rattle.std.specs.Prelude.{◌≡◌, ◌⊎◌, ◌++◌, ◌<◌, ◌≤◌, ℕ, List, true, false, drop, length, option_copied, Some, Err, OnOk, OnErr, IfErr, IfOk};
 ghost use Rattle.bh_props.specs.Shown.{settings_view};
+ghost use Rattle.bh_lines.specs.Front.{IsFront};
 ghost use Rattle.bh_lines.specs.Lines.{cut, has_line};
 ghost use Rattle.bh_lines.specs.Taken.{IsMemoryOrLine};
 ghost use Rattle.bh_replies.specs.FaultLine.{fault_line};
@@ -11,14 +12,15 @@ ghost use Rattle.bh_streams.specs.Watched.{writer_of, bytes_held, OneRefused, No
 ghost use Rattle.bh_port.specs.CommandPlaces.{AreCommandPlaces};
 ghost use Rattle.bh_port.specs.Course.{Course, IsActOf};
 ghost use Rattle.bh_port.specs.Text.{told_by, with_act};
-ghost use Rattle.bh_port.specs.Script.{GroupsShow, AnswersLine, ScriptAnswered, ScriptOutcome, IsNotRead};
+ghost use Rattle.bh_port.specs.Script.{GroupsShow, AnswersLine, ScriptAnswered, ScriptOutcome, IsNotRead, IsSaid};
 
-use crate::act::{LineAct, line_act};
+use crate::act::{LineAct, line_act, other_act, plain_act};
 use crate::groups::Groups;
 use crate::places::CommandPlaces;
 use bh_base::{Reply, Text};
 use bh_faults::Fault;
-use bh_lines::{PortError, front_line, last_line, next_line};
+use bh_lines::flat::FlatObject;
+use bh_lines::{FrontLine, PortError, front_line, last_line, next_line};
 use bh_props::Settings;
 use bh_replies::{put_fault, put_reply, put_told};
 use bh_streams::{WatchedWriter, write};
@@ -112,9 +114,8 @@ impl Run {
         Ok(())
     }
 
-    /// Answers the line in front, behind what is to be written, and says whether one had ended. The buffer then begins behind
-    /// it.
-    #[inline(always)]
+    /// Answers the plain lines in front and the line behind them, behind what is to be written, and says whether that had
+    /// ended. The buffer then begins behind the last of them.
     fn answer_next(
         &mut self,
         settings: &Settings,
@@ -130,16 +131,56 @@ impl Run {
         ensures stopped { IfErr result (λ e. (before : Course) (more : List ℕ) → GroupsShow (settings_view settings.now) self.old.groups before →
             ScriptOutcome (Some self.old.out.items) (Some self.new.out.items) (settings_view settings.now) before (cut (buffer.old.items ++ more)) (Err e)) }
     {
-        let Some(line) = front_line(buffer.as_slice()) else {
-            return self.answer_cut(settings, places, buffer);
-        };
-        self.answer_line(settings, places, line.text)?;
-        let taken = line.taken;
-        buffer.advance(taken);
-        Ok(true)
+        self.answer_front(settings, places, buffer)?;
+        self.answer_cut(settings, places, buffer)
     }
 
-    /// The same where no plain line stands in front.
+    /// Answers the plain lines in front, behind what is to be written. The buffer then begins behind them; where memory is
+    /// refused for an answer, it stays as it is.
+    fn answer_front(
+        &mut self,
+        settings: &Settings,
+        places: &CommandPlaces,
+        buffer: &mut BytesMut,
+    ) -> Result<(), AllocError>
+        requires { AreCommandPlaces (settings_view settings.now).commands places.now }
+        ensures answered { OnOk result ((before : Course) → GroupsShow (settings_view settings.now) self.old.groups before →
+            ScriptAnswered (Some self.old.out.items) (Some self.new.out.items) (settings_view settings.now) before self.new.groups buffer.old.items buffer.new.items) }
+        ensures no_longer { length buffer.new.items ≤ length buffer.old.items }
+        ensures stopped { OnErr result ((before : Course) (more : List ℕ) → GroupsShow (settings_view settings.now) self.old.groups before →
+            ScriptOutcome (Some self.old.out.items) (Some self.new.out.items) (settings_view settings.now) before (cut (buffer.old.items ++ more)) (Err PortError.Memory)) }
+    {
+        let mut object = FlatObject::new();
+        let taken = self.answer_plain_lines(settings, places, &mut object, buffer.as_slice())?;
+        buffer.advance(taken);
+        Ok(())
+    }
+
+    /// Answers the plain lines that the bytes begin with, each by the same object, and says how many bytes they take.
+    fn answer_plain_lines<'a>(
+        &mut self,
+        settings: &Settings,
+        places: &CommandPlaces,
+        object: &mut FlatObject<'a>,
+        bytes: &'a [u8],
+    ) -> Result<usize, AllocError>
+        requires { AreCommandPlaces (settings_view settings.now).commands places.now }
+        ensures answered { IfOk result (λ taken. (before : Course) → GroupsShow (settings_view settings.now) self.old.groups before →
+            ScriptAnswered (Some self.old.out.items) (Some self.new.out.items) (settings_view settings.now) before self.new.groups bytes.now (drop taken bytes.now)) }
+        ensures within { IfOk result (λ taken. taken ≤ length bytes.now) }
+        ensures stopped { OnErr result ((before : Course) (more : List ℕ) → GroupsShow (settings_view settings.now) self.old.groups before →
+            ScriptOutcome (Some self.old.out.items) (Some self.new.out.items) (settings_view settings.now) before (cut (bytes.now ++ more)) (Err PortError.Memory)) }
+    {
+        let mut taken = 0;
+        while let Some(line) = front_line_at(bytes, taken) {
+            self.answer_plain(settings, places, object, line.text)?;
+            taken += line.taken;
+        }
+        Ok(taken)
+    }
+
+    /// Answers the line in front, which is not plain, behind what is to be written, and says whether one had ended. The buffer
+    /// then begins behind it.
     #[cold]
     #[inline(never)]
     fn answer_cut(
@@ -204,6 +245,68 @@ impl Run {
             line,
             &mut self.act,
         )?;
+        self.answer_said(settings, places, said)
+    }
+
+    /// The same of a line in front, by an object that serves for all of them. A line of which the object is not plain is
+    /// read once more, in a function of its own.
+    #[inline(always)]
+    fn answer_plain<'a>(
+        &mut self,
+        settings: &Settings,
+        places: &CommandPlaces,
+        object: &mut FlatObject<'a>,
+        line: &'a str,
+    ) -> Result<(), AllocError>
+        requires { AreCommandPlaces (settings_view settings.now).commands places.now }
+        ensures answers { OnOk result ((before : Course) → GroupsShow (settings_view settings.now) self.old.groups before →
+            AnswersLine (settings_view settings.now) before line.now self.new.groups self.old.out.items self.new.out.items) }
+        ensures kept { OnErr result (self.new.out.items ≡ self.old.out.items) }
+    {
+        match plain_act(settings, &self.groups, object, line, &mut self.act) {
+            Some(said) => self.answer_said(settings, places, said),
+            None => self.answer_other(settings, places, line),
+        }
+    }
+
+    /// The same of a line of which the object is not plain.
+    #[inline(never)]
+    fn answer_other(
+        &mut self,
+        settings: &Settings,
+        places: &CommandPlaces,
+        line: &str,
+    ) -> Result<(), AllocError>
+        requires { AreCommandPlaces (settings_view settings.now).commands places.now }
+        ensures answers { OnOk result ((before : Course) → GroupsShow (settings_view settings.now) self.old.groups before →
+            AnswersLine (settings_view settings.now) before line.now self.new.groups self.old.out.items self.new.out.items) }
+        ensures kept { OnErr result (self.new.out.items ≡ self.old.out.items) }
+    {
+        let said = other_act(
+            self.alloc,
+            settings,
+            &self.groups,
+            &mut self.scratch,
+            line,
+            &mut self.act,
+        )?;
+        self.answer_said(settings, places, said)
+    }
+
+    /// Answers a line of which it is said what it asks for, or its fault, behind what is to be written.
+    fn answer_said(
+        &mut self,
+        settings: &Settings,
+        places: &CommandPlaces,
+        said: Result<(), Fault>,
+    ) -> Result<(), AllocError>
+        requires act { OnOk said (IsActOf (settings_view settings.now) self.old.groups.entries self.old.act) }
+        requires places { AreCommandPlaces (settings_view settings.now).commands places.now }
+        ensures answers { OnOk result ((before : Course) (bytes : List ℕ) → GroupsShow (settings_view settings.now) self.old.groups before →
+            IsSaid (settings_view settings.now) self.old.groups.entries bytes self.old.act said →
+            AnswersLine (settings_view settings.now) before bytes self.new.groups self.old.out.items self.new.out.items) }
+        ensures kept { OnErr result (self.new.out.items ≡ self.old.out.items) }
+    {
         match said {
             Ok(()) => self.answer_act(settings, places),
             Err(fault) => self.answer_fault(fault),
@@ -270,4 +373,13 @@ impl Run {
     {
         put_fault(self.alloc, &mut self.out, fault)
     }
+}
+
+/// The plain line in front of what stands behind so many bytes.
+#[inline(always)]
+fn front_line_at(bytes: &[u8], place: usize) -> Option<FrontLine<'_>>
+    requires { place ≤ length bytes.now }
+    ensures { IsFront (drop place bytes.now) result }
+{
+    front_line(&bytes[place..])
 }

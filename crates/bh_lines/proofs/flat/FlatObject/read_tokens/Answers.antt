@@ -3,7 +3,7 @@ use Rattle.json.specs.Token.{Token}
 use Rattle.json.specs.Lex.{tokens}
 use Rattle.bh_lines.specs.Flat.{ReadsMembers}
 use Rattle.bh_lines.proofs.FlatReading.{read_flat}
-use Rattle.bh_lines.proofs.flat.FlatObject.read.Goals as goal
+use Rattle.bh_lines.proofs.flat.FlatObject.read_tokens.Goals as goal
 
 pub returns-in-None-clause-value : goal.returns-in-None-clause-value
 returns-in-None-clause-value c there =
