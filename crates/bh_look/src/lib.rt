@@ -3,7 +3,7 @@
 
 pub mod kind;
 pub mod lane;
-mod making;
+pub mod making;
 pub mod rows;
 pub mod summary;
 pub mod table;

@@ -35,7 +35,7 @@ pub fn rows(alloc: Global, settings: &Settings, watch: &Watch) -> Result<Vec<Row
 
 /// The names of the further commands by the places of their groups in the settings, and within a group by their numbers,
 /// from 1.
-fn further_names(alloc: Global, settings: &Settings) -> Result<Vec<Vec<Text<32>>>, AllocError> {
+pub fn further_names(alloc: Global, settings: &Settings) -> Result<Vec<Vec<Text<32>>>, AllocError> {
     let mut names = Vec::with_capacity(alloc, settings.groups.len())?;
     for (name, props) in settings.groups.iter() {
         let mut own = Vec::with_capacity(alloc, props.commands.len())?;

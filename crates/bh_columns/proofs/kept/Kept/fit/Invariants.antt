@@ -1,0 +1,12 @@
+use Rattle.std.proofs.Common.{◌≡◌, ℕ}
+use Rattle.bh_columns.specs.Filled.{AreFilled, AreFills, Fills, SamePanel}
+use Rattle.bh_columns.specs.Panels.{EachAt}
+use Rattle.bh_columns.proofs.kept.Kept.fit.Given as goal
+
+abbrev pub invariant-loop : goal.invariant-loop
+invariant-loop l = record {
+  filled : (fs : Fills) → AreFills fs → AreFilled l.fn.self.panels.items l.fn.self.grid.width fs → AreFilled l.self.panels.items l.self.grid.width fs;
+  panels : EachAt l.fn.self.panels.items l.self.panels.items (λ place panel next. SamePanel panel next);
+  places : l.self.places ≡ l.fn.self.places;
+  selection : l.self.selection ≡ l.fn.self.selection;
+}

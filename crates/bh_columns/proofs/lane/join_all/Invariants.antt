@@ -1,0 +1,11 @@
+use Rattle.std.proofs.Common.{◌≡◌, ◌<◌, ◌≤◌, ℕ, Some, length}
+use Rattle.std.specs.Prelude.{slice_get}
+use Rattle.bh_columns.specs.Panels.{IsJoinedLane}
+use Rattle.bh_columns.specs.declared.lane.KeptLane.{KeptLane}
+use Rattle.bh_columns.proofs.lane.join_all.Given as goal
+
+abbrev pub invariant-loop-place : goal.invariant-loop-place
+invariant-loop-place l = record {
+  done : (k : ℕ) (lane : KeptLane) → k < l.place → slice_get l.initial.lanes k ≡ Some lane → (x : KeptLane) × (slice_get l.lanes k ≡ Some x) × IsJoinedLane lane x;
+  rest : (k : ℕ) → l.place ≤ k → slice_get l.lanes k ≡ slice_get l.initial.lanes k;
+}

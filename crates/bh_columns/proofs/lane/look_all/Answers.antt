@@ -1,0 +1,31 @@
+use Rattle.std.proofs.Common.{◌≡◌, ◌<◌, ◌+◌, ◌≤◌, ℕ, Some, get_or, length, subst, ap, sym, ◌∙◌, arith}
+use Rattle.std.specs.Prelude.{slice_get}
+use Rattle.std.proofs.lemmas.Option.{get_or_from_slice_get, slice_get_within}
+use Rattle.bh_look.proofs.Adding.{set_other}
+use Rattle.bh_columns.specs.Panels.{HasLooked}
+use Rattle.bh_columns.specs.declared.lane.KeptLane.{KeptLane}
+use Rattle.bh_columns.proofs.Lists.{each_more}
+use Rattle.bh_columns.proofs.lane.look_all.Goals as goal
+
+pub loop-command-preserved : goal.loop-command-preserved
+loop-command-preserved c =
+    let lanes = c.loop-command.lanes in
+    let n = c.loop-command.command in
+    let next = c.look.new.self in
+    let inside : n < length c.args.lanes.now = omega (arith, c.loop-command-test.true, c.loop-command.auto.command-end, c.lane_count-command-end.ensures.within) in
+    let within : n < length lanes = omega (arith, inside, c.loop-command.auto.lanes) in
+    let mine : (lane : KeptLane) → slice_get c.args.lanes.now n ≡ Some lane → get_or lanes n c.index-lanes-command.result ≡ lane =
+    λ lane found. get_or_from_slice_get lanes n lane c.index-lanes-command.result (c.loop-command.invariant.rest n (omega arith) ∙ found) in
+    record {
+      done = λ v at fit. each_more c.args.lanes.now lanes n next (λ k lane x. HasLooked v k c.args.touched lane x) within (c.loop-command.invariant.done v at fit) (λ lane found. subst (λ (l : KeptLane). HasLooked v n c.args.touched l next) (mine lane found) (c.look.ensures v at (omega (arith, fit.count, inside))));
+      rest = λ k past. set_other lanes n k next (λ same. absurd (omega (arith, past, same))) ∙ c.loop-command.invariant.rest k (omega (arith, past));
+    }
+
+pub returns : goal.returns
+returns c = λ v at fit. record {
+  count = c.loop-command.auto.lanes;
+  each = λ k lane found.
+      let within = slice_get_within c.args.lanes.now k lane found in
+      let last = c.lane_count-command-end.ensures.all (omega (arith, fit.count, fit.few)) in
+      c.loop-command.invariant.done v at fit k lane (omega (arith, within, last, c.loop-command-test.false, c.loop-command.auto.command-end)) found;
+}

@@ -1,0 +1,17 @@
+use Rattle.std.proofs.Common.{◌≡◌, ◌<◌, ◌≤◌, ℕ, Some, length}
+use Rattle.std.specs.Prelude.{slice_get}
+use Rattle.bh_base.specs.Machine.{circuit_of}
+use Rattle.bh_base.specs.Runs.{View}
+use Rattle.bh_core.specs.CoreView.{view_at}
+use Rattle.bh_look.specs.declared.lane.Lane.{Lane}
+use Rattle.bh_columns.specs.Columns.{told_of}
+use Rattle.bh_columns.specs.Panels.{FitsLanes, HasNotedAt}
+use Rattle.bh_columns.specs.Steps.{closes}
+use Rattle.bh_columns.specs.declared.lane.KeptLane.{KeptLane}
+use Rattle.bh_columns.proofs.lane.note_all.Given as goal
+
+abbrev pub invariant-loop-command : goal.invariant-loop-command
+invariant-loop-command l = record {
+  done : (v : View) → view_at l.core l.group.0 ≡ Some v → FitsLanes v l.initial.lanes → length l.steps ≡ length l.initial.lanes → (k : ℕ) (lane : KeptLane) → k < l.command → slice_get l.initial.lanes k ≡ Some lane → (x : KeptLane) × (slice_get l.lanes k ≡ Some x) × ((step : Lane) → slice_get l.steps k ≡ Some step → HasNotedAt l.index l.moment (told_of step.tally) (closes lane.circuit (circuit_of k v.present).state) lane x);
+  rest : (k : ℕ) → l.command ≤ k → slice_get l.lanes k ≡ slice_get l.initial.lanes k;
+}

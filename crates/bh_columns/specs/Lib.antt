@@ -1,0 +1,7 @@
+pub mod Columns  -- what is kept of a command in the moments of a column
+pub mod Spans  -- what is kept of a command in the moments from one on and before another
+pub mod Tracks  -- columns side by side, by their indexes
+pub mod Steps  -- what a step did to the columns of its group's commands
+pub mod Panels  -- what is kept of the commands of a group
+pub mod Laws  -- laws of what is kept of moments
+pub mod Filled  -- what is kept of all groups, by panels and commands

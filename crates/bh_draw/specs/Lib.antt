@@ -1,0 +1,2 @@
+pub mod Bars  -- which count a bar shows
+pub mod Texts  -- how a text ends
