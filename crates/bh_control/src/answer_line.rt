@@ -120,9 +120,10 @@ fn put_call<C: Control>(
     put_answered(alloc, out, &answer)
 }
 
-/// Puts the line of the names of the groups behind what is in `out`.
+/// Puts the line of the names of the groups behind what is in `out`. It fails only for want of memory, and leaves the bytes
+/// as they were then.
 #[tactic(auto, unfolding(crate::specs::AnswerLine::groups_line))]
-fn put_groups(alloc: Global, names: &[Text<32>], out: &mut Vec<u8>) -> Result<(), AllocError>
+pub fn put_groups(alloc: Global, names: &[Text<32>], out: &mut Vec<u8>) -> Result<(), AllocError>
     ensures ok { OnOk result (out.new.items ≡ out.old.items ++ groups_line names.now) }
     ensures err { OnErr result (out.new.items ≡ out.old.items) }
 {

@@ -9,6 +9,7 @@ pub mod conversation;
 mod received;
 pub mod session;
 
+pub use answer_line::put_groups;
 pub use control::Control;
 pub use control_line::ControlLine;
 pub use conversation::Conversation;

@@ -7,8 +7,10 @@ ghost use Rattle.bh_lease.specs.Leases.{LeasesView, after, refusal};
 ghost use Rattle.bh_lender.specs.Steps.{step_at};
 ghost use Rattle.bh_lender.specs.Lender.{DoesStep, IsExpired, IsGivenBack};
 
+use crate::recorded::Recorded;
 use crate::returning::{end_each, leave_each};
 use crate::settling::settle;
+use crate::step_log::StepLog;
 use bh_base::{GroupId, Moment, Op, Reply, Serial};
 use bh_core::Core;
 use bh_lease::{Leases, Part, Refusal};
@@ -30,7 +32,7 @@ pub struct Left {
 /// between turns a Collect of each of them would be answered `Pending`.
 #[derive(Drop)]
 pub struct Lender {
-    pub(crate) core: Core,
+    pub(crate) core: Recorded,
     pub(crate) left: Vec<Left>,
 }
 
@@ -46,12 +48,12 @@ impl Model for Lender {
 }
 
 impl Lender {
-    /// The groups of a core, of which nobody has tickets.
-    pub fn new(alloc: Global, core: Core) -> Lender
+    /// The groups of a core, of which nobody has tickets. Each step is put into the log, where one is given.
+    pub fn new(alloc: Global, core: Core, log: Option<StepLog>) -> Lender
         ensures { result ≡ record { groups = core; left = [] } }
     {
         Lender {
-            core,
+            core: Recorded::new(core, log),
             left: Vec::new(alloc),
         }
     }
@@ -60,7 +62,22 @@ impl Lender {
     pub fn core(&self) -> &Core
         ensures { result.now ≡ self.now.groups }
     {
-        &self.core
+        self.core.core()
+    }
+
+    /// Exchanges the steps that were put into the log, in the order in which they were made, with those of another log, where
+    /// there is a log. No step is made.
+    pub fn swap_log(&mut self, other: &mut StepLog)
+        ensures { self.new ≡ self.old }
+    {
+        self.core.swap_log(other);
+    }
+
+    /// No further step is put into a log.
+    pub fn end_log(&mut self)
+        ensures { self.new ≡ self.old }
+    {
+        self.core.end_log();
     }
 
     /// The holders that are left, in the order in which their connections ended.

@@ -2,7 +2,10 @@
 #![tactic(auto)]
 
 pub mod lender;
+pub mod recorded;
 mod returning;
 mod settling;
+pub mod step_log;
 
 pub use lender::{Left, Lender};
+pub use step_log::StepLog;

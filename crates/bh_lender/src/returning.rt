@@ -6,12 +6,12 @@ ghost use Rattle.bh_lender.specs.Lender.{end_of, end_step, left_of};
 ghost use Rattle.bh_lender.specs.Steps.{AreSteps, Made, steps_of};
 
 use crate::lender::Left;
+use crate::recorded::Recorded;
 use bh_base::{FallbackEnd, Moment, Op, Reply, Serial, push_within};
-use bh_core::Core;
 use bh_lease::{Lease, Part};
 
 /// Ends each run, or each fallback, that the leases have: it has failed.
-pub(crate) fn end_each(core: &mut Core, leases: &[Lease], part: Part, now: Moment)
+pub(crate) fn end_each(core: &mut Recorded, leases: &[Lease], part: Part, now: Moment)
     ensures { (made : List Made) × AreSteps core.old made core.new × (steps_of made ≡ map (end_step now part) (filter (has part) leases.now)) }
 {
     let mut reply = Reply::Idle;

@@ -6,11 +6,11 @@ ghost use Rattle.bh_lender.specs.Steps.{AreSteps, Made};
 ghost use Rattle.bh_lender.specs.Settling.{AreWaiting, IsCollected, Settles, is_waiting};
 
 use crate::lender::Left;
+use crate::recorded::Recorded;
 use bh_base::{FallbackEnd, Moment, Op, Reply};
-use bh_core::Core;
 
 /// Collects for each holder that is left and need not wait, until all that are left have to wait.
-pub(crate) fn settle(core: &mut Core, left: &mut Vec<Left>, now: Moment)
+pub(crate) fn settle(core: &mut Recorded, left: &mut Vec<Left>, now: Moment)
     ensures { (chunks : List (List Made)) × Settles now core.old left.old.items chunks core.new left.new.items × AreWaiting core.new left.new.items }
 {
     while let Some(place) = first_ready(core, left.as_slice()) {
@@ -20,7 +20,7 @@ pub(crate) fn settle(core: &mut Core, left: &mut Vec<Left>, now: Moment)
 }
 
 /// The place of the first holder that need not wait.
-fn first_ready(core: &Core, left: &[Left]) -> Option<usize>
+fn first_ready(core: &Recorded, left: &[Left]) -> Option<usize>
     ensures within { IfSome result (λ place. place < length left.now) }
     ensures ready { (holder : Left) → IfSome result (λ place. is_waiting core.now (slice_index_or left.now place holder) ≡ false) }
     ensures none { IfNone result (AreWaiting core.now left.now) }
@@ -34,7 +34,7 @@ fn first_ready(core: &Core, left: &[Left]) -> Option<usize>
 }
 
 /// Collects in the place of a holder that is gone. Where it is told to run the fallback, it has none.
-fn collect(core: &mut Core, holder: &Left, now: Moment)
+fn collect(core: &mut Recorded, holder: &Left, now: Moment)
     ensures { (made : List Made) × AreSteps core.old made core.new × IsCollected now holder.now made }
 {
     let Left { group, serial } = *holder;

@@ -21,7 +21,7 @@ pub(crate) fn lender_of<R: Abort + AllocGlobal>(rt: &R, command: CommandProps) -
     let mut core = Core::new(rt.alloc(), 64);
     let told = core.register(&props_of(commands), 1_000_000);
     assert!(rt; told == Ok(GROUP), "{told:?}");
-    Lender::new(rt.alloc(), core)
+    Lender::new(rt.alloc(), core, None)
 }
 
 /// The leases of a connection that may have so many.

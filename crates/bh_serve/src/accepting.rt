@@ -8,7 +8,7 @@ use std::io;
 
 /// A failure to accept that will not pass: the listener gives no connection any more.
 #[derive(Drop)]
-pub(crate) struct AcceptFault {
+pub struct AcceptFault {
     pub(crate) error: io::Error,
     ghost lasts: { passes (raw_os_error error) ≡ false },
 }

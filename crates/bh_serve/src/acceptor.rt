@@ -1,10 +1,11 @@
 //! The acceptor of a service: it accepts connections, and knows which are open.
 
 use crate::accepting::{AcceptFault, if_passing};
+use crate::door::Door;
 use crate::ending::{Due, Ending};
 use crate::serve::ServeError;
 use std::alloc::{AllocError, Global};
-use std::net::{Net, OpenListener, Shutdown, SocketAddr, TcpStream};
+use std::net::{Net, OpenListener, Shutdown, TcpStream};
 use std::rt::Clock;
 use std::sync::{Arc, Condvar, Mutex, MutexGuard, Wait};
 use std::thread;
@@ -104,19 +105,19 @@ impl Acceptor {
         })
     }
 
-    /// Tells the service to stop, and returns once it accepts nothing more. The address is its listener's: a thread
-    /// that waits for a connection there is woken by one.
+    /// Tells the service to stop, and returns once it accepts nothing more. The door is its listener's: a thread that waits
+    /// for a connection there is woken by one.
     ///
     /// Calls that wait are answered as stopped. What a connection had sent is answered, and then it is closed; one
     /// that has not ended within a second is cut off. So it is too where a fault has ended the service before.
-    pub fn tell<R: Net + Wait + Clock>(&self, rt: &R, address: SocketAddr) {
+    pub fn tell<R: Net + Wait + Clock>(&self, rt: &R, door: &Door) {
         self.inside.lock(rt).ending.tell();
         self.changed.notify_all();
         for _ in rt.forever() {
             if !self.inside.lock(rt).accepting {
                 break;
             }
-            let _ = TcpStream::connect_timeout(rt, &address, Duration::from_millis(RETRY));
+            door.knock(rt);
             thread::sleep(rt, Duration::from_millis(RETRY));
         }
     }
@@ -127,12 +128,12 @@ impl Acceptor {
     }
 
     /// How many connections may be open at a time.
-    pub(crate) fn threads(&self) -> u32 {
+    pub fn threads(&self) -> u32 {
         self.threads
     }
 
     /// How long a connection may neither send nor read, in microseconds, where there is a limit.
-    pub(crate) fn idle(&self) -> Option<u64> {
+    pub fn idle(&self) -> Option<u64> {
         if self.idle_seconds == 0 {
             return None;
         }
@@ -140,19 +141,19 @@ impl Acceptor {
     }
 
     /// Lets nobody accept a connection as long as the guard is kept.
-    pub(crate) fn hold<R: Wait>(&self, rt: &R) -> MutexGuard<'_, ()> {
+    pub fn hold<R: Wait>(&self, rt: &R) -> MutexGuard<'_, ()> {
         self.turn.lock(rt)
     }
 
     /// Ends the service by a fault, unless it has been ended.
-    pub(crate) fn fail<R: Wait>(&self, rt: &R, error: ServeError) {
+    pub fn fail<R: Wait>(&self, rt: &R, error: ServeError) {
         self.inside.lock(rt).ending.fail(error);
         self.changed.notify_all();
     }
 
     /// Waits for what is to be done next because the service ends, where so much of its ending has been seen to. None once
     /// the threads of all connections have ended and nothing is to be done.
-    pub(crate) fn next_due<R: Wait>(&self, rt: &R, seen: &Ending) -> Option<Due> {
+    pub fn next_due<R: Wait>(&self, rt: &R, seen: &Ending) -> Option<Due> {
         let inside = self
             .changed
             .wait_while(rt, self.inside.lock(rt), |inside| !inside.has_news(seen));
@@ -160,13 +161,13 @@ impl Acceptor {
     }
 
     /// One more thread for connections is about to be started.
-    pub(crate) fn thread_begins<R: Wait>(&self, rt: &R) {
+    pub fn thread_begins<R: Wait>(&self, rt: &R) {
         let mut inside = self.inside.lock(rt);
         inside.running = inside.running.saturating_add(1);
     }
 
     /// A thread for connections has ended, or was not started.
-    pub(crate) fn thread_ends<R: Wait>(&self, rt: &R) {
+    pub fn thread_ends<R: Wait>(&self, rt: &R) {
         let mut inside = self.inside.lock(rt);
         inside.running = inside.running.saturating_sub(1);
         self.changed.notify_all();
@@ -175,7 +176,7 @@ impl Acceptor {
     /// Waits for the next connection, in turn. None where none is let in any more.
     ///
     /// A failure to accept that passes by itself is waited out, and another one is the error.
-    pub(crate) fn let_in<R: Wait + Clock, L: OpenListener<Stream = TcpStream>>(
+    pub fn let_in<R: Wait + Clock, L: OpenListener<Stream = TcpStream>>(
         &self,
         rt: &R,
         listener: &L,
@@ -229,7 +230,7 @@ impl Acceptor {
     }
 
     /// Notes the connection of a thread. False where the service was told to stop.
-    pub(crate) fn enter<R: Wait>(
+    pub fn enter<R: Wait>(
         &self,
         rt: &R,
         number: usize,
@@ -248,7 +249,7 @@ impl Acceptor {
     }
 
     /// The thread has no connection any more.
-    pub(crate) fn leave<R: Wait>(&self, rt: &R, number: usize) {
+    pub fn leave<R: Wait>(&self, rt: &R, number: usize) {
         let mut inside = self.inside.lock(rt);
         let inside = &mut *inside;
         if let Some(place) = inside.open.get_mut(number) {
@@ -258,7 +259,7 @@ impl Acceptor {
 
     /// Closes the connections of a service that was told to stop: no more is read of them, and those that have not
     /// ended a while later are cut off.
-    pub(crate) fn close<R: Wait + Clock>(&self, rt: &R) {
+    pub fn close<R: Wait + Clock>(&self, rt: &R) {
         self.shut(rt, Shutdown::Read);
         self.wait_until_left(rt);
         self.shut(rt, Shutdown::Both);

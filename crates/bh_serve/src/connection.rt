@@ -36,7 +36,7 @@ pub enum ConnectionFault {
 }
 
 /// How a connection ended whose conversation ended so: by the fault that a read or a write noted, where one did.
-pub(crate) fn end_of(
+pub fn end_of(
     outcome: Result<(), PortError>,
     noted: Option<ConnectionFault>,
 ) -> Result<(), ConnectionFault>
@@ -68,7 +68,7 @@ fn fault_of_wait(in_vain: bool, told: bool) -> Option<ConnectionFault>
 /// What a client sends. A read waits as long as the clock of the connection leaves, and notes why it ended where it waited in
 /// vain.
 #[derive(Drop)]
-pub(crate) struct Incoming<'e, R> {
+pub struct Incoming<'e, R> {
     rt: &'e R,
     stream: &'e TcpStream,
     acceptor: &'e Acceptor,
@@ -78,7 +78,7 @@ pub(crate) struct Incoming<'e, R> {
 
 impl<'e, R: Wait + Clock> Incoming<'e, R> {
     /// What comes over a connection of the acceptor that does not wait, of which nothing was read yet.
-    pub(crate) fn new(rt: &'e R, stream: &'e TcpStream, acceptor: &'e Acceptor) -> Incoming<'e, R> {
+    pub fn new(rt: &'e R, stream: &'e TcpStream, acceptor: &'e Acceptor) -> Incoming<'e, R> {
         Incoming {
             rt,
             stream,
@@ -89,8 +89,19 @@ impl<'e, R: Wait + Clock> Incoming<'e, R> {
     }
 
     /// Why a read waited in vain, where one did.
-    pub(crate) fn fault(&self) -> Option<ConnectionFault> {
+    pub fn fault(&self) -> Option<ConnectionFault> {
         self.fault
+    }
+
+    /// Reads what has come, without a wait; None where nothing has.
+    pub fn read_now(&mut self, buf: &mut [u8]) -> Option<io::Result<usize>>
+        ensures { IfSome result (λ outcome. ReadsAtMost outcome buf.new) }
+    {
+        let mut stream = self.stream;
+        match stream.read(buf) {
+            Err(error) if error.kind() == ErrorKind::WouldBlock => None,
+            outcome => Some(self.note_at_once(outcome, buf)),
+        }
     }
 
     /// Reads once something has come, and notes how long that took.
@@ -175,7 +186,7 @@ impl<R: Wait + Clock> Read for Incoming<'_, R> {
 /// What is sent to a client. A write that finds no room waits for it as long as the stream lets it, and notes what that tells
 /// of the client.
 #[derive(Drop)]
-pub(crate) struct Outgoing<'e, R> {
+pub struct Outgoing<'e, R> {
     rt: &'e R,
     stream: &'e TcpStream,
     acceptor: &'e Acceptor,
@@ -184,7 +195,7 @@ pub(crate) struct Outgoing<'e, R> {
 
 impl<'e, R: Wait> Outgoing<'e, R> {
     /// What goes over a connection of the acceptor that does not wait, of which nothing was written yet.
-    pub(crate) fn new(rt: &'e R, stream: &'e TcpStream, acceptor: &'e Acceptor) -> Outgoing<'e, R> {
+    pub fn new(rt: &'e R, stream: &'e TcpStream, acceptor: &'e Acceptor) -> Outgoing<'e, R> {
         Outgoing {
             rt,
             stream,
@@ -194,7 +205,7 @@ impl<'e, R: Wait> Outgoing<'e, R> {
     }
 
     /// What a write that had to wait told of the client, where one did.
-    pub(crate) fn fault(&self) -> Option<ConnectionFault> {
+    pub fn fault(&self) -> Option<ConnectionFault> {
         self.fault
     }
 

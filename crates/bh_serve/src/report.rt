@@ -6,9 +6,11 @@ ghost use Rattle.bh_serve.specs.Reports.{put, taken, rest_after, with_more, in_a
 use crate::connection::ConnectionFault;
 use crate::serve::ServeError;
 use arrayvec::ArrayVec;
+use std::alloc::AllocError;
 use std::fmt;
 use std::fmt::{Display, Formatter, Write};
 use std::marker::Model;
+use thiserror::Error;
 
 /// So many texts at most wait to be written.
 pub const MOST_WAITING: usize = 64;
@@ -22,8 +24,30 @@ pub enum Report {
     Service(ServeError),
     /// A fault of one connection.
     Connection(ConnectionFault),
+    /// A record ends before the service does.
+    Record(RecordEnd),
     /// So many texts found no room.
     More(u64),
+}
+
+/// Why a record ends before the service that it is of does.
+#[derive(Clone, Copy, Debug, PartialEq, Eq, Error)]
+pub enum RecordEnd {
+    /// Too many steps wait to be written.
+    #[error("record: it ends here, since its file is slower than the service")]
+    Full,
+    /// It could not be written.
+    #[error("record: it ends here, since its file cannot be written")]
+    Write,
+    /// Memory was refused.
+    #[error("record: it ends here, since memory was refused")]
+    Memory,
+}
+
+impl From<AllocError> for RecordEnd {
+    fn from(_refused: AllocError) -> RecordEnd {
+        RecordEnd::Memory
+    }
 }
 
 impl Default for Report {
@@ -38,6 +62,7 @@ impl Display for Report {
             Report::Threads(count) => write!(f, "threads: {count}"),
             Report::Service(error) => write!(f, "{error}"),
             Report::Connection(fault) => write!(f, "{fault}"),
+            Report::Record(end) => write!(f, "{end}"),
             Report::More(count) => write!(f, "fault: {count} more"),
         }
     }

@@ -47,7 +47,7 @@ impl Reports {
     }
 
     /// Puts a text behind the others, or counts it where too many wait.
-    pub(crate) fn put<R: Wait>(&self, rt: &R, report: Report) {
+    pub fn put<R: Wait>(&self, rt: &R, report: Report) {
         let mut inside = self.inside.lock(rt);
         inside.queue.put(report);
         self.changed.notify_all();

@@ -4,6 +4,7 @@ ghost use Rattle.std.specs.Prelude.{◌≡◌, ◌⊎◌, IfOk, false};
 
 use crate::acceptor::{Acceptor, Limits};
 use crate::clock::MachineClock;
+use crate::door::Door;
 use crate::echo::Echo;
 use crate::ending::Ending;
 use crate::names::GroupNames;
@@ -94,27 +95,41 @@ fn serve_quietly<R: Threads + Wait + Clock + Sync>(
 ) -> u8
     ensures { (result ≡ 0) ⊎ (result ≡ 3) }
 {
-    let status = match Acceptor::new(alloc, limits) {
-        Ok(acceptor) => serve_through(
+    let status = match open_acceptor(alloc, limits, listener) {
+        Ok((acceptor, door)) => serve_through(
             rt,
             alloc,
             &acceptor,
             listener,
+            &door,
             settings,
             &mut io::sink(),
             reports,
         ),
-        Err(_) => refuse(rt, ServeError::Memory, reports),
+        Err(error) => refuse(rt, error, reports),
     };
     reports.close(rt);
     status
+}
+
+/// The acceptor of a service on the listener, and its door.
+fn open_acceptor(
+    alloc: Global,
+    limits: Limits,
+    listener: &TcpListener,
+) -> Result<(Acceptor, Door), ServeError> {
+    let acceptor = Acceptor::new(alloc, limits)?;
+    match listener.local_addr() {
+        Ok(address) => Ok((acceptor, Door::Port(address.port()))),
+        Err(_) => Err(ServeError::Network),
+    }
 }
 
 /// Serves the connections that the acceptor lets in, with the groups of the settings, all new, over the echo dependency,
 /// and answers the exit status. It returns once all its threads have ended.
 ///
 /// Workers, timer and a thread for each connection that may be open at a time are started first; where they are more
-/// than a thousand, a text says how many. Then the line `listening` with the listener's port goes to `output`, and
+/// than a thousand, a text says how many. Then the line `listening` with the listener's door goes to `output`, and
 /// connections are accepted. Each has a conversation of its own, and moments are milliseconds since the call. A fault of
 /// one connection, a `ConnectionFault`, ends that connection alone and is a text. Whoever calls has another thread write
 /// the texts (`Reports::write_to`); the service never waits for that.
@@ -133,13 +148,16 @@ pub fn serve_through<
     alloc: Global,
     acceptor: &Acceptor,
     listener: &L,
+    door: &Door,
     settings: &Settings,
     output: &mut O,
     reports: &Reports,
 ) -> u8
     ensures { (result ≡ 0) ⊎ (result ≡ 3) }
 {
-    match serve(rt, alloc, acceptor, listener, settings, output, reports) {
+    match serve(
+        rt, alloc, acceptor, listener, door, settings, output, reports,
+    ) {
         Ok(ending) => ending.status(),
         Err(AllocError) => refuse(rt, ServeError::Memory, reports),
     }
@@ -161,6 +179,7 @@ fn serve<R: Threads + Wait + Clock + Sync, L: OpenListener<Stream = TcpStream> +
     alloc: Global,
     acceptor: &Acceptor,
     listener: &L,
+    door: &Door,
     settings: &Settings,
     output: &mut O,
     reports: &Reports,
@@ -178,6 +197,7 @@ fn serve<R: Threads + Wait + Clock + Sync, L: OpenListener<Stream = TcpStream> +
         clock: &clock,
         acceptor,
         listener,
+        door,
         reports,
     };
     Ok(server.run(output))

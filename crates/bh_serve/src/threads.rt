@@ -4,6 +4,7 @@ use crate::acceptor::Acceptor;
 use crate::clock::{MachineClock, Ticks};
 use crate::connection::{ConnectionFault, Incoming, Outgoing, end_of};
 use crate::control::ServiceControl;
+use crate::door::Door;
 use crate::echo::Echo;
 use crate::ending::{Due, Ending};
 use crate::names::GroupNames;
@@ -42,6 +43,7 @@ pub struct Server<'e, R, L> {
     pub clock: &'e MachineClock<'e, R>,
     pub acceptor: &'e Acceptor,
     pub listener: &'e L,
+    pub door: &'e Door,
     pub reports: &'e Reports,
 }
 
@@ -248,11 +250,8 @@ impl<'e, R: Threads + Wait + Clock + Sync, L: OpenListener<Stream = TcpStream> +
 
     /// Writes the line that says that connections are accepted.
     fn announce<O: Write>(&self, output: &mut O) -> Result<(), ServeError> {
-        let Ok(address) = self.listener.local_addr() else {
-            return Err(ServeError::Network);
-        };
-        let port = address.port();
-        match writeln!(output, "listening {port}") {
+        let door = self.door;
+        match writeln!(output, "listening {door}") {
             Ok(()) => Ok(()),
             Err(_) => Err(ServeError::Write),
         }

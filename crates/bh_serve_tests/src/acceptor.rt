@@ -5,7 +5,7 @@ use crate::talks::{
 };
 use bh_commands::watch;
 use bh_props::{Settings, settings_in};
-use bh_serve::{Acceptor, Limits, Reports, serve_through};
+use bh_serve::{Acceptor, Door, Limits, Reports, serve_through};
 use std::io::{ErrorKind, Write};
 use std::net::{Net, OpenListener, SocketAddr, TcpListener, TcpStream};
 use std::os::fd::OwnedFd;
@@ -198,7 +198,12 @@ impl<R: Net<Listener = TcpListener, Stream = TcpStream> + Wait + Clock + Abort +
     /// Standard input ends.
     fn end_input(&self) {
         let mut input: &[u8] = b"what stands on standard input does not matter";
-        watch(self.rt, &mut input, self.acceptor, self.address);
+        watch(
+            self.rt,
+            &mut input,
+            self.acceptor,
+            &Door::Port(self.address.port()),
+        );
     }
 
     /// More connections than may be open at a time, and one that is open when standard input ends.
@@ -235,11 +240,16 @@ pub(crate) fn serve_and_close<
     output: &mut O,
     reports: &Reports,
 ) -> u8 {
+    let port = match listener.local_addr() {
+        Ok(address) => address.port(),
+        Err(_) => 0,
+    };
     let status = serve_through(
         rt,
         rt.alloc(),
         acceptor,
         listener,
+        &Door::Port(port),
         settings,
         output,
         reports,

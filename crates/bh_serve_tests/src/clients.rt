@@ -5,7 +5,7 @@ use crate::talks::{
     assert_bytes, assert_call, assert_end, assert_heard, assert_silent, connect, hear, listen, say,
 };
 use bh_props::settings_in;
-use bh_serve::{Acceptor, Limits, Reports};
+use bh_serve::{Acceptor, Door, Limits, Reports};
 use std::io::Write;
 use std::net::{Net, TcpListener, TcpStream};
 use std::process::Abort;
@@ -136,7 +136,8 @@ impl<R: Net<Listener = TcpListener, Stream = TcpStream> + Wait + Clock + Abort +
     fn stop_beside(&self, stream: &TcpStream) {
         let mut byte = [0u8; 1];
         assert_eq!(self.rt; stream.peek(&mut byte).expect(self.rt, "an answer"), 1);
-        self.acceptor.tell(self.rt, self.address);
+        self.acceptor
+            .tell(self.rt, &Door::Port(self.address.port()));
     }
 
     /// Another connection makes calls.
@@ -233,7 +234,8 @@ impl<R: Net<Listener = TcpListener, Stream = TcpStream> + Wait + Clock + Abort +
         drop(first);
         let groups = "{\"groups\":[\"a\"],\"reply\":\"groups\"}\n";
         assert_heard(self.rt, &late, groups, "the next one");
-        self.acceptor.tell(self.rt, self.address);
+        self.acceptor
+            .tell(self.rt, &Door::Port(self.address.port()));
         assert_heard(self.rt, &late, "", "the end");
     }
 
@@ -247,7 +249,8 @@ impl<R: Net<Listener = TcpListener, Stream = TcpStream> + Wait + Clock + Abort +
                 break;
             }
         }
-        self.acceptor.tell(self.rt, self.address);
+        self.acceptor
+            .tell(self.rt, &Door::Port(self.address.port()));
     }
 
     /// Two calls wait, of which one runs, when the service is told to stop.
@@ -260,7 +263,8 @@ impl<R: Net<Listener = TcpListener, Stream = TcpStream> + Wait + Clock + Abort +
             b"{\"op\":\"call\",\"group\":\"a\",\"arg\":\"hi\"}\n",
         );
         self.await_metrics(&other, "\"queued\":1,");
-        self.acceptor.tell(self.rt, self.address);
+        self.acceptor
+            .tell(self.rt, &Door::Port(self.address.port()));
         for stream in [running, &queued] {
             assert_heard(
                 self.rt,

@@ -5,7 +5,7 @@ use crate::talks::{
     THREE_GROUPS, assert_bytes, assert_call, assert_end, assert_heard, connect, listen, say,
 };
 use bh_props::{Settings, settings_in};
-use bh_serve::{Acceptor, Reports, serve_through};
+use bh_serve::{Acceptor, Door, Reports, serve_through};
 use std::io::Write;
 use std::net::{Net, SocketAddr, TcpListener, TcpStream};
 use std::process::Abort;
@@ -128,11 +128,16 @@ fn serve_held<R: Threads + Wait + Clock + AllocGlobal + Sync>(
 ) -> (u8, bool) {
     let mut output = io::sink();
     let alloc = rt.alloc();
+    let port = match listener.local_addr() {
+        Ok(address) => address.port(),
+        Err(_) => 0,
+    };
     let status = serve_through(
         rt,
         alloc,
         acceptor,
         listener,
+        &Door::Port(port),
         settings,
         &mut output,
         reports,
@@ -147,7 +152,7 @@ fn visit_held<
     R: Net<Listener = TcpListener, Stream = TcpStream> + Wait + Clock + Abort + AllocGlobal,
 >(rt: &R, address: SocketAddr, acceptor: &Acceptor, gate: &Gate, end: &End) {
     fail_often(rt, address, gate);
-    acceptor.tell(rt, address);
+    acceptor.tell(rt, &Door::Port(address.port()));
     end.await_in_time(rt);
     gate.open(rt);
 }

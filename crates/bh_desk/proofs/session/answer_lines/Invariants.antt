@@ -1,0 +1,17 @@
+use Rattle.std.proofs.Common.{◌≡◌, List, ℕ, ◌++◌, length}
+use Rattle.bh_lines.specs.Lines.{cut}
+use Rattle.bh_streams.specs.Watched.{writer_of, bytes_held, NoneRefused}
+use Rattle.bh_desk.specs.Answers.{responder}
+use Rattle.bh_desk.specs.Session.{HoldsUpTo}
+use Rattle.bh_desk.proofs.session.answer_lines.Given as goal
+
+abbrev pub invariant-loop-asked : goal.invariant-loop-asked
+invariant-loop-asked g l = record {
+  same_writer : (writer_of l.writer).ghost_name ≡ (writer_of l.fn.writer).ghost_name;
+  none_refused : NoneRefused l.fn.writer l.writer;
+  holds : HoldsUpTo (responder (g.N.Directory.names l.directory) g.D.Desk.may) l.fn.desk l.desk
+      (bytes_held g.W.Write.contents l.fn.writer) (bytes_held g.W.Write.contents l.writer) l.fn.received (λ (more : List ℕ). cut (l.received ++ more)) l.answers.items;
+}
+
+abbrev pub decreases-loop-asked : goal.decreases-loop-asked
+decreases-loop-asked g l = length l.received

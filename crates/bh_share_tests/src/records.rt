@@ -1,0 +1,65 @@
+//! A record is a script that is answered as the connections were.
+
+use crate::scene::{Scene, TWO_GROUPS, Visit, visit_service};
+use bh_commands::run_file;
+use std::net::{Net, TcpListener, TcpStream};
+use std::process::Abort;
+use std::rt::Clock;
+use std::str;
+use std::sync::{Mutex, Wait};
+
+/// What a client says, each line of which makes a step.
+const LINES: [&str; 8] = [
+    r#"{"op":"submit","group":"web","arg":"x \"y\" ü","context":7,"key":"k"}"#,
+    r#"{"op":"submit","group":"web","arg":"z","context":7,"key":"k"}"#,
+    r#"{"op":"fail","group":"web","ticket":1,"bad":false}"#,
+    r#"{"op":"collect","group":"web","ticket":1}"#,
+    r#"{"op":"fallback","group":"web","ticket":1,"end":"success","body":"b"}"#,
+    r#"{"op":"collect","group":"web","ticket":1}"#,
+    r#"{"op":"close","group":"web","context":7}"#,
+    r#"{"op":"metrics","group":"pool"}"#,
+];
+
+impl<
+    'e,
+    R: Net<Listener = TcpListener, Stream = TcpStream> + Wait + Clock + Abort + AllocGlobal,
+> Scene<'e, R> {
+    /// A client says all lines, and what it hears is kept.
+    pub(crate) fn record(&self) {
+        let stream = self.connect();
+        for line in LINES {
+            self.say(&stream, line);
+            self.say(&stream, "\n");
+            let answer = self.hear(&stream);
+            let mut heard = self.heard.lock(self.rt);
+            heard
+                .extend_from_slice(answer.as_str().as_bytes())
+                .expect(self.rt, "memory");
+            heard.push(b'\n').expect(self.rt, "memory");
+        }
+    }
+}
+
+#[test]
+fn a_record_is_answered_as_its_clients_were(rt: HostRuntime) {
+    let alloc = rt.alloc();
+    let heard = Mutex::new(Vec::new(alloc));
+    let record = visit_service(&rt, 256, Visit::Record, &heard);
+    let heard = heard.into_inner();
+    let (mut answers, mut errors) = (Vec::new(alloc), Vec::new(alloc));
+    let status = run_file(
+        alloc,
+        TWO_GROUPS.as_bytes(),
+        &mut record.as_slice(),
+        &mut answers,
+        &mut errors,
+    );
+    assert_eq!(&rt; status, 0);
+    assert!(&rt; answers.as_slice().starts_with(heard.as_slice()));
+    let record = str::from_utf8(record.as_slice()).expect(&rt, "a text");
+    let last = record.lines().last().expect(&rt, "a line");
+    assert!(&rt;
+        last.starts_with("{\"end\":true,\"group\":\"pool\","),
+        "{last}"
+    );
+}

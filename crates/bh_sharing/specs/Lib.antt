@@ -1,0 +1,3 @@
+pub mod Client  -- what a connection has, and what its lines may be answered
+pub mod Locked  -- what one turn does to what stands under the lock
+pub mod Shared  -- what one turn tells of groups that others change too

@@ -1,0 +1,215 @@
+//! One connection to a service that is shared: how its lines are answered, and what it gives back at its end.
+
+ghost use Rattle.std.specs.Prelude.{◌≡◌, [], IfSome, false, true};
+ghost use Rattle.bh_desk.specs.Answers.{HasAnsweredSome, responder};
+ghost use Rattle.bh_desk.specs.Session.{SessionOutcome};
+ghost use Rattle.bh_desk.specs.Turns.{IsTurn, IsWaited};
+ghost use Rattle.bh_lines.specs.Lines.{cut};
+ghost use Rattle.bh_sharing.specs.Client.{ClientView, MayTell};
+ghost use Rattle.bh_sharing.specs.Shared.{IsReturned, IsShared};
+ghost use Rattle.bh_share.specs.declared.share_line.ShareLine.TheVariants as lines;
+ghost use Rattle.bh_streams.specs.Watched.{bytes_held, bytes_left};
+
+use crate::shared::SharedGroups;
+use crate::waiters::Waiter;
+use bh_audit::Clock;
+use bh_base::{GroupId, Op};
+use bh_control::put_groups;
+use bh_desk::{Desk, Turn, converse};
+use bh_lease::Leases;
+use bh_lines::PortError;
+use bh_replies::put_error;
+use bh_share::{Directory, ShareLine};
+use bh_streams::{WatchedReader, WatchedWriter};
+use std::alloc::{AllocError, Global};
+use std::io::{Read, Write};
+use std::marker::Model;
+use std::rt;
+use std::sync::Wait;
+
+/// How long a connection that has leases sleeps before it looks whether its client is gone, in milliseconds.
+const LOOK: u64 = 5;
+
+/// The same where it has none, so that nothing waits to be given back.
+const IDLE_LOOK: u64 = 50;
+
+/// Whether a client is there.
+pub trait Presence {
+    /// Whether the client sends nothing more.
+    fn is_gone(&self) -> bool;
+}
+
+/// One connection: what it has of tickets, and the service that it asks.
+#[derive(Drop)]
+pub struct Client<'e, R, C, P, N: Directory> {
+    /// What its calls wait by.
+    pub rt: &'e R,
+    pub alloc: Global,
+    /// The groups that it asks.
+    pub shared: &'e SharedGroups,
+    /// The names of these groups and of their commands.
+    pub names: &'e N,
+    /// The clock that is read in each turn.
+    pub clock: &'e C,
+    /// Whether its client is there.
+    pub presence: &'e P,
+    /// Its number among the connections, which no other one has at the time.
+    pub number: usize,
+    /// What it has of tickets.
+    pub leases: Leases,
+}
+
+impl<'e, R, C, P, N: Directory> Model for Client<'e, R, C, P, N> {
+    ghost use Rattle.bh_sharing.specs.Client.{ClientView};
+
+    ghost Value = { ClientView };
+
+    ghost view = { λ c. record { names = N.names c.names.now; leases = c.leases } };
+}
+
+impl<'e, R: Wait + rt::Clock, C: Clock, P: Presence, N: Directory> Client<'e, R, C, P, N> {
+    /// Answers a step, or does nothing where it has to wait.
+    fn answer_step(
+        &mut self,
+        group: GroupId,
+        op: &Op,
+        wait: bool,
+        out: &mut Vec<u8>,
+    ) -> Result<Turn, AllocError>
+        ensures turn { IsShared self.old.names group op.now wait self.old.leases out.old.items result self.new.leases out.new.items }
+        ensures names { self.new.names ≡ self.old.names }
+    {
+        self.shared.answer(
+            self.rt,
+            self.names,
+            self.clock,
+            &mut self.leases,
+            group,
+            op,
+            wait,
+            out,
+        )
+    }
+
+    /// Answers a step that is not to wait.
+    fn answer_now(&mut self, group: GroupId, op: &Op, out: &mut Vec<u8>) -> Result<(), AllocError>
+        ensures { IsWaited MayTell self.old (lines.Step group op.now false) out.old.items result self.new out.new.items }
+    {
+        match self.answer_step(group, op, false, out) {
+            Ok(Turn::Answered) => Ok(()),
+            Ok(Turn::Waits) => unreachable!(),
+            Err(refused) => Err(refused),
+        }
+    }
+
+    /// Answers a step that is to wait, and is known to wait meanwhile.
+    fn answer_waiting(
+        &mut self,
+        group: GroupId,
+        op: &Op,
+        out: &mut Vec<u8>,
+    ) -> Result<(), AllocError>
+        ensures { IsWaited MayTell self.old (lines.Step group op.now true) out.old.items result self.new out.new.items }
+    {
+        let waiter = Waiter {
+            group,
+            ticket: ticket_of(op),
+            told: false,
+        };
+        self.shared.begin_wait(self.rt, self.number, waiter);
+        let answered = self.await_step(group, op, out);
+        self.shared.end_wait(self.rt, self.number, group);
+        answered
+    }
+
+    /// Answers a step once it need not wait, the service is stopped or the client is gone; of a client that is gone no step
+    /// is made.
+    fn await_step(&mut self, group: GroupId, op: &Op, out: &mut Vec<u8>) -> Result<(), AllocError>
+        ensures { IsWaited MayTell self.old (lines.Step group op.now true) out.old.items result self.new out.new.items }
+    {
+        for _ in self.rt.forever() {
+            match self.answer_step(group, op, true, out) {
+                Ok(Turn::Answered) => return Ok(()),
+                Ok(Turn::Waits) => {}
+                Err(refused) => return Err(refused),
+            }
+            let stopped = self.shared.sleep(self.rt, self.number, self.patience());
+            if !stopped && self.presence.is_gone() {
+                return put_error(self.alloc, out, "gone");
+            }
+        }
+        unreachable!()
+    }
+
+    /// How long it sleeps before it looks whether its client is gone.
+    fn patience(&self) -> u64 {
+        if self.leases.as_slice().is_empty() {
+            IDLE_LOOK
+        } else {
+            LOOK
+        }
+    }
+
+    /// Gives back all that it has.
+    fn end(&mut self)
+        ensures returned { IsReturned self.old.leases self.new.leases }
+        ensures names { self.new.names ≡ self.old.names }
+    {
+        self.shared.give_back(self.rt, self.clock, &mut self.leases);
+    }
+}
+
+impl<'e, R: Wait + rt::Clock, C: Clock, P: Presence, N: Directory> Desk for Client<'e, R, C, P, N> {
+    ghost use Rattle.bh_sharing.specs.Client.{MayTell};
+
+    ghost may = { MayTell };
+
+    fn answer(&mut self, line: &ShareLine, out: &mut Vec<u8>) -> Result<Turn, AllocError> {
+        match line {
+            ShareLine::Groups => match put_groups(self.alloc, self.names.groups(), out) {
+                Ok(()) => Ok(Turn::Answered),
+                Err(refused) => Err(refused),
+            },
+            ShareLine::Step { group, op, wait } => self.answer_step(*group, op, *wait, out),
+        }
+    }
+
+    fn answer_late(&mut self, line: &ShareLine, out: &mut Vec<u8>) -> Result<(), AllocError> {
+        match line {
+            ShareLine::Groups => put_groups(self.alloc, self.names.groups(), out),
+            ShareLine::Step { group, op, wait } => {
+                if *wait {
+                    self.answer_waiting(*group, op, out)
+                } else {
+                    self.answer_now(*group, op, out)
+                }
+            }
+        }
+    }
+}
+
+/// The ticket whose answer a step asks for.
+fn ticket_of(op: &Op) -> Option<u64> {
+    match op {
+        Op::Collect { serial } => Some(*serial),
+        _ => None,
+    }
+}
+
+/// Answers the lines of a connection to the end of its input, and gives back all that it has then, however it ended.
+///
+/// The errors are those of `converse`.
+pub fn attend<R: Wait + rt::Clock, C: Clock, P: Presence, N: Directory, I: Read, O: Write>(
+    client: Client<'_, R, C, P, N>,
+    reader: &mut WatchedReader<'_, I>,
+    writer: &mut WatchedWriter<'_, O>,
+) -> Result<(), PortError>
+    ensures returned { (had : ClientView) × HasAnsweredSome (responder client.entry.names MayTell) client.entry had × IsReturned had.leases (record had.leases { listed = [] }) }
+    ensures answers { IfSome (bytes_left I.remaining reader.old) (λ input. (had : ClientView) ×
+        SessionOutcome (responder client.entry.names MayTell) client.entry had (bytes_held O.contents writer.old) (bytes_held O.contents writer.new) (cut input) result) }
+{
+    let mut client = client;
+    let outcome = converse(client.alloc, client.names, reader, writer, &mut client);
+    client.end();
+    outcome
+}

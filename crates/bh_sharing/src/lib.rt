@@ -1,0 +1,12 @@
+//! The groups that connections share: one lock, who waits, and one connection.
+#![tactic(auto)]
+
+pub mod client;
+pub mod locked;
+pub mod shared;
+pub mod step_line;
+pub mod waiters;
+
+pub use client::{Client, Presence, attend};
+pub use shared::SharedGroups;
+pub use step_line::{put_end, put_step};
