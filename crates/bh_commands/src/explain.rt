@@ -30,3 +30,13 @@ pub fn unread_file<E: Write>(errors: &mut E, name: &str, unread: &Unread) {
 pub fn unbound_port<E: Write>(errors: &mut E, port: u16, reason: &io::Error) {
     let _ = writeln!(errors, "explain: port {port} of 127.0.0.1: {reason}");
 }
+
+/// Of a record that can't be begun: what the system says of it.
+pub fn unopened_record<E: Write>(errors: &mut E, path: &str, reason: &io::Error) {
+    let _ = writeln!(errors, "explain: record {path}: {reason}");
+}
+
+/// Of a socket that can't be made: what the system says of it.
+pub fn unbound_socket<E: Write>(errors: &mut E, path: &str, reason: &io::Error) {
+    let _ = writeln!(errors, "explain: socket {path}: {reason}");
+}

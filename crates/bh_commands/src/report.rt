@@ -6,6 +6,7 @@ ghost use Rattle.std.specs.Prelude.{◌≡◌};
 ghost use Rattle.bh_commands.specs.Status.{settings_status};
 
 use crate::file::FileError;
+use crate::socket::SocketFault;
 use bh_lines::PortError;
 use bh_props::SettingsError;
 use std::io::Write;
@@ -14,7 +15,7 @@ use std::io::Write;
 const REFUSED: u8 = 1;
 
 /// The status where a fault ended the run.
-const FAULT: u8 = 3;
+pub(crate) const FAULT: u8 = 3;
 
 /// Of settings that are refused.
 pub fn settings<E: Write>(errors: &mut E, error: SettingsError) -> u8
@@ -32,6 +33,14 @@ pub fn port<E: Write>(errors: &mut E, error: PortError) -> u8
     ensures { result ≡ 3 }
 {
     let _ = writeln!(errors, "{error}");
+    FAULT
+}
+
+/// Of a script without a group of the name.
+pub fn group<E: Write>(errors: &mut E, name: &str) -> u8
+    ensures { result ≡ 3 }
+{
+    let _ = writeln!(errors, "fault: group {name}");
     FAULT
 }
 
@@ -53,6 +62,32 @@ pub fn network<E: Write>(errors: &mut E) -> u8
     ensures { result ≡ 3 }
 {
     let _ = writeln!(errors, "fault: network");
+    FAULT
+}
+
+/// Of a socket that can't be made at the path.
+pub fn socket<E: Write>(errors: &mut E, path: &str, fault: &SocketFault) -> u8
+    ensures { result ≡ 3 }
+{
+    let _ = match fault {
+        SocketFault::LongPath => {
+            writeln!(errors, "fault: socket: the path has more than 96 bytes")
+        }
+        SocketFault::InUse => writeln!(errors, "fault: socket: a service listens at {path}"),
+        SocketFault::NoSocket => {
+            writeln!(errors, "fault: socket: what is at {path} is no socket")
+        }
+        SocketFault::Memory => writeln!(errors, "fault: memory"),
+        SocketFault::System(_) => writeln!(errors, "fault: network"),
+    };
+    FAULT
+}
+
+/// Of a record that can't be begun.
+pub fn record<E: Write>(errors: &mut E) -> u8
+    ensures { result ≡ 3 }
+{
+    let _ = writeln!(errors, "fault: record");
     FAULT
 }
 

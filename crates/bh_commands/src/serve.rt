@@ -1,14 +1,17 @@
-//! The service on a port of this machine.
+//! The services on a port of this machine, or on a socket of it.
 
 ghost use Rattle.std.specs.Prelude.{◌≡◌, ◌⊎◌, IsErr};
 ghost use Rattle.bh_props.specs.SettingsFile.{settings_in};
 
+use crate::place::{Place, PlaceListener, leave, listen};
 use crate::{explain, report};
 use bh_props::{Settings, SettingsError, settings_in};
-use bh_serve::{Acceptor, Limits, Reports, serve_through};
+use bh_serve::{Acceptor, Door, Limits, Reports, serve_through};
+use bh_share_serve::{Sharing, share_through};
 use std::alloc::{AllocError, Global};
+use std::fs::Files;
 use std::io::{Read, Write};
-use std::net::{Ipv4Addr, Net, SocketAddr, TcpListener, TcpStream};
+use std::net::{Net, TcpListener, TcpStream};
 use std::rt::Clock;
 use std::sync::{Arc, Mutex, Wait};
 use std::thread::{JoinHandle, Threads};
@@ -16,37 +19,48 @@ use std::{io, thread};
 
 /// Where a service listens, which connections it serves, and what it says of what is refused.
 #[derive(Clone, Copy)]
-pub struct Serving {
-    /// The port of 127.0.0.1.
-    pub port: u16,
+pub struct Serving<'a> {
+    /// The port or the socket.
+    pub place: Place<'a>,
     /// How many connections it serves, and for how long.
     pub limits: Limits,
-    /// Whether a second line says more where the settings are refused or the port cannot be bound.
+    /// Whether a second line says more where the settings are refused or nothing can listen there.
     pub explains: bool,
 }
 
-/// Serves connections to a port of 127.0.0.1 under the settings, as many as the limits say, and answers the exit status.
-/// Where an input is given, its end tells the service to stop, whatever went before; what it gives does not matter.
+/// What is served.
+#[derive(Drop)]
+pub enum Service<W> {
+    /// Groups over a dependency that echoes, which answer control lines.
+    Echo,
+    /// Groups whose dependencies the clients run, with a record where there is a writer for one.
+    Shared { sharing: Sharing, record: Option<W> },
+}
+
+/// Serves connections to a place under the settings, as many as the limits say, and answers the exit status. Where an input is given, its end tells the service to stop, whatever went before; what it gives does not matter.
 ///
 /// - 0: the connections were served, or the input ended.
-/// - 1: the settings are refused, and no port was bound.
-/// - 3: the port could not be bound, or a fault of the service, as `serve_through` has them.
+/// - 1: the settings are refused, and nothing listened.
+/// - 3: nothing can listen there, or a fault of the service, as `serve_through` and `share_through` have them.
 ///
 /// With 1 and 3 a line on `errors` says why. A thread of its own writes what the service says there, so that it waits for no
 /// reader, and at its end for three quarters of a second at most. Once the threads of the service stand, the line
-/// `listening` with the port's number is printed.
-pub fn serve_file<R, I, E>(
+/// `listening` with the port's number or the socket's path is printed. The socket is removed at the end.
+pub fn serve_file<R, I, E, W>(
     rt: &R,
     alloc: Global,
     settings: &[u8],
-    serving: Serving,
+    serving: Serving<'_>,
+    service: Service<W>,
     input: Option<I>,
     mut errors: E,
 ) -> u8
 where
     I: Read + Send + Drop + 'static,
     E: Write + Send + Drop + 'static,
+    W: Write + Send + Drop,
     R: Net<Listener = TcpListener, Stream = TcpStream>
+        + Files
         + Threads
         + Wait
         + Clock
@@ -60,7 +74,7 @@ where
     ensures refused { IsErr (settings_in settings.now) → (result ≡ 1) ⊎ (result ≡ 3) }
 {
     match settings_in(alloc, settings) {
-        Ok(settings) => serve_port(rt, alloc, &settings, serving, input, errors),
+        Ok(settings) => serve_place(rt, alloc, &settings, serving, service, input, errors),
         Err(error) => {
             let status = report::settings(&mut errors, error);
             if serving.explains {
@@ -71,19 +85,22 @@ where
     }
 }
 
-/// Binds the port, and serves the connections to it.
-fn serve_port<R, I, E>(
+/// Listens at the place, and serves the connections to it.
+fn serve_place<R, I, E, W>(
     rt: &R,
     alloc: Global,
     settings: &Settings,
-    serving: Serving,
+    serving: Serving<'_>,
+    service: Service<W>,
     input: Option<I>,
     mut errors: E,
 ) -> u8
 where
     I: Read + Send + Drop + 'static,
     E: Write + Send + Drop + 'static,
+    W: Write + Send + Drop,
     R: Net<Listener = TcpListener, Stream = TcpStream>
+        + Files
         + Threads
         + Wait
         + Clock
@@ -94,45 +111,76 @@ where
         + 'static,
     ensures { (result ≡ 0) ⊎ (result ≡ 3) }
 {
-    let listener = match TcpListener::bind(rt, (Ipv4Addr::LOCALHOST, serving.port)) {
-        Ok(listener) => listener,
-        Err(error) => {
-            let status = report::network(&mut errors);
-            if serving.explains {
-                explain::unbound_port(&mut errors, serving.port, &error);
-            }
-            return status;
-        }
+    let Some((listener, door)) = listen(rt, alloc, serving.place, serving.explains, &mut errors)
+    else {
+        return report::FAULT;
     };
-    let Ok(address) = listener.local_addr() else {
-        return report::network(&mut errors);
-    };
+    let status = serve_listener(
+        rt, alloc, settings, serving, service, &listener, door, input, errors,
+    );
+    leave(rt, serving.place);
+    status
+}
+
+/// Serves the connections to the listener, with a thread that waits for the end of the input.
+fn serve_listener<R, I, E, W>(
+    rt: &R,
+    alloc: Global,
+    settings: &Settings,
+    serving: Serving<'_>,
+    service: Service<W>,
+    listener: &PlaceListener,
+    door: Door,
+    input: Option<I>,
+    mut errors: E,
+) -> u8
+where
+    I: Read + Send + Drop + 'static,
+    E: Write + Send + Drop + 'static,
+    W: Write + Send + Drop,
+    R: Net<Listener = TcpListener, Stream = TcpStream>
+        + Files
+        + Threads
+        + Wait
+        + Clock
+        + Print
+        + Copy
+        + Send
+        + Sync
+        + 'static,
+    ensures { (result ≡ 0) ⊎ (result ≡ 3) }
+{
     let Ok(acceptor) = shared_acceptor(alloc, serving.limits) else {
         return report::settings(&mut errors, SettingsError::Memory);
     };
     let watcher = match input {
-        Some(input) => match start_watcher(rt, input, &acceptor, address) {
+        Some(input) => match start_watcher(rt, input, &acceptor, door) {
             Some(watcher) => Some(watcher),
             None => return report::thread(&mut errors),
         },
         None => None,
     };
-    let status = serve_reported(rt, alloc, settings, &acceptor, &listener, errors);
+    let status = serve_reported(
+        rt, alloc, settings, service, &acceptor, listener, &door, errors,
+    );
     join_if_told(rt, &acceptor, watcher);
     status
 }
 
 /// Serves the connections of the listener, with a thread that writes what is said of them.
-fn serve_reported<R, E>(
+fn serve_reported<R, E, W>(
     rt: &R,
     alloc: Global,
     settings: &Settings,
+    service: Service<W>,
     acceptor: &Acceptor,
-    listener: &TcpListener,
+    listener: &PlaceListener,
+    door: &Door,
     errors: E,
 ) -> u8
 where
     E: Write + Send + Drop + 'static,
+    W: Write + Send + Drop,
     R: Threads + Wait + Clock + Print + Copy + Send + Sync + 'static,
     ensures { (result ≡ 0) ⊎ (result ≡ 3) }
 {
@@ -150,15 +198,30 @@ where
         return report::thread(&mut *errors.lock(rt));
     };
     let mut output = io::writer(rt);
-    let status = serve_through(
-        rt,
-        alloc,
-        acceptor,
-        listener,
-        settings,
-        &mut output,
-        &reports,
-    );
+    let status = match service {
+        Service::Echo => serve_through(
+            rt,
+            alloc,
+            acceptor,
+            listener,
+            door,
+            settings,
+            &mut output,
+            &reports,
+        ),
+        Service::Shared { sharing, record } => share_through(
+            rt,
+            alloc,
+            acceptor,
+            listener,
+            door,
+            settings,
+            sharing,
+            record,
+            &mut output,
+            &reports,
+        ),
+    };
     // One that is still held up by a reader is cut off by the end of the program.
     if reports.finish(rt) {
         writer.join(rt);
@@ -192,7 +255,7 @@ fn start_watcher<R, I>(
     rt: &R,
     input: I,
     acceptor: &Arc<Acceptor, Global>,
-    address: SocketAddr,
+    door: Door,
 ) -> Option<JoinHandle<()>>
 where
     R: Net<Listener = TcpListener, Stream = TcpStream>
@@ -206,7 +269,7 @@ where
 {
     let acceptor = Arc::try_clone(acceptor).ok()?;
     let handles = *rt;
-    thread::spawn(rt, move || watch_all(&handles, input, &acceptor, address)).ok()
+    thread::spawn(rt, move || watch_all(&handles, input, &acceptor, &door)).ok()
 }
 
 /// What the watcher does with its input.
@@ -214,9 +277,9 @@ fn watch_all<R: Net + Wait + Clock, I: Read + Drop>(
     rt: &R,
     mut input: I,
     acceptor: &Acceptor,
-    address: SocketAddr,
+    door: &Door,
 ) {
-    watch(rt, &mut input, acceptor, address);
+    watch(rt, &mut input, acceptor, door);
 }
 
 /// Waits for the watcher, where standard input has ended. Where a fault ended the service, it may still wait for that
@@ -234,7 +297,7 @@ pub fn watch<R: Net + Wait + Clock, I: Read>(
     rt: &R,
     input: &mut I,
     acceptor: &Acceptor,
-    address: SocketAddr,
+    door: &Door,
 ) {
     let mut ignored = [0u8; 256];
     for _ in 0..u64::MAX {
@@ -243,5 +306,5 @@ pub fn watch<R: Net + Wait + Clock, I: Read>(
             Ok(_) => {}
         }
     }
-    acceptor.tell(rt, address);
+    acceptor.tell(rt, door);
 }

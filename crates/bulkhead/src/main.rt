@@ -5,17 +5,19 @@
 mod tests;
 
 use bh_commands::{
-    Linting, Serving, SummaryForm, Unread, check_explained, check_file, cut_file, explain,
-    lint_file, read_file, report, run_explained, run_file, serve_file, summary_file,
+    Drawing, Linting, Place, Service, Serving, SummaryForm, Unread, check_explained, check_file,
+    cut_file, draw_file, explain, lint_file, read_file, report, run_explained, run_file,
+    serve_file, summary_file,
 };
 use bh_lint::Form;
 use bh_props::SettingsError;
 use bh_serve::Limits;
+use bh_share_serve::Sharing;
 use clap::error::ErrorKind;
 use clap::{Arg, ArgAction, ArgMatches, Command};
 use std::alloc::{AllocError, Global};
 use std::env::VarError;
-use std::fs::File;
+use std::fs::{File, Files};
 use std::io::{IsTerminal, Write};
 use std::net::{Net, TcpListener, TcpStream};
 use std::process::ExitCode;
@@ -31,7 +33,15 @@ const VERSION: &str = "1.0.0\nrattle-kit-13f logic dac8208d650f15bf";
 const WHO_IS_SERVED: &str =
     "A client beyond N waits unanswered until another one leaves. Without --keep-serving and --forever nobody is served
 after the first N: who comes later, or waits still, is cut off when the last of them leaves.
-Any user of this machine may connect, call, close contexts and read metrics; nothing is authenticated.";
+To a port any user of this machine may connect, call, close contexts and read metrics; nothing is authenticated. A
+socket only its owner may open.";
+
+/// What `share --help` says beneath the options.
+const WHO_SHARES: &str =
+    "Clients run their dependencies themselves, and ask for each decision. What a client has when its connection ends is
+given back at once. A client beyond N waits unanswered until another one leaves.
+To a port any user of this machine may connect and take permits; nothing is authenticated. A socket only its owner may
+open.";
 
 /// The status where the arguments are refused.
 const BAD_ARGUMENTS: u8 = 2;
@@ -66,6 +76,7 @@ fn refuse_arguments<E: Write>(errors: &mut E, error: &io::Error) -> u8 {
 fn run_arguments<R>(rt: &HostRuntime, handles: &R, arguments: &[String]) -> Result<u8, AllocError>
 where
     R: Net<Listener = TcpListener, Stream = TcpStream>
+        + Files
         + Threads
         + Wait
         + Clock
@@ -91,6 +102,11 @@ where
             found.get_str("FILE").unwrap_or(""),
             found.get_strs("group").unwrap_or(&[]),
         )),
+        Some(("draw", found)) => Ok(draw_path(
+            rt,
+            found.get_str("FILE").unwrap_or(""),
+            drawing_in(found),
+        )),
         Some(("lint", found)) => Ok(lint_path(
             rt,
             found.get_str("FILE").unwrap_or(""),
@@ -102,8 +118,10 @@ where
             handles,
             file_in(found),
             serving_in(found),
+            Service::Echo,
             ends_with_input(found),
         )),
+        Some(("share", found)) => Ok(share_path(rt, handles, found)),
         Some(("summary", found)) => Ok(summary_path(
             rt,
             found.get_str("FILE").unwrap_or(""),
@@ -125,6 +143,16 @@ fn file_in<'a>(found: &ArgMatches<'a>) -> SettingsFile<'a> {
     SettingsFile {
         path: found.get_str("FILE").unwrap_or(""),
         explains: found.get_flag("explain"),
+    }
+}
+
+/// What the arguments of `draw` say.
+fn drawing_in<'a>(found: &'a ArgMatches<'_>) -> Drawing<'a> {
+    Drawing {
+        groups: found.get_strs("group").unwrap_or(&[]),
+        from: found.get_one::<u64>("from").unwrap_or(0),
+        to: found.get_one::<u64>("to").unwrap_or(u64::MAX),
+        columns: found.get_one::<u64>("columns").unwrap_or(80),
     }
 }
 
@@ -152,10 +180,31 @@ fn refuses_colours(rt: &HostRuntime) -> bool {
     }
 }
 
-/// What the arguments of `serve` say of its port and its connections.
-fn serving_in(found: &ArgMatches<'_>) -> Serving {
+/// What the arguments say of where a service listens.
+fn place_in<'a>(found: &ArgMatches<'a>) -> Place<'a> {
+    match found.get_str("socket") {
+        Some(path) => Place::Socket(path),
+        None => Place::Port(found.get_one::<u16>("port").unwrap_or(0)),
+    }
+}
+
+/// What the arguments of `share` say of where it listens and of its connections.
+fn sharing_in<'a>(found: &ArgMatches<'a>) -> Serving<'a> {
     Serving {
-        port: found.get_one::<u16>("port").unwrap_or(0),
+        place: place_in(found),
+        limits: Limits {
+            connections: found.get_one::<u32>("connections").unwrap_or(1),
+            keep_serving: true,
+            idle_seconds: found.get_one::<u32>("idle").unwrap_or(0),
+        },
+        explains: found.get_flag("explain"),
+    }
+}
+
+/// What the arguments of `serve` say of where it listens and of its connections.
+fn serving_in<'a>(found: &ArgMatches<'a>) -> Serving<'a> {
+    Serving {
+        place: place_in(found),
         limits: Limits {
             connections: found.get_one::<u32>("connections").unwrap_or(1),
             keep_serving: found.get_flag("keep-serving") || found.get_flag("forever"),
@@ -197,8 +246,10 @@ fn command<'a>(alloc: Global) -> Result<Command<'a>, AllocError> {
             "Answers each step on standard input, a line of JSON, by a line",
         )?)?
         .subcommand(cut_command(alloc)?)?
+        .subcommand(draw_command(alloc)?)?
         .subcommand(summary_command(alloc)?)?
-        .subcommand(serve_command(alloc)?)
+        .subcommand(serve_command(alloc)?)?
+        .subcommand(share_command(alloc)?)
 }
 
 /// The subcommand that cuts groups out of a script.
@@ -208,17 +259,63 @@ fn cut_command<'a>(alloc: Global) -> Result<Command<'a>, AllocError> {
         "cut",
         "Prints the lines of some groups of those on standard input, which run answers as among all others",
     )?
-    .arg(group(alloc))
+    .arg(group(
+        alloc,
+        "A group whose lines are kept; it may be given more than once",
+    )
+    .required(true))
 }
 
-/// Whose lines are kept.
-fn group<'a>(alloc: Global) -> Arg<'a> {
+/// A group that is meant.
+fn group<'a>(alloc: Global, help: &'a str) -> Arg<'a> {
     Arg::new(alloc, "group")
         .long("group")
         .value_name("NAME")
-        .help("A group whose lines are kept; it may be given more than once")
-        .required(true)
+        .help(help)
         .action(ArgAction::Append)
+}
+
+/// The subcommand that draws a script.
+fn draw_command<'a>(alloc: Global) -> Result<Command<'a>, AllocError> {
+    with_file(
+        alloc,
+        "draw",
+        "Prints a picture of what the lines on standard input come to, an SVG: the circuits, what callers got and why, and the pools",
+    )?
+    .arg(group(
+        alloc,
+        "A group that is drawn, in place of all; it may be given more than once",
+    ))?
+    .arg(moment(
+        alloc,
+        "from",
+        "The first moment that is drawn, in milliseconds",
+    ))?
+    .arg(moment(
+        alloc,
+        "to",
+        "The first moment that is not drawn any more, in milliseconds",
+    ))?
+    .arg(columns(alloc))
+}
+
+/// A moment that bounds what is drawn.
+fn moment<'a>(alloc: Global, name: &'a str, help: &'a str) -> Arg<'a> {
+    Arg::new(alloc, name)
+        .long(name)
+        .value_name("MS")
+        .help(help)
+        .value_parser(clap::value_parser!(u64))
+}
+
+/// How many columns a picture has.
+fn columns<'a>(alloc: Global) -> Arg<'a> {
+    Arg::new(alloc, "columns")
+        .long("columns")
+        .value_name("N")
+        .help("The most columns that time is drawn in, 2 to 200")
+        .default_value("80")
+        .value_parser(clap::value_parser!(u64).range(2..=200))
 }
 
 /// The subcommand that tells what a script came to.
@@ -269,24 +366,89 @@ fn serve_command<'a>(alloc: Global) -> Result<Command<'a>, AllocError> {
     with_explained_file(
         alloc,
         "serve",
-        "Answers control lines, lines of JSON, on connections to a port of 127.0.0.1",
+        "Answers control lines, lines of JSON, on connections to a port of 127.0.0.1 or to a socket",
     )?
     .after_help(WHO_IS_SERVED)
-    .arg(port(alloc))?
+    .arg(port(alloc)?)?
+    .arg(socket(alloc)?)?
     .arg(connections(alloc))?
     .arg(keep_serving(alloc))?
     .arg(forever(alloc)?)?
     .arg(idle(alloc))
 }
 
-/// Where it listens.
-fn port<'a>(alloc: Global) -> Arg<'a> {
+/// The subcommand that connections share.
+fn share_command<'a>(alloc: Global) -> Result<Command<'a>, AllocError> {
+    with_explained_file(
+        alloc,
+        "share",
+        "Decides for clients that run their dependencies themselves, on connections to a port of 127.0.0.1 or to a socket",
+    )?
+    .after_help(WHO_SHARES)
+    .arg(port(alloc)?)?
+    .arg(socket(alloc)?)?
+    .arg(shared_connections(alloc))?
+    .arg(tickets(alloc))?
+    .arg(record(alloc))?
+    .arg(share_forever(alloc))?
+    .arg(idle(alloc))
+}
+
+/// The port that it listens on.
+fn port<'a>(alloc: Global) -> Result<Arg<'a>, AllocError> {
     Arg::new(alloc, "port")
         .long("port")
         .value_name("P")
         .help("The port to listen on, 1 to 65535")
-        .required(true)
         .value_parser(clap::value_parser!(u16).range(1..))
+        .required_unless_present("socket")
+}
+
+/// The socket that it listens on.
+fn socket<'a>(alloc: Global) -> Result<Arg<'a>, AllocError> {
+    Arg::new(alloc, "socket")
+        .long("socket")
+        .value_name("PATH")
+        .help(
+            "The Unix socket to make and listen on, of at most 96 bytes, which its owner alone may open",
+        )
+        .conflicts_with("port")
+}
+
+/// How many connections share it at a time.
+fn shared_connections<'a>(alloc: Global) -> Arg<'a> {
+    Arg::new(alloc, "connections")
+        .long("connections")
+        .value_name("N")
+        .help("How many connections may be open at a time, 1 to 64")
+        .default_value("64")
+        .value_parser(clap::value_parser!(u32).range(1..=64))
+}
+
+/// How many tickets a connection may have.
+fn tickets<'a>(alloc: Global) -> Arg<'a> {
+    Arg::new(alloc, "tickets")
+        .long("tickets")
+        .value_name("K")
+        .help("How many tickets a connection may have at a time, 1 to 4096")
+        .default_value("256")
+        .value_parser(clap::value_parser!(u32).range(1..=4096))
+}
+
+/// Where each step is written.
+fn record<'a>(alloc: Global) -> Arg<'a> {
+    Arg::new(alloc, "record")
+        .long("record")
+        .value_name("FILE")
+        .help("Writes each step to the file, as a line that run answers")
+}
+
+/// Whether it goes on with no regard to standard input.
+fn share_forever<'a>(alloc: Global) -> Arg<'a> {
+    Arg::new(alloc, "forever")
+        .long("forever")
+        .help("Does not look at standard input, at whose end it ends otherwise")
+        .action(ArgAction::SetTrue)
 }
 
 /// How many connections it serves.
@@ -412,6 +574,26 @@ fn cut_path(rt: &HostRuntime, path: &str, names: &[&str]) -> u8 {
     }
 }
 
+/// Draws standard input under the settings of the file.
+fn draw_path(rt: &HostRuntime, path: &str, drawing: Drawing<'_>) -> u8 {
+    let mut errors = rt.stderr();
+    if drawing.from >= drawing.to {
+        let _ = writeln!(errors, "error: --to has to be a moment behind --from");
+        return BAD_ARGUMENTS;
+    }
+    match read_path(rt, path) {
+        Ok(settings) => draw_file(
+            rt.alloc(),
+            settings.as_slice(),
+            drawing,
+            &mut rt.reader(),
+            &mut io::writer(rt),
+            &mut errors,
+        ),
+        Err(unread) => report::unreadable(&mut errors, unread.error),
+    }
+}
+
 /// Tells what standard input comes to under the settings of the file.
 fn summary_path(rt: &HostRuntime, path: &str, form: SummaryForm) -> u8 {
     let mut errors = rt.stderr();
@@ -428,16 +610,18 @@ fn summary_path(rt: &HostRuntime, path: &str, form: SummaryForm) -> u8 {
     }
 }
 
-/// Serves connections to the port under the settings of the file.
+/// Serves connections to a port or a socket under the settings of the file.
 fn serve_path<R>(
     rt: &HostRuntime,
     handles: &R,
     file: SettingsFile<'_>,
-    serving: Serving,
+    serving: Serving<'_>,
+    service: Service<File>,
     ends_with_input: bool,
 ) -> u8
 where
     R: Net<Listener = TcpListener, Stream = TcpStream>
+        + Files
         + Threads
         + Wait
         + Clock
@@ -453,11 +637,61 @@ where
             rt.alloc(),
             settings.as_slice(),
             serving,
+            service,
             ends_with_input.then(|| rt.reader()),
             rt.stderr(),
         ),
         Err(unread) => refuse_file(&mut rt.stderr(), file, &unread),
     }
+}
+
+/// Serves connections that share the groups of the settings, with a record where the arguments say one.
+fn share_path<R>(rt: &HostRuntime, handles: &R, found: &ArgMatches<'_>) -> u8
+where
+    R: Net<Listener = TcpListener, Stream = TcpStream>
+        + Files
+        + Threads
+        + Wait
+        + Clock
+        + Print
+        + Copy
+        + Send
+        + Sync
+        + 'static,
+{
+    let file = file_in(found);
+    let record = match found.get_str("record") {
+        Some(path) => match File::create(rt, path) {
+            Ok(record) => Some(record),
+            Err(error) => return refuse_record(&mut rt.stderr(), file, path, &error),
+        },
+        None => None,
+    };
+    let sharing = Sharing {
+        tickets: found.get_one::<u32>("tickets").unwrap_or(1),
+    };
+    serve_path(
+        rt,
+        handles,
+        file,
+        sharing_in(found),
+        Service::Shared { sharing, record },
+        !found.get_flag("forever"),
+    )
+}
+
+/// Says that the record can't be begun, and answers the exit status.
+fn refuse_record<E: Write>(
+    errors: &mut E,
+    file: SettingsFile<'_>,
+    path: &str,
+    error: &io::Error,
+) -> u8 {
+    let status = report::record(errors);
+    if file.explains {
+        explain::unopened_record(errors, path, error);
+    }
+    status
 }
 
 /// Says that the settings file gave no bytes, and answers the exit status.

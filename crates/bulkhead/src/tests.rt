@@ -1,6 +1,7 @@
 //! The arguments of the program.
 
 use crate::{command, run_arguments};
+use std::fs::Files;
 use std::net::{Net, TcpListener, TcpStream};
 use std::process::Abort;
 use std::rt::Clock;
@@ -21,6 +22,7 @@ fn arguments<R: Abort + AllocGlobal>(rt: &R, line: &str) -> Vec<String> {
 /// Asserts the status that a command line leaves.
 fn assert_status<
     R: Net<Listener = TcpListener, Stream = TcpStream>
+        + Files
         + Threads
         + Wait
         + Clock
@@ -50,6 +52,13 @@ bulkhead cut settings.toml
 bulkhead cut --group a
 bulkhead cut settings.toml --group
 bulkhead cut settings.toml a --group a
+bulkhead draw
+bulkhead draw settings.toml --group
+bulkhead draw settings.toml --from soon
+bulkhead draw settings.toml --to -1
+bulkhead draw settings.toml --from 5 --to 5
+bulkhead draw settings.toml --columns 1
+bulkhead draw settings.toml --columns 201
 bulkhead serve settings.toml
 bulkhead serve settings.toml --port 0
 bulkhead serve settings.toml --port 65536
@@ -58,7 +67,15 @@ bulkhead serve settings.toml --port 1 --connections 65
 bulkhead serve settings.toml --port 1 --keep-serving 8
 bulkhead serve settings.toml --port 1 --idle
 bulkhead serve settings.toml --port 1 --idle -1
-bulkhead serve settings.toml --port 1 --idle soon";
+bulkhead serve settings.toml --port 1 --idle soon
+bulkhead serve settings.toml --port 1 --socket s
+bulkhead share settings.toml
+bulkhead share settings.toml --port 0
+bulkhead share settings.toml --port 1 --socket s
+bulkhead share settings.toml --socket s --connections 65
+bulkhead share settings.toml --socket s --tickets 0
+bulkhead share settings.toml --socket s --tickets 4097
+bulkhead share settings.toml --socket s --keep-serving";
 
 #[test]
 fn refused_arguments_leave_status_2(rt: HostRuntime) {
@@ -74,7 +91,14 @@ fn refused_arguments_leave_status_2(rt: HostRuntime) {
         3,
     );
     assert_status(&rt, &rt, "bulkhead cut no-such-file --group a --group b", 3);
+    assert_status(
+        &rt,
+        &rt,
+        "bulkhead draw no-such-file --group a --from 5 --to 6 --columns 200",
+        3,
+    );
     assert_status(&rt, &rt, "bulkhead run --explain no-such-file", 3);
+    assert_status(&rt, &rt, "bulkhead share no-such-file --socket s", 3);
 }
 
 const NO_FILE: &str = "error: the following required arguments were not provided:
