@@ -1,7 +1,7 @@
 #!/bin/bash
 # What the program tells its user: each refusal and fault with the fixed text, its status and, with --explain, the line that
-# says more, and the same output without it; the forms of a lint; and that the man page has the commands and options of --help,
-# no more, no fewer.
+# says more, and the same output without it; the forms of a lint; the pictures of the examples; and that the man page has the
+# commands and options of --help, no more, no fewer.
 #
 #   bindings/told.sh [PROGRAM]     PROGRAM is proved and built where none is given
 set -euo pipefail
@@ -123,6 +123,12 @@ agree "a lint on a terminal" "$(on_terminal "$program" lint settings.toml)" $'\e
 agree "a lint on a terminal without colours" "$(NO_COLOR=1 on_terminal "$program" lint settings.toml)" "settings.toml:2:1: warning: $found"
 agree "the objects of a lint" "$("$program" lint --json settings.toml)" "$object"
 agree "the objects of a lint on a terminal" "$(on_terminal "$program" lint --json settings.toml)" "$object"
+
+# The pictures that lie beside their scripts.
+for example in full-pool shared-pool come-and-go outage; do
+    beside=$top/examples/$example
+    agree "the picture of $example" "$("$program" draw "$beside/settings.toml" <"$beside/script.jsonl")" "$(cat "$beside/picture.svg")"
+done
 
 # Commands and options, one a line: of --help, of the program and of each command, and of the man page.
 options() {

@@ -5,7 +5,10 @@ What one thread does is done in spells of a millisecond or so, many of which pas
 
 from __future__ import annotations
 
+import atexit
+import socket
 import statistics
+import subprocess
 import sys
 import tempfile
 import threading
@@ -37,6 +40,13 @@ COMPARED = (
     ("through a pool, queued and waited for", "ThreadPoolExecutor(10)", "more"),
     ("32 threads, 8 pools", "32 threads, 8 executors", "times"),
     ("32 threads, 8 pools, functions of 1 ms", "32 threads, 8 executors, functions of 1 ms", "times"),
+)
+
+
+# the same beside one another, where the program is given
+SHARED = (
+    ("by connect, over a socket", "under SEMAPHORE", "more"),
+    ("by connect, over a port", "under SEMAPHORE", "more"),
 )
 
 
@@ -94,6 +104,24 @@ def ways_of_one() -> dict[str, Callable[[], int]]:
     return told
 
 
+def ways_of_shared(program: str) -> dict[str, Callable[[], int]]:
+    """What one thread does with a service in another process."""
+    folder = Path(tempfile.mkdtemp())
+    (folder / "settings.toml").write_text(SETTINGS)
+    with socket.create_server(("127.0.0.1", 0)) as free:
+        port = free.getsockname()[1]
+    told: dict[str, Callable[[], int]] = {}
+    for where, address in (("socket", str(folder / "share.sock")), ("port", port)):
+        words = [program, "share", str(folder / "settings.toml"), f"--{where}", str(address)]
+        service = subprocess.Popen(words, stdin=subprocess.PIPE, stdout=subprocess.PIPE)
+        atexit.register(service.communicate)
+        assert service.stdout is not None
+        if not service.stdout.readline().startswith(b"listening"):
+            sys.exit(f"{program} does not share")
+        told[f"by connect, over a {where}"] = loop(bulkhead.connect(address).command("permits")(function), 50)
+    return told
+
+
 def ways_of_many() -> dict[str, Callable[[], int]]:
     """What 32 threads do."""
     told: dict[str, Callable[[], int]] = {}
@@ -107,8 +135,10 @@ def ways_of_many() -> dict[str, Callable[[], int]]:
 
 
 def main() -> None:
-    rounds, times = int(sys.argv[1]), {}
+    rounds, programs, times = int(sys.argv[1]), sys.argv[2:], {}
     one, many = ways_of_one(), ways_of_many()
+    for program in programs:
+        one |= ways_of_shared(program)
     for _ in range(rounds):
         for named in (*[one] * SPELLS, many):
             for name, run in named.items():
@@ -120,7 +150,7 @@ def main() -> None:
     for name, each in times.items():
         print(f"{name:<{width}}  {min(each):>8.2f}  {statistics.median(each):>8.2f}")
     print("\nbeside one another, round by round: of the least, and the middle of all rounds")
-    for name, beside, kind in COMPARED:
+    for name, beside, kind in (*COMPARED, *(SHARED if programs else ())):
         compare = (lambda one, other: one - other) if kind == "more" else (lambda one, other: one / other)
         least = compare(min(times[name]), min(times[beside]))
         middle = statistics.median(map(compare, times[name], times[beside]))

@@ -12,11 +12,15 @@
     charge.queue(order)          # a concurrent.futures.Future
     await charge.run(order)      # asyncio
 
-`python/README.md` is a tutorial. `bulkhead.Service` is the service step by step, for those who keep their own threads.
+`python/README.md` is a tutorial. `bulkhead.connect` is the same for processes that share one service (`docs/SHARE.md`), and
+`bulkhead.work` runs what such a service queues. `bulkhead.Service` is the service step by step, for those who keep their own
+threads.
 """
 
 from __future__ import annotations
 
+from ._client_commands import AsyncClientCommand, ClientCommand
+from .client import Client, connect
 from .commands import AsyncCommand, Command
 from .contexts import RequestContext
 from .errors import (
@@ -24,6 +28,7 @@ from .errors import (
     BadLine,
     BadRequest,
     BadStep,
+    BadText,
     CommandError,
     Error,
     Failed,
@@ -40,20 +45,26 @@ from .errors import (
     ShortCircuited,
     Stopped,
     TimedOut,
+    Unreachable,
     Worn,
 )
 from .metrics import Metrics
 from .service import CommandService, open
 from .steps import Reply, Service
+from .workers import Worker, work
 
 __version__ = "0.3.0"
 
 __all__ = [
+    "AsyncClientCommand",
     "AsyncCommand",
     "BadKey",
     "BadLine",
     "BadRequest",
     "BadStep",
+    "BadText",
+    "Client",
+    "ClientCommand",
     "Command",
     "CommandError",
     "CommandService",
@@ -76,7 +87,11 @@ __all__ = [
     "ShortCircuited",
     "Stopped",
     "TimedOut",
+    "Unreachable",
+    "Worker",
     "Worn",
     "__version__",
+    "connect",
     "open",
+    "work",
 ]

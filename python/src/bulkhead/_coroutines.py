@@ -168,7 +168,7 @@ async def execute(
             raise Reentered(f"{run.place.spelled}: the run would wait for itself")
         await holder.wait()
         if holder.outcome == words.RUN_FALLBACK:
-            turns.turn_of(turns.end_fallback, run, await _fall_back(run), holder)
+            turns.turn_of(turns.end_fallback, run, await fall_back(run), holder)
             await holder.wait()
     except BaseException as error:
         carried = run.task
@@ -181,7 +181,7 @@ async def execute(
     return holder.answer()
 
 
-async def _fall_back(run: Run) -> FallbackEnd:
+async def fall_back(run: Run) -> FallbackEnd:
     """Runs the fallback, which may be a coroutine function."""
     operation, value = run.fall_back()
     if operation != words.FALLBACK_SUCCESS or not inspect.isawaitable(value):

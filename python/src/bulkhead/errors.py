@@ -35,6 +35,10 @@ class BadKey(Error, TypeError):
     """A key is neither a `str` nor an `int`."""
 
 
+class BadText(Error):
+    """A value cannot be told to another process: what tells it as text gave none, or one of more than 256 bytes."""
+
+
 class NoSuchCommand(Error):
     """No command of the group has the name."""
 
@@ -91,7 +95,11 @@ class Worn(CommandError):
 
 
 class Stopped(CommandError):
-    """The service was closed, or this process was forked from the one that opened it."""
+    """The service or the client was closed, or this process was forked from the one that opened the service."""
+
+
+class Unreachable(CommandError):
+    """The service that processes share cannot be asked. `__cause__` says why; `cause` is None, as no run was decided on."""
 
 
 class Interrupted(CommandError):

@@ -27,6 +27,16 @@ def text(metrics: dict[str, Metrics], groups: Iterable[Group]) -> str:
     return "".join((*_gauges(told), *_counters(places)))
 
 
+def unreachable(counts: Iterable[tuple[Place, int]]) -> str:
+    """The text behind that of a client: how many calls found the service unreachable."""
+    return _family(
+        "bulkhead_unreachable_total",
+        "counter",
+        "Calls since the start that found the service unreachable.",
+        (("", {"group": place.group.name, "command": place.settings.name}, number) for place, number in counts),
+    )
+
+
 def _family(name: str, kind: str, about: str, samples: Iterable[Sample]) -> str:
     lines = [f"# HELP {name} {about}\n", f"# TYPE {name} {kind}\n"]
     for suffix, labels, value in samples:

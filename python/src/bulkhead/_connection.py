@@ -1,0 +1,246 @@
+"""One connection to a service that processes share: lines that are sent, and an answer to each."""
+
+from __future__ import annotations
+
+import asyncio
+import json
+import os
+import socket
+import struct
+import threading
+import weakref
+from collections.abc import Callable
+from contextlib import suppress
+from typing import Any, Union
+
+from .errors import Error, Reentered
+
+# the path of a Unix socket, or a port of 127.0.0.1
+Address = Union[str, "os.PathLike[str]", int]
+Answer = dict[str, Any]
+
+# how many lines are sent before their answers are read, so that neither side waits for room with both
+_AT_ONCE = 64
+_READ = 1 << 16
+# what `json.loads` goes by, which is shorter
+_read_json = json.JSONDecoder().raw_decode
+_PATH_LIMIT = 107
+# a span of time as the system reads it: seconds and microseconds
+_TIME = struct.Struct("@ll")
+# what the system says where a time is over
+_SLOW = (TimeoutError, BlockingIOError)
+
+
+class Lost(Exception):
+    """A connection cannot be opened, or is of no use any more: what was sent may have been done or not.
+
+    `is_slow` tells that the service is there and did not answer in time, so that to ask it again at once would be in vain;
+    `has_paused` that nothing is tried for a time because of it.
+    """
+
+    def __init__(self, why: str, is_slow: bool = False) -> None:
+        super().__init__(why)
+        self.is_slow, self.has_paused = is_slow, False
+
+
+def checked_address(address: Address) -> Union[str, int]:
+    """A path as it can be opened from any folder, or a port. Raises `Error` where it is neither."""
+    if isinstance(address, int) and not isinstance(address, bool):
+        if 1 <= address <= 65_535:
+            return address
+        raise Error(f"a port is 1 to 65535, and not {address}")
+    if not isinstance(address, (str, os.PathLike)):
+        raise Error(f"a service is the path of its socket or its port, and not {type(address).__name__}")
+    path = os.fspath(address)
+    absolute = os.path.abspath(path)
+    # a path that is too long is refused by the system, so one that fits as it was given is left so
+    return absolute if len(os.fsencode(absolute)) <= _PATH_LIMIT else path
+
+
+def _opened(address: Union[str, int], timeout: float) -> socket.socket:
+    made = socket.socket(socket.AF_INET if isinstance(address, int) else socket.AF_UNIX, socket.SOCK_STREAM)
+    try:
+        if isinstance(address, int):
+            made.settimeout(timeout)
+            made.setsockopt(socket.IPPROTO_TCP, socket.TCP_NODELAY, 1)
+            made.connect(("127.0.0.1", address))
+        else:
+            # the system lets nobody wait with a timeout of Python's where many connect at a time
+            seconds = int(timeout)
+            span = _TIME.pack(seconds, int((timeout - seconds) * 1e6) or 1)  # none at all would be without an end
+            made.setsockopt(socket.SOL_SOCKET, socket.SO_SNDTIMEO, span)
+            made.connect(address)
+            made.settimeout(timeout)
+    except BaseException:
+        made.close()
+        raise
+    return made
+
+
+class Connection:
+    """A connection, whose lines are sent and answered under its lock.
+
+    Whoever breaks an exchange off loses the connection, since answers would be taken for those to other lines; the service
+    then takes back what it had.
+    """
+
+    def __init__(self, address: Union[str, int], timeout: float) -> None:
+        try:
+            self._socket = _opened(address, timeout)
+        except OSError as error:
+            raise Lost(f"{address} cannot be reached: {error}", isinstance(error, _SLOW)) from error
+        # one that is dropped is closed without a word
+        self._dropped = weakref.finalize(self, self._socket.close)
+        self._dropped.atexit = False
+        self._timeout, self._rest = timeout, bytearray()
+        self._lock, self._is_busy = threading.RLock(), False
+        self.is_lost = False
+        # a line that is sent before it is closed, behind what was not answered yet
+        self.last_words = b""
+
+    def close(self) -> None:
+        """Closes it, which may be done from another thread; what it had is taken back by the service."""
+        self.is_lost = True
+        last_words, self.last_words = self.last_words, b""
+        if last_words:
+            self._dropped.detach()
+            _close_behind(self._socket, last_words)
+            return
+        with suppress(OSError):  # it is not connected any more
+            self._socket.shutdown(socket.SHUT_RDWR)
+        self._socket.close()
+
+    def hang_up(self) -> None:
+        """Says that no further line comes: the service then answers a line that waits."""
+        with suppress(OSError):  # it is not connected any more
+            self._socket.shutdown(socket.SHUT_WR)
+
+    def forget(self) -> None:
+        """Closes it in a forked process, where its parent's connection goes on."""
+        self.is_lost = True
+        self._socket.close()
+
+    def ask(self, *lines: bytes) -> list[Answer]:
+        """Sends lines that are answered at once, and gives their answers in their order."""
+        return self._exchange(lines, None)
+
+    def wait(self, line: bytes) -> Answer:
+        """Sends a line that is answered later, and waits for its answer without an end."""
+        return self._exchange((line,), self._without_end)[0]
+
+    async def wait_in_loop(self, line: bytes) -> Answer:
+        """The same for a coroutine. One that is cancelled loses the connection."""
+        loop = asyncio.get_running_loop()
+        is_there: asyncio.Future[None] = loop.create_future()
+        reader = self._socket.fileno()
+        try:
+            self._send((line,))
+            if b"\n" not in self._rest:
+                loop.add_reader(reader, _set, is_there)
+                try:
+                    await is_there
+                finally:
+                    loop.remove_reader(reader)
+            return self._answer()
+        except BaseException as error:
+            self.close()
+            _raise_lost(error)
+            raise
+
+    def _without_end(self) -> None:
+        self._socket.settimeout(None)
+
+    def _exchange(self, lines: tuple[bytes, ...], before: Union[Callable[[], None], None]) -> list[Answer]:
+        with self._lock:
+            if self._is_busy:
+                raise Reentered("the connection is in the midst of another line of this thread, as by a signal handler")
+            try:
+                self._is_busy = True
+                answers = []
+                for at in range(0, len(lines), _AT_ONCE):
+                    some = lines[at : at + _AT_ONCE]
+                    self._send(some)
+                    if before is not None:
+                        before()
+                    answers += [self._answer() for _ in some]
+                if before is not None:
+                    self._socket.settimeout(self._timeout)
+                return answers
+            except BaseException as error:
+                self.close()
+                _raise_lost(error)
+                raise
+            finally:
+                self._is_busy = False
+
+    def _send(self, lines: tuple[bytes, ...]) -> None:
+        if self.is_lost:
+            raise Lost("the connection was lost")
+        self._socket.sendall(b"".join(lines))
+
+    def _answer(self) -> Answer:
+        rest = self._rest
+        while (end := rest.find(b"\n")) < 0:
+            some = self._socket.recv(_READ)
+            if not some:
+                raise Lost("the service closed the connection")
+            rest += some
+        line = rest[:end].decode()
+        del rest[: end + 1]
+        answer, ends_at = _read_json(line)
+        if ends_at < len(line) or not isinstance(answer, dict):
+            raise ValueError(line)
+        return answer
+
+
+# sockets of which the sending side is closed, until the service has closed the other one
+_closing: list[socket.socket] = []
+_CLOSING = 64
+
+
+def _close_behind(one: socket.socket, last_words: bytes) -> None:
+    """Has the service read all that was sent and last words. To close it at once could take unread lines from it."""
+    with suppress(OSError):
+        one.settimeout(0)
+        one.send(last_words)
+        one.shutdown(socket.SHUT_WR)
+        _closing.append(one)
+        close_ended()
+        return
+    one.close()
+
+
+def close_ended() -> None:
+    """Closes those whose service has ended them, and the first of very many."""
+    for one in [*_closing]:
+        try:
+            while one.recv(_READ):
+                pass
+        except BlockingIOError:
+            if len(_closing) <= _CLOSING:
+                continue
+        except OSError:
+            pass
+        with suppress(ValueError):  # another thread was sooner
+            _closing.remove(one)
+        one.close()
+
+
+def forget_closing() -> None:
+    """In a forked process: they are the parent's."""
+    for one in _closing:
+        one.close()
+    _closing.clear()
+
+
+def _set(future: asyncio.Future[None]) -> None:
+    if not future.done():
+        future.set_result(None)
+
+
+def _raise_lost(error: BaseException) -> None:
+    """Raises `Lost` for what broke an exchange off, unless it is one or an interrupt, which is to pass through."""
+    if isinstance(error, OSError):
+        raise Lost(f"the connection failed: {error or type(error).__name__}", isinstance(error, _SLOW)) from error
+    if isinstance(error, ValueError):
+        raise Lost("what answers there is no service of bulkhead") from error

@@ -1,0 +1,123 @@
+"""Interrupts of a client's calls: at whatever place, nothing of the service is kept, and the next call goes its way."""
+
+from __future__ import annotations
+
+import inspect
+import itertools
+import random
+import signal
+import sys
+import warnings
+from collections.abc import Callable
+from types import FrameType
+from typing import Any, Optional
+
+import bulkhead
+from share_support import ShareCase
+
+
+class Interrupt(KeyboardInterrupt):
+    """What the signal handler of these tests raises."""
+
+
+class Interrupts(ShareCase):
+    def setUp(self) -> None:
+        super().setUp()
+        # a socket that was just made when the interrupt came is closed as it is dropped, which is told else
+        warned = warnings.catch_warnings()
+        warned.__enter__()
+        self.addCleanup(warned.__exit__, None, None, None)
+        warnings.simplefilter("ignore", ResourceWarning)
+        self.addCleanup(setattr, sys, "unraisablehook", sys.unraisablehook)
+        sys.unraisablehook = lambda told: None
+
+    def at_place(self, call: Callable[[], Any], number: int) -> bool:
+        """Makes a call that is interrupted at that place of the package; whether it came so far.
+
+        Places are the begins of functions and the ends of calls, which is where the interpreter looks for signals.
+        """
+        places, was_reached = itertools.count(1), False
+
+        def profile(frame: FrameType, event: str, argument: object) -> None:
+            nonlocal was_reached
+            is_place = event != "c_call" and not (event == "return" and frame.f_code.co_flags & inspect.CO_COROUTINE)
+            if is_place and "/bulkhead/" in frame.f_code.co_filename and next(places) == number:
+                sys.setprofile(None)
+                was_reached = True
+                raise Interrupt
+
+        try:
+            sys.setprofile(profile)
+            call()
+        except (Interrupt, bulkhead.CommandError):
+            pass
+        finally:
+            sys.setprofile(None)
+        return was_reached
+
+    def at_each_place(self, call: Callable[[], Any], after: Callable[[], None]) -> int:
+        """Interrupts a call at each of its places, and tells how many there were."""
+        for number in itertools.count(1):
+            if not self.at_place(call, number):
+                return number - 1
+            self.fake.until(self.fake.settled)
+            after()
+        raise AssertionError("there is a last place")
+
+    def test_a_call_may_be_interrupted_at_each_place(self) -> None:
+        client = self.client()
+        call = client.command("catalog", fallback=lambda value, *, cause: 1 // value)(lambda value: 1 // value)
+        for value in (1, 0):
+            self.assertGreater(self.at_each_place(lambda: call(value), lambda: self.assertEqual(call(1), 1)), 20)
+
+    def test_a_call_that_shares_its_answer_may_be_interrupted_at_each_place(self) -> None:
+        client = self.client()
+        call = client.command("catalog", key=lambda value: value, encode=str, decode=int)(lambda value: 1 // value)
+
+        def after() -> None:
+            self.assertEqual(([*client._bodies[0].at], [*client._links._lent]), ([], []))
+
+        for value in (1, 0):
+            for number in itertools.count(1):
+                # one call runs the function, and one shares the answer
+                with client.context():
+                    was_reached = [self.at_place(lambda: call(value), number) for _ in range(2)]
+                self.fake.until(self.fake.settled)
+                after()
+                if not any(was_reached):
+                    break
+            self.assertGreater(number, 50)
+            self.fake.until(lambda: all(ticket.name is None for ticket in self.fake.tickets.values()))
+
+    def test_contexts_may_be_interrupted_by_the_kernel_at_random_places(self) -> None:
+        client, is_armed, count = self.client(), False, 0
+        call = client.command("catalog", key=lambda value: value, encode=str, decode=int)(lambda value: 1 // value)
+
+        def handle(number: int, frame: Optional[FrameType]) -> None:
+            nonlocal is_armed
+            if is_armed:
+                is_armed = False
+                raise Interrupt
+
+        def within_while_armed() -> None:  # a loop of its own: where one ends a `try`, some versions of Python leave it out
+            while is_armed:
+                with client.context():
+                    call(1)
+                    call(1)
+
+        before = signal.signal(signal.SIGALRM, handle)
+        self.addCleanup(signal.signal, signal.SIGALRM, before)
+        random.seed(3)
+        while count < 300:
+            try:
+                is_armed = True
+                signal.setitimer(signal.ITIMER_REAL, random.uniform(0.000_001, 0.002))
+                within_while_armed()
+            except Interrupt:
+                count += 1
+            finally:
+                is_armed = False
+            self.assertIsNone(client.current.get())
+        self.assertEqual(call(1), 1)
+        self.fake.until(self.fake.settled)
+        self.assertEqual([ticket for ticket in self.fake.tickets.values() if ticket.name is not None], [])
