@@ -2,19 +2,18 @@
 use Rattle.std.proofs.Common.{◌≡◌, ◌<◌, ◌+◌, ℕ, Bool, true, false, cond, List, [], ◌∷◌, ◌++◌, filter, length, map, take, slice_index_or, refl, ap, sym, subst, ◌∙◌}
 use Rattle.bh_base.specs.declared.reply.Reply.{Reply}
 use Rattle.bh_base.specs.declared.step.Step.{Step}
-use Rattle.bh_core.specs.CoreView.{CoreView}
-use Rattle.bh_core.specs.Step.{IsStep}
 use Rattle.bh_lease.specs.declared.lease.Lease.{Lease}
 use Rattle.bh_lease.specs.declared.lease.Part.{Part}
 use Rattle.bh_lease.specs.Lease.{has}
 use Rattle.bh_lender.specs.Lender.{end_step}
+use Rattle.bh_lender.specs.Recorded.{IsMade, RecordedView}
 use Rattle.bh_lender.specs.Steps.{AreSteps, Made, steps_of}
 use Rattle.std.proofs.lemmas.List.{append-nil, map-append}
 use Rattle.std.proofs.lemmas.List.Elements.{filter_more}
 
 -- one step more behind others
-pub step_more : (old : CoreView) (made : List Made) (mid : CoreView) (step : Step) (reply : Reply) (new : CoreView) → AreSteps old made mid → IsStep mid step reply new → AreSteps old (made ++ (step, reply) ∷ []) new
-step_more old [] mid step reply new so is = let P : CoreView → Type 0 = λ groups. IsStep groups step reply new in (new, subst P so is, refl)
+pub step_more : (old : RecordedView) (made : List Made) (mid : RecordedView) (step : Step) (reply : Reply) (new : RecordedView) → AreSteps old made mid → IsMade mid step reply new → AreSteps old (made ++ (step, reply) ∷ []) new
+step_more old [] mid step reply new so is = let P : RecordedView → Type 0 = λ groups. IsMade groups step reply new in (new, subst P so is, refl)
 step_more old (m ∷ ms) mid step reply new (between, first, others) is = (between, first, step_more between ms mid step reply new others is)
 
 -- the items up to a place that pass a test, where that at the place passes it
@@ -29,9 +28,9 @@ one_fails p f xs i d within fails =
     ap (map f) (filter_more p xs i d within ∙ ap (λ b. filter p (take i xs) ++ cond b (slice_index_or xs i d ∷ []) []) fails ∙ append-nil (filter p (take i xs)))
 
 -- the part of one lease more is ended, by the step that was made
-pub end_more : (now : ℕ) (p : Part) (leases : List Lease) (i : ℕ) (d : Lease) (old : CoreView) (made : List Made) (mid : CoreView) (reply : Reply) (new : CoreView)
+pub end_more : (now : ℕ) (p : Part) (leases : List Lease) (i : ℕ) (d : Lease) (old : RecordedView) (made : List Made) (mid : RecordedView) (reply : Reply) (new : RecordedView)
     → AreSteps old made mid → steps_of made ≡ map (end_step now p) (filter (has p) (take i leases)) → i < length leases → has p (slice_index_or leases i d) ≡ true
-    → IsStep mid (end_step now p (slice_index_or leases i d)) reply new
+    → IsMade mid (end_step now p (slice_index_or leases i d)) reply new
     → (all : List Made) × AreSteps old all new × (steps_of all ≡ map (end_step now p) (filter (has p) (take (i + 1) leases)))
 end_more now p leases i d old made mid reply new so are within has_it is = (
   made ++ (end_step now p (slice_index_or leases i d), reply) ∷ [],

@@ -7,25 +7,25 @@ use Rattle.bh_base.specs.declared.step.GroupId.{GroupId}
 use Rattle.bh_base.specs.declared.step.Op.{Op}
 use Rattle.bh_base.specs.declared.step.Op.TheVariants as op
 use Rattle.bh_base.specs.declared.step.Step.{Step}
-use Rattle.bh_core.specs.CoreView.{CoreView}
-use Rattle.bh_core.specs.Step.{IsStep}
 use Rattle.bh_lease.specs.declared.lease.Lease.{Lease}
 use Rattle.bh_lease.specs.declared.lease.Part.{Part}
 use Rattle.bh_lease.specs.declared.lease.Part.TheVariants as part
 use Rattle.bh_lease.specs.Lease.{has}
 use Rattle.bh_lender.specs.declared.lender.Left.{Left}
+use Rattle.bh_lender.specs.Recorded.{IsMade, RecordedView}
 use Rattle.bh_lender.specs.Steps.{AreSteps, Made, step_at, steps_of}
 use Rattle.bh_lender.specs.Settling.{Settles}
 
--- all groups, and the holders that are left with the service, in the order in which their connections ended
+-- all groups with the log of their steps, and the holders that are left with the service, in the order in which their
+-- connections ended
 pub record LenderView : Type 0 where
-  pub groups : CoreView
+  pub recorded : RecordedView
   pub left : List Left
 
 -- the step was made, and then what it lets holders that are left do
 abbrev pub DoesStep : Step → Reply → LenderView → LenderView → Type 0
 DoesStep step reply old new =
-    (mid : CoreView) × (chunks : List (List Made)) × IsStep old.groups step reply mid × Settles step.now mid old.left chunks new.groups new.left
+    (mid : RecordedView) × (chunks : List (List Made)) × IsMade old.recorded step reply mid × Settles step.now mid old.left chunks new.recorded new.left
 
 -- the operation that ends the part of the ticket: of a connection that is gone a run has failed, and so has a fallback
 abbrev pub end_of : Part → ℕ → Op
@@ -46,16 +46,16 @@ left_of l = record { group = l.group; serial = l.serial }
 pub record IsGivenBack (now : ℕ) (leases : List Lease) (old new : LenderView) : Type 0 where
   pub runs : List Made
   pub fallbacks : List Made
-  pub after_runs : CoreView
-  pub after_fallbacks : CoreView
+  pub after_runs : RecordedView
+  pub after_fallbacks : RecordedView
   pub chunks : List (List Made)
   -- each run is ended by one step, in the order of the leases, and each fallback by one step then
   pub runs_are : steps_of runs ≡ map (end_step now part.Run) (filter (has part.Run) leases)
   pub fallbacks_are : steps_of fallbacks ≡ map (end_step now part.Fallback) (filter (has part.Fallback) leases)
-  pub ends_runs : AreSteps old.groups runs after_runs
+  pub ends_runs : AreSteps old.recorded runs after_runs
   pub ends_fallbacks : AreSteps after_runs fallbacks after_fallbacks
   -- each holder is left behind those that were left, and whoever of these need not wait has collected
-  pub settles : Settles now after_fallbacks (old.left ++ map left_of (filter (has part.Holder) leases)) chunks new.groups new.left
+  pub settles : Settles now after_fallbacks (old.left ++ map left_of (filter (has part.Holder) leases)) chunks new.recorded new.left
 
 -- an Expire was made where a ticket of the group was due, by which so many timed out; or nothing was done
 abbrev pub IsExpired : GroupId → ℕ → Option ℕ → LenderView → LenderView → Type 0

@@ -11,6 +11,7 @@ use Rattle.bh_base.specs.Seen.{view_reply}
 use Rattle.bh_core.specs.CoreView.{CoreView, view_at}
 use Rattle.bh_core.specs.Looks.{is_pending}
 use Rattle.bh_lender.specs.declared.lender.Left.{Left}
+use Rattle.bh_lender.specs.Recorded.{RecordedView}
 use Rattle.bh_lender.specs.Steps.{AreSteps, Made, step_at}
 
 -- whether a Collect of the serial would be answered Pending, which no moment plays a part in
@@ -37,9 +38,9 @@ IsCollected now holder made =
     ∷ (step_at holder.group now (op.Collect holder.serial), r') ∷ []))
 
 -- one after another of the holders that are left need not wait, has collected by these steps, and is left no more
-abbrev pub Settles : ℕ → CoreView → List Left → List (List Made) → CoreView → List Left → Type 0
+abbrev pub Settles : ℕ → RecordedView → List Left → List (List Made) → RecordedView → List Left → Type 0
 Settles now old left [] new left' = (new ≡ old) × (left' ≡ left)
 Settles now old left (made ∷ others) new left' =
-    (place : ℕ) × (holder : Left) × (mid : CoreView) × (place < length left) × (holder ≡ slice_index_or left place holder)
-    × (is_waiting old holder ≡ false) × IsCollected now holder made × AreSteps old made mid
+    (place : ℕ) × (holder : Left) × (mid : RecordedView) × (place < length left) × (holder ≡ slice_index_or left place holder)
+    × (is_waiting old.groups holder ≡ false) × IsCollected now holder made × AreSteps old made mid
     × Settles now mid (remove left place) others new left'

@@ -4,6 +4,7 @@ ghost use Rattle.std.specs.Prelude.{◌≡◌, ◌↔◌, [], Err, Some, None, O
 ghost use Rattle.bh_base.specs.declared.step.Op.TheVariants as op;
 ghost use Rattle.bh_base.specs.declared.reply.Reply.TheVariants as replies;
 ghost use Rattle.bh_lease.specs.Leases.{LeasesView, after, refusal};
+ghost use Rattle.bh_lender.specs.Recorded.{log_or, with_log_of};
 ghost use Rattle.bh_lender.specs.Steps.{step_at};
 ghost use Rattle.bh_lender.specs.Lender.{DoesStep, IsExpired, IsGivenBack};
 
@@ -42,15 +43,15 @@ impl Model for Lender {
 
     ghost Value = { LenderView };
 
-    ghost view = { λ l. record { groups = l.core; left = l.left.items } };
+    ghost view = { λ l. record { recorded = l.core; left = l.left.items } };
 
-    ghost invariant = { λ l. AreWaiting l.core l.left.items };
+    ghost invariant = { λ l. AreWaiting l.core.groups l.left.items };
 }
 
 impl Lender {
     /// The groups of a core, of which nobody has tickets. Each step is put into the log, where one is given.
     pub fn new(alloc: Global, core: Core, log: Option<StepLog>) -> Lender
-        ensures { result ≡ record { groups = core; left = [] } }
+        ensures { result ≡ record { recorded = record { groups = core; log = log }; left = [] } }
     {
         Lender {
             core: Recorded::new(core, log),
@@ -60,7 +61,7 @@ impl Lender {
 
     /// The groups as the steps so far left them.
     pub fn core(&self) -> &Core
-        ensures { result.now ≡ self.now.groups }
+        ensures { result.now ≡ self.now.recorded.groups }
     {
         self.core.core()
     }
@@ -68,14 +69,15 @@ impl Lender {
     /// Exchanges the steps that were put into the log, in the order in which they were made, with those of another log, where
     /// there is a log. No step is made.
     pub fn swap_log(&mut self, other: &mut StepLog)
-        ensures { self.new ≡ self.old }
+        ensures this { self.new ≡ record self.old { recorded = with_log_of other.old self.old.recorded } }
+        ensures that { other.new ≡ log_or other.old self.old.recorded }
     {
         self.core.swap_log(other);
     }
 
     /// No further step is put into a log.
     pub fn end_log(&mut self)
-        ensures { self.new ≡ self.old }
+        ensures { self.new ≡ record self.old { recorded = record self.old.recorded { log = None } } }
     {
         self.core.end_log();
     }

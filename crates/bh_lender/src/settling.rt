@@ -1,7 +1,6 @@
 //! The holders that are left: the service collects for each that need not wait any more.
 
 ghost use Rattle.std.specs.Prelude.{◌≡◌, ◌<◌, List, [], ◌∷◌, false, true, IfNone, IfSome, length, slice_get, slice_index_or, remove, Some};
-ghost use Rattle.bh_core.specs.CoreView.{CoreView};
 ghost use Rattle.bh_lender.specs.Steps.{AreSteps, Made};
 ghost use Rattle.bh_lender.specs.Settling.{AreWaiting, IsCollected, Settles, is_waiting};
 
@@ -11,7 +10,7 @@ use bh_base::{FallbackEnd, Moment, Op, Reply};
 
 /// Collects for each holder that is left and need not wait, until all that are left have to wait.
 pub(crate) fn settle(core: &mut Recorded, left: &mut Vec<Left>, now: Moment)
-    ensures { (chunks : List (List Made)) × Settles now core.old left.old.items chunks core.new left.new.items × AreWaiting core.new left.new.items }
+    ensures { (chunks : List (List Made)) × Settles now core.old left.old.items chunks core.new left.new.items × AreWaiting core.new.groups left.new.items }
 {
     while let Some(place) = first_ready(core, left.as_slice()) {
         let holder = left.remove(place);
@@ -22,8 +21,8 @@ pub(crate) fn settle(core: &mut Recorded, left: &mut Vec<Left>, now: Moment)
 /// The place of the first holder that need not wait.
 fn first_ready(core: &Recorded, left: &[Left]) -> Option<usize>
     ensures within { IfSome result (λ place. place < length left.now) }
-    ensures ready { (holder : Left) → IfSome result (λ place. is_waiting core.now (slice_index_or left.now place holder) ≡ false) }
-    ensures none { IfNone result (AreWaiting core.now left.now) }
+    ensures ready { (holder : Left) → IfSome result (λ place. is_waiting core.now.groups (slice_index_or left.now place holder) ≡ false) }
+    ensures none { IfNone result (AreWaiting core.now.groups left.now) }
 {
     for (place, holder) in left.iter().enumerate() {
         if !core.pending(holder.group, holder.serial) {

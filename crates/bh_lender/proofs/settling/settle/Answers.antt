@@ -13,9 +13,9 @@ loop-place-preserved c =
     let holder = c.remove-holder.result in
     let same : c.as_slice.result.now ≡ c.loop-place.left.items = c.as_slice.ensures.value in
     let within : c.in-Some.place < length c.loop-place.left.items = rw same at c.in-Some.ensures.within in
-    let ready : is_waiting c.loop-place.core (slice_index_or c.loop-place.left.items c.in-Some.place holder) ≡ false = rw same at c.in-Some.ensures.ready holder in
+    let ready : is_waiting c.loop-place.core.groups (slice_index_or c.loop-place.left.items c.in-Some.place holder) ≡ false = rw same at c.in-Some.ensures.ready holder in
     let P : List Left → Type 0 = λ left. Settles c.args.now c.args.core.now c.args.left.now.items (chunks ++ made ∷ []) c.collect.new.core left in (
       chunks ++ made ∷ [],
       subst P (sym c.remove-holder.ensures.items) (one_more c.args.now c.args.core.now c.args.left.now.items chunks c.loop-place.core c.loop-place.left.items c.in-Some.place holder made c.collect.new.core
-          c.loop-place.invariant.1 within c.remove-holder.ensures.value (ap (is_waiting c.loop-place.core) c.remove-holder.ensures.value ∙ ready) c.collect.ensures.2 c.collect.ensures.1),
+          c.loop-place.invariant.1 within c.remove-holder.ensures.value (ap (is_waiting c.loop-place.core.groups) c.remove-holder.ensures.value ∙ ready) c.collect.ensures.2 c.collect.ensures.1),
     )
