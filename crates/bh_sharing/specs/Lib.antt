@@ -1,3 +1,4 @@
 pub mod Client  -- what a connection has, and what its lines may be answered
 pub mod Locked  -- what one turn does to what stands under the lock
 pub mod Shared  -- what one turn tells of groups that others change too
+pub mod Waiters  -- which connections wait for what, and which of them are to look again

@@ -41,7 +41,7 @@ impl Locked {
         connections: u32,
         log: Option<StepLog>,
     ) -> Result<Locked, AllocError>
-        ensures { IfOk result (λ made. made ≡ record { lender = record { groups = core; left = [] }; latest = 0 }) }
+        ensures { IfOk result (λ made. made ≡ record { lender = record { recorded = record { groups = core; log = log }; left = [] }; latest = 0 }) }
     {
         let waiters = Waiters::new(alloc, connections)?;
         Ok(Locked {

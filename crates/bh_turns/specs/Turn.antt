@@ -35,7 +35,7 @@ unless_refused None waits = waits
 unless_refused (Some why) waits = false
 
 abbrev pub has_to_wait : LenderView → LeasesView → GroupId → Op → Bool
-has_to_wait lender leases group o = unless_refused (refusal group o leases) (would_have_to o group lender.groups)
+has_to_wait lender leases group o = unless_refused (refusal group o leases) (would_have_to o group lender.recorded.groups)
 
 -- the name that stands in the line of a reply: of a run that was assigned the further command's
 abbrev pub told_name : Names → GroupId → Reply → Option (List ℕ)

@@ -3,4 +3,4 @@
 
 pub mod turn;
 
-pub use turn::{answer_step, has_to_wait};
+pub use turn::{answer_step, has_to_wait, is_idle};

@@ -27,8 +27,8 @@ pub fn has_to_wait(lender: &Lender, leases: &Leases, group: GroupId, op: &Op) ->
     }
 }
 
-/// Whether a start in the group would be answered `Idle`.
-fn is_idle(core: &Core, group: GroupId) -> bool
+/// Whether a start in the group would be answered `Idle`, at whatever moment: it is there, and neither has a run to do nor is worn.
+pub fn is_idle(core: &Core, group: GroupId) -> bool
     ensures { result ≡ would_idle (view_at core.now group.0) }
 {
     if !core.is_registered(group) {
