@@ -2,3 +2,5 @@ pub mod Client  -- what a connection has, and what its lines may be answered
 pub mod Locked  -- what one turn does to what stands under the lock
 pub mod Shared  -- what one turn tells of groups that others change too
 pub mod Waiters  -- which connections wait for what, and which of them are to look again
+pub mod LineObject  -- objects whose members are listed
+pub mod StepText  -- the line of a script that says a step, and what it says

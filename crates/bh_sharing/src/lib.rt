@@ -2,6 +2,7 @@
 #![tactic(auto)]
 
 pub mod client;
+mod line_object;
 pub mod locked;
 pub mod shared;
 pub mod step_line;

@@ -1,6 +1,7 @@
 //! What stands under the lock of a service that connections share, and its turns.
 
-ghost use Rattle.std.specs.Prelude.{◌≡◌, [], IfOk, OnErr, OnOk};
+ghost use Rattle.std.specs.Prelude.{◌≡◌, [], IfOk, None, OnErr, OnOk};
+ghost use Rattle.bh_lender.specs.Recorded.{log_or, with_log_of};
 ghost use Rattle.bh_sharing.specs.Locked.{IsExpiredAt, IsGivenBackAt, IsReadAfter, IsTurnAt};
 
 use crate::waiters::{Numbers, Waiter, Waiters};
@@ -131,16 +132,17 @@ impl Locked {
         self.waiters.tell(self.lender.core(), group)
     }
 
-    /// Exchanges the steps that were put into the log with those of another log.
+    /// Exchanges the steps that were put into the log with those of another log, where there is a log.
     pub fn swap_log(&mut self, other: &mut StepLog)
-        ensures { self.new ≡ self.old }
+        ensures this { self.new ≡ record self.old { lender = record self.old.lender { recorded = with_log_of other.old self.old.lender.recorded } } }
+        ensures that { other.new ≡ log_or other.old self.old.lender.recorded }
     {
         self.lender.swap_log(other);
     }
 
     /// No further step is put into the log.
     pub fn end_record(&mut self)
-        ensures { self.new ≡ self.old }
+        ensures { self.new ≡ record self.old { lender = record self.old.lender { recorded = record self.old.lender.recorded { log = None } } } }
     {
         self.lender.end_log();
     }

@@ -1,18 +1,37 @@
 //! The line of a script that says a step.
 
+ghost use Rattle.std.specs.Prelude.{◌≡◌, ◌≤◌, ◌++◌, false, IfOk, IfSome, OnErr, OnOk, Some, option_copied, slice_get, true};
+ghost use Rattle.serde_json.specs.Data.{depth};
+ghost use Rattle.serde_json.specs.Read.{max_depth, read};
+ghost use Rattle.serde_json.specs.View.{view};
+ghost use Rattle.serde_json.specs.Written.{compact_text, has_float};
+ghost use Rattle.bh_base.specs.declared.step.FallbackEnd.TheVariants as ends;
+ghost use Rattle.bh_base.specs.declared.step.Op.TheVariants as op;
+ghost use Rattle.bh_lines.specs.StepLine.{is_short, is_short_end};
+ghost use Rattle.bh_replies.specs.ReplyLine.{json_line};
+ghost use Rattle.bh_sharing.specs.StepText.{SaysEnd, SaysStep, close_data, collect_data, end_line, fail_data, fallback_data, finish_data, name_of_command, no_value_data, read_data, step_data, step_line, submit_data, word_data};
+
 use bh_base::{FallbackEnd, GroupId, Moment, Op, Request, Step};
 use bh_share::Directory;
-use serde_json::{Value, json};
+use crate::line_object::{Member, object_of};
+use serde_json::Value;
 use std::alloc::{AllocError, Global};
 
 /// Puts the line of a script that says the step behind the bytes. Nothing is put for a step of a group that the directory
 /// does not have. It fails only for want of memory, and leaves the bytes as they were then.
+///
+/// The line, read, is the step: a script that has it is asked for this operation at this moment, of the group and the command
+/// by their names.
 pub fn put_step<D: Directory>(
     alloc: Global,
     directory: &D,
     out: &mut Vec<u8>,
     step: &Step,
-) -> Result<(), AllocError> {
+) -> Result<(), AllocError>
+    ensures ok { OnOk result (out.new.items ≡ out.old.items ++ step_line (D.names directory.now) step.entry.now) }
+    ensures says { OnOk result (IfSome (slice_get (D.names directory.now).groups step.entry.now.group.0) (SaysStep (D.names directory.now) step.entry.now)) }
+    ensures err { OnErr result (out.new.items ≡ out.old.items) }
+{
     let Some(group) = group_name(directory, step.group) else {
         return Ok(());
     };
@@ -21,28 +40,49 @@ pub fn put_step<D: Directory>(
 }
 
 /// Puts the line behind the bytes that ends a whole record: a read of the first group, with a member that a script ignores.
+/// Nothing is put where the directory has no group. It fails only for want of memory, and leaves the bytes as they were then.
 pub fn put_end<D: Directory>(
     alloc: Global,
     directory: &D,
     out: &mut Vec<u8>,
     now: Moment,
-) -> Result<(), AllocError> {
+) -> Result<(), AllocError>
+    ensures ok { OnOk result (out.new.items ≡ out.old.items ++ end_line (D.names directory.now) now) }
+    ensures says { OnOk result (IfSome (slice_get (D.names directory.now).groups 0) (SaysEnd now)) }
+    ensures err { OnErr result (out.new.items ≡ out.old.items) }
+{
     let Some(group) = group_name(directory, GroupId(0)) else {
         return Ok(());
     };
-    let value = json!(in alloc; {"end": true, "group": group, "now": now, "op": "read"})?;
+    let value = object_of(
+        alloc,
+        &[
+            Member::Truth("end", true),
+            Member::Text("group", group),
+            Member::Number("now", now),
+            Member::Text("op", "read"),
+        ],
+    )?;
     put_value(alloc, out, &value)
 }
 
-/// Puts the line of the value behind the bytes.
-fn put_value(alloc: Global, out: &mut Vec<u8>, value: &Value) -> Result<(), AllocError> {
+/// Puts the line of the value, which has no float, behind the bytes. Its text, read, is the value.
+fn put_value(alloc: Global, out: &mut Vec<u8>, value: &Value) -> Result<(), AllocError>
+    requires floatless { has_float (view value.now) ≡ false }
+    requires nests { depth (view value.now) ≤ max_depth }
+    ensures ok { OnOk result (out.new.items ≡ out.old.items ++ json_line (view value.now)) }
+    ensures reads { OnOk result (read (compact_text (view value.now)) ≡ Some (view value.now)) }
+    ensures err { OnErr result (out.new.items ≡ out.old.items) }
+{
     let mut line = value.to_string(alloc)?;
     line.push('\n')?;
     out.extend_from_slice(line.as_str().as_bytes())
 }
 
 /// The name of the group of the number.
-fn group_name<D: Directory>(directory: &D, group: GroupId) -> Option<&str> {
+fn group_name<D: Directory>(directory: &D, group: GroupId) -> Option<&str>
+    ensures { option_copied result ≡ slice_get (D.names directory.now).groups group.0 }
+{
     let name = directory.groups().get(group.0 as usize)?;
     Some(name.as_str())
 }
@@ -53,7 +93,9 @@ fn command_name<'d, D: Directory>(
     name: &'d str,
     group: GroupId,
     command: u8,
-) -> &'d str {
+) -> &'d str
+    ensures { result.now ≡ name_of_command (D.names directory.now) group.0 name.now command }
+{
     match directory.command_name(group, command) {
         Some(further) => further.as_str(),
         None => name,
@@ -66,53 +108,137 @@ fn step_value<D: Directory>(
     directory: &D,
     group: &str,
     step: &Step,
-) -> Result<Value, AllocError> {
+) -> Result<Value, AllocError>
+    ensures data { IfOk result (λ v. view v ≡ step_data (D.names directory.now) group.now step.entry.now) }
+    ensures short { IfOk result (λ _. is_short step.entry.now.op ≡ true) }
+{
     let now = step.now;
     match &step.op {
         Op::Submit(request) => {
             let command = command_name(directory, group, step.group, request.command);
             submit_value(alloc, group, now, command, request)
         }
-        Op::Start => json!(in alloc; {"group": group, "now": now, "op": "start"}),
-        Op::Finish { serial, body } => json!(in alloc; {
-            "body": body.as_str(), "group": group, "now": now, "op": "finish", "ticket": *serial
-        }),
-        Op::Fail { serial, bad } => json!(in alloc; {
-            "bad": *bad, "group": group, "now": now, "op": "fail", "ticket": *serial
-        }),
-        Op::Expire => json!(in alloc; {"group": group, "now": now, "op": "expire"}),
-        Op::Collect { serial } => json!(in alloc; {
-            "group": group, "now": now, "op": "collect", "ticket": *serial
-        }),
+        Op::Start => word_value(alloc, group, now, "start"),
+        Op::Finish { serial, body } => finish_value(alloc, group, now, *serial, body.as_str()),
+        Op::Fail { serial, bad } => fail_value(alloc, group, now, *serial, *bad),
+        Op::Expire => word_value(alloc, group, now, "expire"),
+        Op::Collect { serial } => collect_value(alloc, group, now, *serial),
         Op::FallbackDone { serial, end } => fallback_value(alloc, group, now, *serial, end),
-        Op::Close { context } => json!(in alloc; {
-            "context": *context, "group": group, "now": now, "op": "close"
-        }),
+        Op::Close { context } => close_value(alloc, group, now, *context),
         Op::Read { command } => {
             let command = command_name(directory, group, step.group, *command);
-            json!(in alloc; {"command": command, "group": group, "now": now, "op": "read"})
+            read_value(alloc, group, now, command)
         }
     }
 }
 
 /// The object that says a submit.
-fn submit_value(
+fn submit_value<'x>(
+    alloc: Global,
+    group: &'x str,
+    now: Moment,
+    command: &'x str,
+    request: &'x Request,
+) -> Result<Value, AllocError>
+    ensures data { IfOk result (λ v. view v ≡ submit_data group.now now command.now request.now request.now.cache) }
+    ensures short { IfOk result (λ _. is_short (op.Submit request.now) ≡ true) }
+{
+    let arg = Member::Text("arg", request.arg.as_str());
+    let command = Member::Text("command", command);
+    let group = Member::Text("group", group);
+    let now = Member::Number("now", now);
+    let word = Member::Text("op", "submit");
+    match &request.cache {
+        Some((context, key)) => {
+            let context = Member::Number("context", *context);
+            let key = Member::Text("key", key.as_str());
+            object_of(alloc, &[arg, command, context, group, key, now, word])
+        }
+        None => object_of(alloc, &[arg, command, group, now, word]),
+    }
+}
+
+/// The object that says an operation which is its word alone.
+fn word_value<'x>(
+    alloc: Global,
+    group: &'x str,
+    now: Moment,
+    word: &'x str,
+) -> Result<Value, AllocError>
+    ensures { IfOk result (λ v. view v ≡ word_data group.now now word.now) }
+{
+    object_of(
+        alloc,
+        &[
+            Member::Text("group", group),
+            Member::Number("now", now),
+            Member::Text("op", word),
+        ],
+    )
+}
+
+/// The object that says that a run gave this body.
+fn finish_value<'x>(
+    alloc: Global,
+    group: &'x str,
+    now: Moment,
+    ticket: u64,
+    body: &'x str,
+) -> Result<Value, AllocError>
+    ensures { IfOk result (λ v. view v ≡ finish_data group.now now ticket body.now) }
+{
+    object_of(
+        alloc,
+        &[
+            Member::Text("body", body),
+            Member::Text("group", group),
+            Member::Number("now", now),
+            Member::Text("op", "finish"),
+            Member::Number("ticket", ticket),
+        ],
+    )
+}
+
+/// The object that says that a run failed, or that the request was bad.
+fn fail_value(
     alloc: Global,
     group: &str,
     now: Moment,
-    command: &str,
-    request: &Request,
-) -> Result<Value, AllocError> {
-    let arg = request.arg.as_str();
-    match &request.cache {
-        Some((context, key)) => json!(in alloc; {
-            "arg": arg, "command": command, "context": *context, "group": group, "key": key.as_str(),
-            "now": now, "op": "submit"
-        }),
-        None => json!(in alloc; {
-            "arg": arg, "command": command, "group": group, "now": now, "op": "submit"
-        }),
-    }
+    ticket: u64,
+    bad: bool,
+) -> Result<Value, AllocError>
+    ensures { IfOk result (λ v. view v ≡ fail_data group.now now ticket bad) }
+{
+    object_of(
+        alloc,
+        &[
+            Member::Truth("bad", bad),
+            Member::Text("group", group),
+            Member::Number("now", now),
+            Member::Text("op", "fail"),
+            Member::Number("ticket", ticket),
+        ],
+    )
+}
+
+/// The object that says that an answer is asked for.
+fn collect_value(
+    alloc: Global,
+    group: &str,
+    now: Moment,
+    ticket: u64,
+) -> Result<Value, AllocError>
+    ensures { IfOk result (λ v. view v ≡ collect_data group.now now ticket) }
+{
+    object_of(
+        alloc,
+        &[
+            Member::Text("group", group),
+            Member::Number("now", now),
+            Member::Text("op", "collect"),
+            Member::Number("ticket", ticket),
+        ],
+    )
 }
 
 /// The object that says how a fallback ended.
@@ -122,17 +248,98 @@ fn fallback_value(
     now: Moment,
     ticket: u64,
     end: &FallbackEnd,
-) -> Result<Value, AllocError> {
+) -> Result<Value, AllocError>
+    ensures data { IfOk result (λ v. view v ≡ fallback_data group.now now ticket end.now) }
+    ensures short { IfOk result (λ _. is_short_end end.now ≡ true) }
+{
     match end {
-        FallbackEnd::Success(body) => json!(in alloc; {
-            "body": body.as_str(), "end": "success", "group": group, "now": now, "op": "fallback",
-            "ticket": ticket
-        }),
-        FallbackEnd::Failure => json!(in alloc; {
-            "end": "failure", "group": group, "now": now, "op": "fallback", "ticket": ticket
-        }),
-        FallbackEnd::Missing => json!(in alloc; {
-            "end": "missing", "group": group, "now": now, "op": "fallback", "ticket": ticket
-        }),
+        FallbackEnd::Success(body) => success_value(alloc, group, now, ticket, body.as_str()),
+        FallbackEnd::Failure => end_value(alloc, group, now, ticket, "failure"),
+        FallbackEnd::Missing => end_value(alloc, group, now, ticket, "missing"),
     }
+}
+
+/// The object that says that a fallback gave this body.
+fn success_value<'x>(
+    alloc: Global,
+    group: &'x str,
+    now: Moment,
+    ticket: u64,
+    body: &'x str,
+) -> Result<Value, AllocError>
+    ensures { IfOk result (λ v. view v ≡ fallback_data group.now now ticket (ends.Success body.now)) }
+{
+    object_of(
+        alloc,
+        &[
+            Member::Text("body", body),
+            Member::Text("end", "success"),
+            Member::Text("group", group),
+            Member::Number("now", now),
+            Member::Text("op", "fallback"),
+            Member::Number("ticket", ticket),
+        ],
+    )
+}
+
+/// The object that says that a fallback gave nothing, by the word of its end.
+fn end_value<'x>(
+    alloc: Global,
+    group: &'x str,
+    now: Moment,
+    ticket: u64,
+    end: &'x str,
+) -> Result<Value, AllocError>
+    ensures { IfOk result (λ v. view v ≡ no_value_data group.now now ticket end.now) }
+{
+    object_of(
+        alloc,
+        &[
+            Member::Text("end", end),
+            Member::Text("group", group),
+            Member::Number("now", now),
+            Member::Text("op", "fallback"),
+            Member::Number("ticket", ticket),
+        ],
+    )
+}
+
+/// The object that says that a request context ends.
+fn close_value(
+    alloc: Global,
+    group: &str,
+    now: Moment,
+    context: u64,
+) -> Result<Value, AllocError>
+    ensures { IfOk result (λ v. view v ≡ close_data group.now now context) }
+{
+    object_of(
+        alloc,
+        &[
+            Member::Number("context", context),
+            Member::Text("group", group),
+            Member::Number("now", now),
+            Member::Text("op", "close"),
+        ],
+    )
+}
+
+/// The object that says that the metrics of the command are asked for.
+fn read_value<'x>(
+    alloc: Global,
+    group: &'x str,
+    now: Moment,
+    command: &'x str,
+) -> Result<Value, AllocError>
+    ensures { IfOk result (λ v. view v ≡ read_data group.now now command.now) }
+{
+    object_of(
+        alloc,
+        &[
+            Member::Text("command", command),
+            Member::Text("group", group),
+            Member::Number("now", now),
+            Member::Text("op", "read"),
+        ],
+    )
 }

@@ -1,0 +1,137 @@
+-- What the line of a step says.
+use Rattle.std.proofs.Common.{◌≡◌, ◌≤◌, ◌∙◌, ℕ, List, false, true, Option, None, Some, IfSome, Result, Ok, Err, OnOk, refl, ap, lit≤, unwrap_or}
+use Rattle.std.specs.declared.alloc.AllocError.{AllocError}
+use Rattle.serde_json.specs.Data.{Data, depth}
+use Rattle.serde_json.specs.Read.{max_depth, read}
+use Rattle.serde_json.specs.Written.{compact_text, has_float}
+use Rattle.bh_base.specs.declared.step.FallbackEnd.{FallbackEnd}
+use Rattle.bh_base.specs.declared.step.FallbackEnd.TheVariants as ends
+use Rattle.bh_base.specs.declared.step.GroupId.{GroupId}
+use Rattle.bh_base.specs.declared.step.Op.{Op}
+use Rattle.bh_base.specs.declared.step.Op.TheVariants as op
+use Rattle.bh_base.specs.declared.step.Request.{Request}
+use Rattle.bh_base.specs.declared.step.Step.{Step}
+use Rattle.bh_lines.specs.Names.{Names}
+use Rattle.bh_lines.specs.ScriptLine.{a_step, asked_at, asked_in, line_asked}
+use Rattle.bh_lines.specs.StepLine.{if_short, is_short, of_command}
+use Rattle.bh_sharing.specs.StepText.{SaysEnd, SaysStep, command_said, end_data, fallback_data, op_data, step_data, command_of_op, name_of_command, submit_data}
+
+-- no line of a step has a float
+submit-floatless : (group : List ℕ) (now : ℕ) (command : List ℕ) (r : Request) (cache : Option (ℕ × List ℕ)) → has_float (submit_data group now command r cache) ≡ false
+submit-floatless group now command r None = refl
+submit-floatless group now command r (Some cache) = refl
+
+fallback-floatless : (group : List ℕ) (now ticket : ℕ) (end : FallbackEnd) → has_float (fallback_data group now ticket end) ≡ false
+fallback-floatless group now ticket (ends.Success body) = refl
+fallback-floatless group now ticket ends.Failure = refl
+fallback-floatless group now ticket ends.Missing = refl
+
+op-floatless : (names : Names) (number : ℕ) (group : List ℕ) (now : ℕ) (o : Op) → has_float (op_data names number group now o) ≡ false
+op-floatless names number group now (op.Submit r) = submit-floatless group now _ r r.cache
+op-floatless names number group now op.Start = refl
+op-floatless names number group now (op.Finish ticket body) = refl
+op-floatless names number group now (op.Fail ticket bad) = refl
+op-floatless names number group now op.Expire = refl
+op-floatless names number group now (op.Collect ticket) = refl
+op-floatless names number group now (op.FallbackDone ticket end) = fallback-floatless group now ticket end
+op-floatless names number group now (op.Close context) = refl
+op-floatless names number group now (op.Read command) = refl
+
+pub step-floatless : (names : Names) (group : List ℕ) (step : Step) → has_float (step_data names group step) ≡ false
+step-floatless names group step = op-floatless names step.group.0 group step.now step.op
+
+-- nor nests deep
+submit-flat : (group : List ℕ) (now : ℕ) (command : List ℕ) (r : Request) (cache : Option (ℕ × List ℕ)) → depth (submit_data group now command r cache) ≤ max_depth
+submit-flat group now command r None = lit≤ tt
+submit-flat group now command r (Some cache) = lit≤ tt
+
+fallback-flat : (group : List ℕ) (now ticket : ℕ) (end : FallbackEnd) → depth (fallback_data group now ticket end) ≤ max_depth
+fallback-flat group now ticket (ends.Success body) = lit≤ tt
+fallback-flat group now ticket ends.Failure = lit≤ tt
+fallback-flat group now ticket ends.Missing = lit≤ tt
+
+op-flat : (names : Names) (number : ℕ) (group : List ℕ) (now : ℕ) (o : Op) → depth (op_data names number group now o) ≤ max_depth
+op-flat names number group now (op.Submit r) = submit-flat group now _ r r.cache
+op-flat names number group now op.Start = lit≤ tt
+op-flat names number group now (op.Finish ticket body) = lit≤ tt
+op-flat names number group now (op.Fail ticket bad) = lit≤ tt
+op-flat names number group now op.Expire = lit≤ tt
+op-flat names number group now (op.Collect ticket) = lit≤ tt
+op-flat names number group now (op.FallbackDone ticket end) = fallback-flat group now ticket end
+op-flat names number group now (op.Close context) = lit≤ tt
+op-flat names number group now (op.Read command) = lit≤ tt
+
+pub step-flat : (names : Names) (group : List ℕ) (step : Step) → depth (step_data names group step) ≤ max_depth
+step-flat names group step = op-flat names step.group.0 group step.now step.op
+
+-- its object asks for the step
+submit-asks : (names : Names) (number : ℕ) (group : List ℕ) (now : ℕ) (r : Request) (cache : Option (ℕ × List ℕ)) → r.cache ≡ cache
+    → asked_at (submit_data group now (name_of_command names number group r.command) r cache)
+    ≡ Ok (a_step (record { group = group; now = now; command = Some (name_of_command names number group r.command); op = op.Submit (record { command = 0; cache = cache; arg = r.arg }) }))
+submit-asks names number group now r None is = refl
+submit-asks names number group now r (Some cache) is = refl
+
+fallback-asks : (group : List ℕ) (now ticket : ℕ) (end : FallbackEnd)
+    → asked_at (fallback_data group now ticket end) ≡ Ok (a_step (record { group = group; now = now; command = None; op = op.FallbackDone ticket end }))
+fallback-asks group now ticket (ends.Success body) = refl
+fallback-asks group now ticket ends.Failure = refl
+fallback-asks group now ticket ends.Missing = refl
+
+op-asks : (names : Names) (number : ℕ) (group : List ℕ) (now : ℕ) (o : Op)
+    → asked_at (op_data names number group now o) ≡ Ok (a_step (record { group = group; now = now; command = command_said names number group o; op = of_command 0 o }))
+op-asks names number group now (op.Submit r) = submit-asks names number group now r r.cache refl
+op-asks names number group now op.Start = refl
+op-asks names number group now (op.Finish ticket body) = refl
+op-asks names number group now (op.Fail ticket bad) = refl
+op-asks names number group now op.Expire = refl
+op-asks names number group now (op.Collect ticket) = refl
+op-asks names number group now (op.FallbackDone ticket end) = fallback-asks group now ticket end
+op-asks names number group now (op.Close context) = refl
+op-asks names number group now (op.Read command) = refl
+
+-- with the number of its command it is the operation itself
+is-op : (o : Op) → of_command (unwrap_or (command_of_op o) 0) (of_command 0 o) ≡ o
+is-op (op.Submit r) = refl
+is-op op.Start = refl
+is-op (op.Finish ticket body) = refl
+is-op (op.Fail ticket bad) = refl
+is-op op.Expire = refl
+is-op (op.Collect ticket) = refl
+is-op (op.FallbackDone ticket end) = refl
+is-op (op.Close context) = refl
+is-op (op.Read command) = refl
+
+short-own : (o : Op) → is_short (of_command 0 o) ≡ is_short o
+short-own (op.Submit r) = refl
+short-own op.Start = refl
+short-own (op.Finish ticket body) = refl
+short-own (op.Fail ticket bad) = refl
+short-own op.Expire = refl
+short-own (op.Collect ticket) = refl
+short-own (op.FallbackDone ticket end) = refl
+short-own (op.Close context) = refl
+short-own (op.Read command) = refl
+
+pub says-step : (names : Names) (step : Step) (group : List ℕ) → is_short step.op ≡ true → read (compact_text (step_data names group step)) ≡ Some (step_data names group step) → SaysStep names step group
+unfolding line_asked
+says-step names step group short reads = (
+  ap asked_in reads ∙ op-asks names step.group.0 group step.now step.op,
+  rw (short-own step.op ∙ short) (ap Ok (is-op step.op)),
+)
+
+pub end-asks : (group : List ℕ) (now : ℕ) → read (compact_text (end_data group now)) ≡ Some (end_data group now) → SaysEnd now group
+unfolding line_asked
+end-asks group now reads = ap asked_in reads
+
+-- where its line was put
+pub put-says : (result : Result (Unit {0}) AllocError) (names : Names) (step : Step) (found : Option (List ℕ)) (group : List ℕ) (d : Data)
+    → Some group ≡ found → d ≡ step_data names group step → is_short step.op ≡ true → OnOk result (read (compact_text d) ≡ Some d) → OnOk result (IfSome found (SaysStep names step))
+put-says (Ok x) names step found group d there is short reads =
+    rw (← there) (says-step names step group short (rw is at reads))
+put-says (Err refused) names step found group d there is short reads = tt
+
+pub put-says-end : (result : Result (Unit {0}) AllocError) (now : ℕ) (found : Option (List ℕ)) (group : List ℕ) (d : Data)
+    → Some group ≡ found → d ≡ end_data group now → OnOk result (read (compact_text d) ≡ Some d) → OnOk result (IfSome found (SaysEnd now))
+put-says-end (Ok x) now found group d there is reads =
+    rw (← there) (end-asks group now (rw is at reads))
+put-says-end (Err refused) now found group d there is reads = tt
