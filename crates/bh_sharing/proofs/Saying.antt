@@ -6,14 +6,13 @@ use Rattle.serde_json.specs.Read.{max_depth, read}
 use Rattle.serde_json.specs.Written.{compact_text, has_float}
 use Rattle.bh_base.specs.declared.step.FallbackEnd.{FallbackEnd}
 use Rattle.bh_base.specs.declared.step.FallbackEnd.TheVariants as ends
-use Rattle.bh_base.specs.declared.step.GroupId.{GroupId}
 use Rattle.bh_base.specs.declared.step.Op.{Op}
 use Rattle.bh_base.specs.declared.step.Op.TheVariants as op
 use Rattle.bh_base.specs.declared.step.Request.{Request}
 use Rattle.bh_base.specs.declared.step.Step.{Step}
 use Rattle.bh_lines.specs.Names.{Names}
 use Rattle.bh_lines.specs.ScriptLine.{a_step, asked_at, asked_in, line_asked}
-use Rattle.bh_lines.specs.StepLine.{if_short, is_short, of_command}
+use Rattle.bh_lines.specs.StepLine.{is_short, of_command}
 use Rattle.bh_sharing.specs.StepText.{SaysEnd, SaysStep, command_said, end_data, fallback_data, op_data, step_data, command_of_op, name_of_command, submit_data}
 
 -- no line of a step has a float

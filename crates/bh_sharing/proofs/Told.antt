@@ -1,5 +1,5 @@
 -- What one turn tells a connection.
-use Rattle.std.proofs.Common.{◌≡◌, ◌⊎◌, ℕ, List, [], ◌∷◌, ◌++◌, Bool, true, false, Option, None, Some, IfSome, Result, Ok, Err, refl, sym, ◌∙◌, subst, ap, inl, inr}
+use Rattle.std.proofs.Common.{◌≡◌, ℕ, List, ◌++◌, Bool, true, Option, None, Some, IfSome, Result, Ok, Err, refl, inl, inr}
 use Rattle.std.specs.declared.alloc.AllocError.{AllocError}
 use Rattle.bh_base.specs.declared.step.GroupId.{GroupId}
 use Rattle.bh_base.specs.declared.step.Op.{Op}
@@ -9,7 +9,7 @@ use Rattle.bh_desk.specs.Turns.{IsTurn as IsDeskTurn, IsWaited}
 use Rattle.bh_lease.specs.Leases.{LeasesView}
 use Rattle.bh_lines.specs.Names.{Names}
 use Rattle.bh_share.specs.declared.share_line.ShareLine.TheVariants as lines
-use Rattle.bh_sharing.specs.Client.{ClientView, IsTurn, MayTell, gone_line}
+use Rattle.bh_sharing.specs.Client.{ClientView, MayTell, gone_line}
 use Rattle.bh_sharing.specs.Locked.{IsGivenBackAt, IsTurnAt, LockedView}
 use Rattle.bh_sharing.specs.Shared.{IsReturned, IsShared}
 

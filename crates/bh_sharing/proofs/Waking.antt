@@ -1,5 +1,5 @@
 -- Which connections are told to look again.
-use Rattle.std.proofs.Common.{◌≡◌, ◌≢◌, ◌∙◌, ◌⊎◌, ◌+◌, ◌^◌, ◌/◌, ◌*◌, ◌%◌, ◌<◌, ◌≤◌, ℕ, Bool, true, false, ◌&&◌, ◌||◌, ◌==◌, not, List, length, take, max, slice_get, slice_index_or, Option, None, Some, refl, ap, sym, subst, inl, inr, arith, w64}
+use Rattle.std.proofs.Common.{◌≡◌, ◌≢◌, ◌∙◌, ◌⊎◌, ◌+◌, ◌^◌, ◌/◌, ◌*◌, ◌%◌, ◌<◌, ◌≤◌, ℕ, Bool, true, false, ◌&&◌, ◌||◌, ◌==◌, not, List, length, take, max, slice_get, slice_index_or, Option, None, refl, ap, sym, inl, inr, arith, w64}
 use Rattle.std.specs.Prelude.{bit_and, bit_or, nat_lt}
 use Rattle.std.specs.Int.{bit_at}
 use Rattle.std.specs.List.{list_any}
@@ -106,6 +106,7 @@ first-more p numbers with i passes first is = λ k. elim (shown (k == i)) [
     or_and : (n c r : Bool) → n ≡ (c && r) → (n || (c && true)) ≡ (c && true)
     or_and n true r h = or_true n
     or_and n false r h = rw h refl
+
     next : (k i : ℕ) → k ≢ i → nat_lt k i ≡ nat_lt k (i + 1)
     next k i h = grind (arith, nat_tests)
 
@@ -130,7 +131,7 @@ first-all p numbers n beyond first = λ k. elim (shown (nat_lt k n)) [
     above k n h = grind (arith, nat_tests)
 
 none_beyond : {X : Type 0} (xs : List X) (k : ℕ) → length xs ≤ k → slice_get xs k ≡ None
-none_beyond xs k h = elim (slice_get_cases xs k).1 [ | inl w ↦ absurd (omega (arith, w.1, h)) | inr w ↦ w.1 ]
+none_beyond xs k h = elim (slice_get_cases xs k).1 [ inl w ↦ absurd (omega (arith, w.1, h)) | inr w ↦ w.1 ]
 
 -- who is told, whatever the group
 pub anyhow-at : (groups : CoreView) (places : List (Option Waiter)) (i : ℕ) (d : Option Waiter) (b : Bool) → i < length places → b ≡ is_ready groups (slice_index_or places i d) → is_told_anyhow groups places i ≡ b

@@ -1,5 +1,5 @@
 -- The line of a script that says a step.
-use Rattle.std.specs.Prelude.{◌≡◌, ℕ, List, [], codes, Bool, true, Option, None, Some, Ok, IfSome, slice_get, unwrap_or}
+use Rattle.std.specs.Prelude.{◌≡◌, ℕ, List, [], codes, Bool, true, Option, None, Some, Ok, slice_get, unwrap_or}
 use Rattle.std.specs.Option.{option_map_or}
 use Rattle.serde_json.specs.Data.{Data, Members, boolean, member, no_members, object}
 use Rattle.serde_json.specs.Written.{compact_text}

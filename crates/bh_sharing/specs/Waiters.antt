@@ -1,5 +1,5 @@
 -- Which connections wait for what, and which of them are to look again.
-use Rattle.std.specs.Prelude.{ℕ, ◌==◌, Bool, true, false, ◌&&◌, not, nat_lt, List, take, Option, None, Some, is_some, option_and_then, option_map, slice_get, slice_set}
+use Rattle.std.specs.Prelude.{ℕ, ◌==◌, Bool, false, ◌&&◌, not, nat_lt, List, take, Option, None, Some, is_some, option_and_then, slice_get, slice_set}
 use Rattle.std.specs.Int.{bit_at}
 use Rattle.std.specs.List.{list_any}
 use Rattle.std.specs.Option.{option_map_or}

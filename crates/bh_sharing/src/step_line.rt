@@ -11,9 +11,9 @@ ghost use Rattle.bh_lines.specs.StepLine.{is_short, is_short_end};
 ghost use Rattle.bh_replies.specs.ReplyLine.{json_line};
 ghost use Rattle.bh_sharing.specs.StepText.{SaysEnd, SaysStep, close_data, collect_data, end_line, fail_data, fallback_data, finish_data, name_of_command, no_value_data, read_data, step_data, step_line, submit_data, word_data};
 
+use crate::line_object::{Member, object_of};
 use bh_base::{FallbackEnd, GroupId, Moment, Op, Request, Step};
 use bh_share::Directory;
-use crate::line_object::{Member, object_of};
 use serde_json::Value;
 use std::alloc::{AllocError, Global};
 
@@ -222,12 +222,7 @@ fn fail_value(
 }
 
 /// The object that says that an answer is asked for.
-fn collect_value(
-    alloc: Global,
-    group: &str,
-    now: Moment,
-    ticket: u64,
-) -> Result<Value, AllocError>
+fn collect_value(alloc: Global, group: &str, now: Moment, ticket: u64) -> Result<Value, AllocError>
     ensures { IfOk result (λ v. view v ≡ collect_data group.now now ticket) }
 {
     object_of(
@@ -305,12 +300,7 @@ fn end_value<'x>(
 }
 
 /// The object that says that a request context ends.
-fn close_value(
-    alloc: Global,
-    group: &str,
-    now: Moment,
-    context: u64,
-) -> Result<Value, AllocError>
+fn close_value(alloc: Global, group: &str, now: Moment, context: u64) -> Result<Value, AllocError>
     ensures { IfOk result (λ v. view v ≡ close_data group.now now context) }
 {
     object_of(

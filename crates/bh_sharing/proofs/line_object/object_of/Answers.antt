@@ -1,4 +1,4 @@
-use Rattle.std.proofs.Common.{◌∙◌, refl, sym, ap, arith}
+use Rattle.std.proofs.Common.{arith}
 use Rattle.bh_sharing.proofs.Listing.{each-next}
 use Rattle.bh_sharing.proofs.line_object.object_of.Goals as goal
 

@@ -1,5 +1,3 @@
-use Rattle.std.proofs.Common.{sym, subst, ◌≡◌, ℕ, false}
-use Rattle.bh_sharing.specs.Waiters.{has_number}
 use Rattle.bh_sharing.proofs.Waking.{in-zero}
 use Rattle.bh_sharing.proofs.waiters.Numbers.is_empty.Goals as goal
 

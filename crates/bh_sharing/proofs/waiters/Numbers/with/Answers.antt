@@ -1,4 +1,4 @@
-use Rattle.bh_sharing.proofs.Waking.{in-no_more, in-one_more}
+use Rattle.bh_sharing.proofs.Waking.{in-one_more}
 use Rattle.bh_sharing.proofs.waiters.Numbers.with.Goals as goal
 
 pub returns-then-number : goal.returns-then-number

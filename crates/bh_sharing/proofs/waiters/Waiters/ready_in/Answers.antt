@@ -12,7 +12,7 @@ loop-number-preserved c =
     let ready = rw same at c.is_ready_in-is_ready.ensures in
     let wants = rw same at c.wants_run-wants_run.ensures in
     let at = told-at c.args.core.now c.args.group c.args.self.now c.loop-number.number _ c.loop-number.has_run c.is_ready_in-is_ready.result c.wants_run-wants_run.result c.is_told_behind-is_told.result
-      within c.loop-number.invariant.run ready wants c.is_told_behind-is_told.ensures in
+    within c.loop-number.invariant.run ready wants c.is_told_behind-is_told.ensures in
     record {
       told = elim c.if-is_told.branch [
         | then-is_told w ↦ (subst P (sym w.ready-is) (first-more _ (has_number c.loop-number.ready) (has_number w.with-ready.result) c.loop-number.number (at ∙ w.if-is_told.true) c.loop-number.invariant.told w.with-ready.ensures))
