@@ -50,6 +50,11 @@ impl<'e, R: Wait + Clock> Ahead<'e, R> {
     pub fn fault(&self) -> Option<ConnectionFault> {
         self.inside.lock(self.rt).incoming.fault()
     }
+
+    /// Whether the client was seen to be gone while a line of it waited.
+    pub fn was_gone(&self) -> bool {
+        self.inside.lock(self.rt).gone
+    }
 }
 
 impl<R: Wait + Clock> Presence for Ahead<'_, R> {

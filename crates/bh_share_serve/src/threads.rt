@@ -1,5 +1,8 @@
 //! The threads of a service that is shared: a timer, and one for each connection that may be open at a time.
 
+ghost use Rattle.std.specs.Prelude.{◌≡◌};
+ghost use Rattle.bh_share_serve.specs.Ending.{end_unless_gone};
+
 use crate::ahead::Ahead;
 use crate::names::Names;
 use crate::recorder::Recorder;
@@ -29,6 +32,21 @@ const TICK: u64 = 5;
 
 /// How often a service that is stopped looks whether the lines that waited were answered, a millisecond apart.
 const QUIET_LOOKS: u32 = 100;
+
+/// How a connection ended: by the fault that a read or a write noted, where one did. That nothing more can be read from or
+/// written to a client which went away while a line of it waited is no fault.
+fn end_unless_gone(
+    outcome: Result<(), PortError>,
+    noted: Option<ConnectionFault>,
+    was_gone: bool,
+) -> Result<(), ConnectionFault>
+    ensures { result ≡ end_unless_gone outcome noted was_gone }
+{
+    match outcome {
+        Err(PortError::Read | PortError::Write) if was_gone => Ok(()),
+        _ => end_of(outcome, noted),
+    }
+}
 
 /// A service that runs: what each of its threads has at hand.
 #[derive(Drop)]
@@ -243,7 +261,8 @@ impl<'e, R: Threads + Wait + Clock + Sync, L: OpenListener<Stream = TcpStream> +
         let ahead = Ahead::new(self.rt, self.alloc, incoming);
         let mut output = Outgoing::new(self.rt, stream, self.acceptor);
         let outcome = self.attend(number, &ahead, &mut output);
-        end_of(outcome, ahead.fault().or(output.fault()))
+        let noted = ahead.fault().or(output.fault());
+        end_unless_gone(outcome, noted, ahead.was_gone())
     }
 
     /// Answers the lines of the input to the output, and gives back what the connection has then.
