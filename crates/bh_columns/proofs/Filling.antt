@@ -123,14 +123,18 @@ told_left moment told closed x y = at (is_no_tally told && not closed)
     trip true = refl
     trip false = least_left x.first_trip y.first_trip (Some moment)
 
+    last : (t : Bool) → greatest (if t then x.last_trip else greatest x.last_trip (Some moment)) y.last_trip ≡ (if t then greatest x.last_trip y.last_trip else greatest (greatest x.last_trip y.last_trip) (Some moment))
+    last true = refl
+    last false = greatest_left x.last_trip y.last_trip (Some moment)
+
     close : (t : Bool) → greatest (if t then greatest x.last_close (Some moment) else x.last_close) y.last_close ≡ (if t then greatest (greatest x.last_close y.last_close) (Some moment) else greatest x.last_close y.last_close)
     close true = greatest_left x.last_close y.last_close (Some moment)
     close false = refl
 
-    at : (t : Bool) → joined (if t then x else record x { tally = added x.tally told; first_trip = (if told.trips == 0 then x.first_trip else least x.first_trip (Some moment)); last_close = (if closed then greatest x.last_close (Some moment) else x.last_close) }) y
-        ≡ (if t then joined x y else record (joined x y) { tally = added (added x.tally y.tally) told; first_trip = (if told.trips == 0 then least x.first_trip y.first_trip else least (least x.first_trip y.first_trip) (Some moment)); last_close = (if closed then greatest (greatest x.last_close y.last_close) (Some moment) else greatest x.last_close y.last_close) })
+    at : (t : Bool) → joined (if t then x else record x { tally = added x.tally told; first_trip = (if told.trips == 0 then x.first_trip else least x.first_trip (Some moment)); last_trip = (if told.trips == 0 then x.last_trip else greatest x.last_trip (Some moment)); last_close = (if closed then greatest x.last_close (Some moment) else x.last_close) }) y
+        ≡ (if t then joined x y else record (joined x y) { tally = added (added x.tally y.tally) told; first_trip = (if told.trips == 0 then least x.first_trip y.first_trip else least (least x.first_trip y.first_trip) (Some moment)); last_trip = (if told.trips == 0 then greatest x.last_trip y.last_trip else greatest (greatest x.last_trip y.last_trip) (Some moment)); last_close = (if closed then greatest (greatest x.last_close y.last_close) (Some moment) else greatest x.last_close y.last_close) })
     at true = refl
-    at false = λ i. record (joined x y) { tally = added_left x.tally y.tally told i; first_trip = trip (told.trips == 0) i; last_close = close closed i }
+    at false = λ i. record (joined x y) { tally = added_left x.tally y.tally told i; first_trip = trip (told.trips == 0) i; last_trip = last (told.trips == 0) i; last_close = close closed i }
 
 told_right : (moment : ℕ) (told : Tally) (closed : Bool) (x y : Column) → joined x (with_told_at moment told closed y) ≡ with_told_at moment told closed (joined x y)
 told_right moment told closed x y = at (is_no_tally told && not closed)
@@ -139,14 +143,18 @@ told_right moment told closed x y = at (is_no_tally told && not closed)
     trip true = refl
     trip false = least_right x.first_trip y.first_trip (Some moment)
 
+    last : (t : Bool) → greatest x.last_trip (if t then y.last_trip else greatest y.last_trip (Some moment)) ≡ (if t then greatest x.last_trip y.last_trip else greatest (greatest x.last_trip y.last_trip) (Some moment))
+    last true = refl
+    last false = greatest_right x.last_trip y.last_trip (Some moment)
+
     close : (t : Bool) → greatest x.last_close (if t then greatest y.last_close (Some moment) else y.last_close) ≡ (if t then greatest (greatest x.last_close y.last_close) (Some moment) else greatest x.last_close y.last_close)
     close true = greatest_right x.last_close y.last_close (Some moment)
     close false = refl
 
-    at : (t : Bool) → joined x (if t then y else record y { tally = added y.tally told; first_trip = (if told.trips == 0 then y.first_trip else least y.first_trip (Some moment)); last_close = (if closed then greatest y.last_close (Some moment) else y.last_close) })
-        ≡ (if t then joined x y else record (joined x y) { tally = added (added x.tally y.tally) told; first_trip = (if told.trips == 0 then least x.first_trip y.first_trip else least (least x.first_trip y.first_trip) (Some moment)); last_close = (if closed then greatest (greatest x.last_close y.last_close) (Some moment) else greatest x.last_close y.last_close) })
+    at : (t : Bool) → joined x (if t then y else record y { tally = added y.tally told; first_trip = (if told.trips == 0 then y.first_trip else least y.first_trip (Some moment)); last_trip = (if told.trips == 0 then y.last_trip else greatest y.last_trip (Some moment)); last_close = (if closed then greatest y.last_close (Some moment) else y.last_close) })
+        ≡ (if t then joined x y else record (joined x y) { tally = added (added x.tally y.tally) told; first_trip = (if told.trips == 0 then least x.first_trip y.first_trip else least (least x.first_trip y.first_trip) (Some moment)); last_trip = (if told.trips == 0 then greatest x.last_trip y.last_trip else greatest (greatest x.last_trip y.last_trip) (Some moment)); last_close = (if closed then greatest (greatest x.last_close y.last_close) (Some moment) else greatest x.last_close y.last_close) })
     at true = refl
-    at false = λ i. record (joined x y) { tally = added_right x.tally y.tally told i; first_trip = trip (told.trips == 0) i; last_close = close closed i }
+    at false = λ i. record (joined x y) { tally = added_right x.tally y.tally told i; first_trip = trip (told.trips == 0) i; last_trip = last (told.trips == 0) i; last_close = close closed i }
 
 -- whether a moment lies in some, by where it is
 lies_in : (a b m : ℕ) → a ≤ m → m < b → lies a b m ≡ true
@@ -185,7 +193,7 @@ module _ (moment : ℕ) (told : Tally) (closed : Bool) where
   told_begins : (a b : ℕ) (c : Column) → (with_told_within a b moment told closed c).began ≡ c.began
   told_begins a b c = at (lies a b moment) (is_no_tally told && not closed)
     where
-      at : (t u : Bool) → (if t then (if u then c else record c { tally = added c.tally told; first_trip = (if told.trips == 0 then c.first_trip else least c.first_trip (Some moment)); last_close = (if closed then greatest c.last_close (Some moment) else c.last_close) }) else c).began ≡ c.began
+      at : (t u : Bool) → (if t then (if u then c else record c { tally = added c.tally told; first_trip = (if told.trips == 0 then c.first_trip else least c.first_trip (Some moment)); last_trip = (if told.trips == 0 then c.last_trip else greatest c.last_trip (Some moment)); last_close = (if closed then greatest c.last_close (Some moment) else c.last_close) }) else c).began ≡ c.began
       at false u = refl
       at true true = refl
       at true false = refl

@@ -28,12 +28,14 @@ filled_each old new w0 w1 fs gs R each step filled = λ p k panel lane at found.
     step p k one lane holds (filled p k was one from had)
 
 pub same_panel : (x : KeptPanel) → SamePanel x x
-same_panel x = record { lanes = each_same x.lanes.items (λ k lane next. SameStanding lane next) (λ k lane. same_standing lane); steps = refl }
+same_panel x = record { lanes = each_same x.lanes.items (λ k lane next. SameStanding lane next) (λ k lane. same_standing lane); steps = refl; group = refl; like = refl }
 
 pub panel_then : (x y z : KeptPanel) → SamePanel x y → SamePanel y z → SamePanel x z
 panel_then x y z one two = record {
   lanes = each_then x.lanes.items y.lanes.items z.lanes.items (λ k lane next. SameStanding lane next) (λ k lane next. SameStanding lane next) (λ k lane next. SameStanding lane next) (λ k a b c ab bc. standing_then a b c ab bc) one.lanes two.lanes;
   steps = two.steps ∙ one.steps;
+  group = two.group ∙ one.group;
+  like = two.like ∙ one.like;
 }
 
 pub panels_then : (a b c : List KeptPanel) → EachAt a b (λ p panel next. SamePanel panel next) → EachAt b c (λ p panel next. SamePanel panel next) → EachAt a c (λ p panel next. SamePanel panel next)
@@ -44,6 +46,8 @@ pub joined_panel : (x y : KeptPanel) → IsJoinedPanel x y → SamePanel x y
 joined_panel x y joined = record {
   lanes = each_weaker x.lanes.items y.lanes.items (λ k lane next. IsJoinedLane lane next) (λ k lane next. SameStanding lane next) (λ k a b ab. ab.standing) joined.lanes;
   steps = joined.steps;
+  group = joined.group;
+  like = joined.like;
 }
 
 pub joined_panels : (old new : List KeptPanel) (w0 w1 : ℕ) (fs : Fills) → w1 ≡ w0 * 10 → AreFills fs → EachAt old new (λ p panel next. IsJoinedPanel panel next) → AreFilled old w0 fs → AreFilled new w1 fs
@@ -104,11 +108,13 @@ made_filled old new from to width f each filled k lane at =
 
 -- room was made in one panel
 pub made_panels : (panels : List KeptPanel) (n from to : ℕ) (was next : KeptPanel) → slice_get panels n ≡ Some was → EachAt was.lanes.items next.lanes.items (λ k lane l. HasMadeRoom from to lane l) → next.steps ≡ was.steps
-    → EachAt panels (set panels n next) (λ p panel x. SamePanel panel x)
-made_panels panels n from to was next at each steps =
+    → next.group ≡ was.group → next.like ≡ was.like → EachAt panels (set panels n next) (λ p panel x. SamePanel panel x)
+made_panels panels n from to was next at each steps group like =
     let same : SamePanel was next = record {
       lanes = each_weaker was.lanes.items next.lanes.items (λ k lane l. HasMadeRoom from to lane l) (λ k lane l. SameStanding lane l) (λ k a b ab. ab.standing) each;
       steps = steps;
+      group = group;
+      like = like;
     } in
     each_one panels n was next (λ p panel x. SamePanel panel x) at same (λ k x differ. same_panel x)
 

@@ -35,8 +35,8 @@ bare_stay a b s c =
     bare_usage (nat_lt since until) (stay_within a b s) (with_time_from since until s.circuit c) ∙ bare_time (nat_lt since until) since (until - since) s.circuit c
 
 bare_told : (t u : Bool) (moment : ℕ) (told : Tally) (closed : Bool) (c : Column)
-    → bare (if t then (if u then c else record c { tally = added c.tally told; first_trip = (if told.trips == 0 then c.first_trip else least c.first_trip (Some moment)); last_close = (if closed then greatest c.last_close (Some moment) else c.last_close) }) else c)
-    ≡ (if t then (if u then bare c else record (bare c) { tally = added c.tally told; first_trip = (if told.trips == 0 then c.first_trip else least c.first_trip (Some moment)); last_close = (if closed then greatest c.last_close (Some moment) else c.last_close) }) else bare c)
+    → bare (if t then (if u then c else record c { tally = added c.tally told; first_trip = (if told.trips == 0 then c.first_trip else least c.first_trip (Some moment)); last_trip = (if told.trips == 0 then c.last_trip else greatest c.last_trip (Some moment)); last_close = (if closed then greatest c.last_close (Some moment) else c.last_close) }) else c)
+    ≡ (if t then (if u then bare c else record (bare c) { tally = added c.tally told; first_trip = (if told.trips == 0 then c.first_trip else least c.first_trip (Some moment)); last_trip = (if told.trips == 0 then c.last_trip else greatest c.last_trip (Some moment)); last_close = (if closed then greatest c.last_close (Some moment) else c.last_close) }) else bare c)
 bare_told false u moment told closed c = refl
 bare_told true true moment told closed c = refl
 bare_told true false moment told closed c = refl

@@ -17,8 +17,9 @@ use Rattle.bh_look.specs.Tallies.{no_tally}
 use Rattle.bh_look.specs.declared.lane.Lane.{Lane}
 use Rattle.bh_look.proofs.Adding.{set_here, set_other}
 use Rattle.bh_columns.specs.Columns.{told_of}
-use Rattle.bh_columns.specs.Filled.{AreFilled, Fills, HasRoomsFor, Stands, fills_with}
+use Rattle.bh_columns.specs.Filled.{AreFilled, Fills, HasRoomsFor, SamePanel, Stands, fills_with}
 use Rattle.bh_columns.specs.Panels.{EachAt, HasAdded, HasLooked, HasTold, SameStanding}
+use Rattle.bh_columns.specs.Placed.{IsStepped}
 use Rattle.bh_columns.specs.Spans.{Fill}
 use Rattle.bh_columns.specs.Steps.{added_fill, filled_with, when_of}
 use Rattle.bh_columns.specs.Tracks.{IsFilled}
@@ -26,8 +27,8 @@ use Rattle.bh_columns.specs.declared.lane.KeptLane.{KeptLane}
 use Rattle.bh_columns.specs.declared.lane.Touched.{Touched}
 use Rattle.bh_columns.specs.declared.panel.KeptPanel.{KeptPanel}
 use Rattle.bh_columns.specs.declared.panel.When.{When}
-use Rattle.bh_columns.proofs.Keeping.{filled_each}
-use Rattle.bh_columns.proofs.Lists.{each_back, each_same}
+use Rattle.bh_columns.proofs.Keeping.{filled_each, panel_then, same_panel}
+use Rattle.bh_columns.proofs.Lists.{each_back, each_one, each_same, each_then, each_weaker}
 
 -- the clock of a group goes on
 pub latest_rises : (s : State) (o : Op) (now : ℕ) → s.present.latest ≤ (step s o now).state.present.latest
@@ -121,3 +122,32 @@ module _ (panels : List KeptPanel) (n width : ℕ) (own m3 m4 m5 : KeptPanel) (w
           set_other (set panels n m4) n p m5 differ ∙ set_other panels n p m4 differ ∙ found,
           each_same panel.lanes.items (Goes p) (λ k lane filled. subst (λ f. IsFilled lane.track width f) (sym (ap (λ b. if b then filled_with from to v o now k (fs p k) else fs p k) (other_number p n differ))) filled),
         )
+
+-- ---- whose panel another one is
+
+-- one panel is another, of the same groups
+set_stepped : (panels : List KeptPanel) (n : ℕ) (was next : KeptPanel) → slice_get panels n ≡ Some was → next.group ≡ was.group → next.like ≡ was.like → EachAt panels (set panels n next) (λ p a b. IsStepped n p a b)
+set_stepped panels n was next at group like =
+    each_one panels n was next (λ p a b. IsStepped n p a b) at (record { group = group; like = like; other = λ differ. absurd (differ refl) }) (λ p x differ. record { group = refl; like = refl; other = λ _. same_panel x })
+
+stepped_then : (n : ℕ) (a b c : List KeptPanel) → EachAt a b (λ p x y. IsStepped n p x y) → EachAt b c (λ p x y. IsStepped n p x y) → EachAt a c (λ p x y. IsStepped n p x y)
+stepped_then n a b c one two = each_then a b c (λ p x y. IsStepped n p x y) (λ p x y. IsStepped n p x y) (λ p x y. IsStepped n p x y)
+    (λ p x y z xy yz. record { group = yz.group ∙ xy.group; like = yz.like ∙ xy.like; other = λ differ. panel_then x y z (xy.other differ) (yz.other differ) }) one two
+
+room_stepped : (n : ℕ) (a b : List KeptPanel) → EachAt a b (λ p x y. SamePanel x y) → EachAt a b (λ p x y. IsStepped n p x y)
+room_stepped n a b each = each_weaker a b (λ p x y. SamePanel x y) (λ p x y. IsStepped n p x y) (λ p x y xy. record { group = xy.group; like = xy.like; other = λ _. xy }) each
+
+-- a panel was written twice, then room was made, then it was written twice again
+pub all_stepped : (p0 p3 : List KeptPanel) (n : ℕ) (m0 m1 m2 m3 m4 m5 : KeptPanel) → slice_get p0 n ≡ Some m0 → m1.group ≡ m0.group → m1.like ≡ m0.like → m2.group ≡ m1.group → m2.like ≡ m1.like
+    → EachAt (set (set p0 n m1) n m2) p3 (λ p x y. SamePanel x y) → slice_get p3 n ≡ Some m3 → m4.group ≡ m3.group → m4.like ≡ m3.like → m5.group ≡ m4.group → m5.like ≡ m4.like
+    → EachAt p0 (set (set p3 n m4) n m5) (λ p x y. IsStepped n p x y)
+all_stepped p0 p3 n m0 m1 m2 m3 m4 m5 at0 g1 l1 g2 l2 room at3 g4 l4 g5 l5 =
+    let p1 = set p0 n m1 in
+    let p2 = set p1 n m2 in
+    let p4 = set p3 n m4 in
+    let at1 : slice_get p1 n ≡ Some m1 = set_here p0 n m1 (slice_get_within p0 n m0 at0) in
+    let at4 : slice_get p4 n ≡ Some m4 = set_here p3 n m4 (slice_get_within p3 n m3 at3) in
+    stepped_then n p0 p1 (set p4 n m5) (set_stepped p0 n m0 m1 at0 g1 l1)
+    (stepped_then n p1 p2 (set p4 n m5) (set_stepped p1 n m1 m2 at1 g2 l2)
+    (stepped_then n p2 p3 (set p4 n m5) (room_stepped n p2 p3 room)
+    (stepped_then n p3 p4 (set p4 n m5) (set_stepped p3 n m3 m4 at3 g4 l4) (set_stepped p4 n m4 m5 at4 g5 l5))))

@@ -19,7 +19,7 @@ no_usage = record { busy_ms = 0; queued_ms = 0; most = 0 }
 
 -- nothing so far
 abbrev pub no_column : Column
-no_column = record { tally = no_tally; closed_ms = 0; began = None; first_trip = None; last_close = None; usage = no_usage }
+no_column = record { tally = no_tally; closed_ms = 0; began = None; first_trip = None; last_trip = None; last_close = None; usage = no_usage }
 
 -- the one that is earlier, the first where both are of one moment
 abbrev pub earlier : Option Standing → Option Standing → Option Standing
@@ -43,13 +43,14 @@ greatest (Some a) (Some b) = Some (max a b)
 abbrev pub usage_added : Usage → Usage → Usage
 usage_added u w = record { busy_ms = sum_up_to u.busy_ms w.busy_ms; queued_ms = sum_up_to u.queued_ms w.queued_ms; most = max u.most w.most }
 
--- two columns as one: all adds up but the most at once, the first state, and the moments of the first trip and the last close
+-- two columns as one: all adds up but the most at once, the first state, and the moments of the first trip, the last one and the last close
 abbrev pub joined : Column → Column → Column
 joined c d = record {
   tally = added c.tally d.tally;
   closed_ms = sum_up_to c.closed_ms d.closed_ms;
   began = earlier c.began d.began;
   first_trip = least c.first_trip d.first_trip;
+  last_trip = greatest c.last_trip d.last_trip;
   last_close = greatest c.last_close d.last_close;
   usage = usage_added c.usage d.usage;
 }
@@ -110,6 +111,7 @@ abbrev pub with_told_at : ℕ → Tally → Bool → Column → Column
 with_told_at moment told closes c = if is_no_tally told && not closes then c else record c {
   tally = added c.tally told;
   first_trip = (if told.trips == 0 then c.first_trip else least c.first_trip (Some moment));
+  last_trip = (if told.trips == 0 then c.last_trip else greatest c.last_trip (Some moment));
   last_close = (if closes then greatest c.last_close (Some moment) else c.last_close);
 }
 

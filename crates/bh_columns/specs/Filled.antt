@@ -28,6 +28,8 @@ AreFilled panels width fs = (place command : ℕ) (panel : KeptPanel) (lane : Ke
 pub record SamePanel (old new : KeptPanel) : Type 0 where
   pub lanes : EachAt old.lanes.items new.lanes.items (λ k lane next. SameStanding lane next)
   pub steps : new.steps ≡ old.steps
+  pub group : new.group ≡ old.group
+  pub like : new.like ≡ old.like
 
 -- the panel has a lane for each command of the group in this view, with its circuit breaker
 pub record Stands (v : View) (panel : KeptPanel) : Type 0 where
@@ -43,6 +45,8 @@ fills_with from to place v o now fs p command = if p == place then filled_with f
 pub record IsJoinedPanel (old new : KeptPanel) : Type 0 where
   pub lanes : EachAt old.lanes.items new.lanes.items (λ k lane next. IsJoinedLane lane next)
   pub steps : new.steps ≡ old.steps
+  pub group : new.group ≡ old.group
+  pub like : new.like ≡ old.like
 
 -- each lane of the panel has room for what a step did
 abbrev pub HasRoomsFor : ℕ → When → KeptPanel → Type 0

@@ -39,6 +39,8 @@ pub struct Column {
     pub began: Option<Standing>,
     /// The moment of the first trip, where there was one.
     pub first_trip: Option<Moment>,
+    /// The moment of the last one.
+    pub last_trip: Option<Moment>,
     /// The moment at which the circuit breaker closed last, where it did.
     pub last_close: Option<Moment>,
     /// The runs of the command: those that are busy have its permits, where it is isolated by these.
@@ -77,6 +79,7 @@ impl Column {
             closed_ms: 0,
             began: None,
             first_trip: None,
+            last_trip: None,
             last_close: None,
             usage: Usage::new(),
         }
@@ -112,14 +115,15 @@ impl Column {
         self.tally.add(told);
         if told.trips != 0 {
             self.first_trip = least(self.first_trip, Some(moment));
+            self.last_trip = greatest(self.last_trip, Some(moment));
         }
         if closes {
             self.last_close = greatest(self.last_close, Some(moment));
         }
     }
 
-    /// With another column: all adds up but the most at once, the first state, and the moments of the first trip and the
-    /// last close.
+    /// With another column: all adds up but the most at once, the first state, and the moments of the first trip, the
+    /// last one and the last close.
     pub fn join(&mut self, other: &Column)
         ensures { self.new ≡ joined self.old other.now }
     {
@@ -127,6 +131,7 @@ impl Column {
         self.closed_ms = self.closed_ms.saturating_add(other.closed_ms);
         self.began = earlier(self.began, other.began);
         self.first_trip = least(self.first_trip, other.first_trip);
+        self.last_trip = greatest(self.last_trip, other.last_trip);
         self.last_close = greatest(self.last_close, other.last_close);
         self.usage.add(&other.usage);
     }

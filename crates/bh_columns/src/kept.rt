@@ -1,9 +1,19 @@
 //! The columns that are kept of all groups, and where.
 
-ghost use Rattle.std.specs.Prelude.{◌≡◌, ◌<◌, ◌≤◌, ℕ, length, slice_get, IfSome, OnOk, Some};
+ghost use Rattle.std.specs.Prelude.{◌≡◌, ◌<◌, ◌≤◌, ℕ, [], true, length, slice_get, IfOk, MatchOption, OnOk, Some};
+ghost use Rattle.std.specs.List.{AllByRecursion};
+ghost use Rattle.bh_props.specs.Shown.{settings_view};
+ghost use Rattle.bh_props.specs.SettingsView.{SettingsView};
+ghost use Rattle.bh_port.specs.declared.act.LineAct.TheVariants as act;
+ghost use Rattle.bh_port.specs.Course.{Course, new_course};
+ghost use Rattle.bh_port.specs.Text.{with_act};
 ghost use Rattle.bh_columns.specs.Filled.{AreFilled, AreFills, Fills, HasRoomsFor, IsJoinedPanel, SamePanel};
+ghost use Rattle.bh_columns.specs.Named.{NamedFills, no_fills};
 ghost use Rattle.bh_columns.specs.Panels.{EachAt};
+ghost use Rattle.bh_columns.specs.Placed.{IsBegunAt, IsPlaceFor, SameKept};
+ghost use Rattle.bh_columns.specs.Recorded.{HasNone, IsKept, IsPanelOf, keeps};
 ghost use Rattle.bh_columns.specs.declared.panel.KeptPanel.{KeptPanel};
+ghost use Rattle.bh_columns.specs.declared.selection.Selection.{Selection as SelectionView};
 
 use crate::grid::Grid;
 use crate::panel::{KeptPanel, When};
@@ -40,21 +50,30 @@ impl Kept {
         alloc: Global,
         settings: &Settings,
         selection: Selection,
-    ) -> Result<Kept, AllocError> {
-        let limit = selection.columns.clamp(2, MOST_COLUMNS) * JOINED;
-        let mut kept = Kept {
-            alloc,
-            selection,
-            places: Vec::with_capacity(alloc, settings.groups.len())?,
-            panels: Vec::new(alloc),
-            lanes: 0,
-            left_out: 0,
-            grid: Grid::new(limit),
-        };
+    ) -> Result<Kept, AllocError>
+        ensures { IfOk result (λ kept. IsKept (settings_view settings.now) selection kept (new_course (settings_view settings.now)) no_fills) }
+    {
+        let mut kept = Kept::none(alloc, selection);
         for (place, name) in settings.groups.keys().enumerate() {
             kept.add_group(settings, *name, place as u64)?;
         }
         Ok(kept)
+    }
+
+    /// Nothing, of no group.
+    fn none(alloc: Global, selection: Selection) -> Kept
+        ensures { (service : SettingsView) → IsKept service selection result (record { entries = []; steps = [] }) no_fills }
+    {
+        let limit = selection.columns.clamp(2, MOST_COLUMNS) * JOINED;
+        Kept {
+            alloc,
+            selection,
+            places: Vec::new(alloc),
+            panels: Vec::new(alloc),
+            lanes: 0,
+            left_out: 0,
+            grid: Grid::new(limit),
+        }
     }
 
     /// One group more, which has the name and the properties of the group of the settings at the place: its panel is that of
@@ -64,13 +83,12 @@ impl Kept {
         settings: &Settings,
         name: Text<32>,
         like: u64,
-    ) -> Result<(), AllocError> {
+    ) -> Result<(), AllocError>
+        ensures { OnOk result ((sel : SelectionView) (course : Course) (fills : NamedFills) → like < length (settings_view settings.now).groups → AllByRecursion (λ x. x.group.0 < length course.entries) course.steps
+            → IsKept (settings_view settings.now) sel self.old course fills → IsKept (settings_view settings.now) sel self.new (with_act (settings_view settings.now) course (act.Register name like)) fills) }
+    {
         let place = self.panel_for(settings, name, like)?;
-        if let Some(panel) = place {
-            if panel < self.panels.len() {
-                self.panels[panel].begin_life();
-            }
-        }
+        self.begin_life(place);
         self.places.push(place)?;
         Ok(())
     }
@@ -81,13 +99,28 @@ impl Kept {
         settings: &Settings,
         name: Text<32>,
         like: u64,
-    ) -> Result<Option<usize>, AllocError> {
+    ) -> Result<Option<usize>, AllocError>
+        ensures { IfOk result (λ place. IsPlaceFor (settings_view settings.now) name like self.old self.new place) }
+    {
         if !self.selection.keeps_group(&name) {
             return Ok(None);
         }
-        if let Some(place) = find_panel(self.panels.as_slice(), &name, like) {
-            return Ok(Some(place));
+        match find_panel(self.panels.as_slice(), &name, like) {
+            Some(place) => Ok(Some(place)),
+            None => self.new_panel(settings, name, like),
         }
+    }
+
+    /// The place of a new panel for such a group, unless it has to be left out for the number of lanes.
+    fn new_panel(
+        &mut self,
+        settings: &Settings,
+        name: Text<32>,
+        like: u64,
+    ) -> Result<Option<usize>, AllocError>
+        ensures { IfOk result (λ place. keeps self.old.selection name ≡ true → HasNone self.old.panels.items name like
+            → IsPlaceFor (settings_view settings.now) name like self.old self.new place) }
+    {
         let Some((_name, props)) = settings.groups.get_index(like as usize) else {
             return Ok(None);
         };
@@ -97,10 +130,26 @@ impl Kept {
             return Ok(None);
         }
         let place = self.panels.len();
-        self.panels
-            .push(KeptPanel::new(self.alloc, name, like, props)?)?;
+        let panel = KeptPanel::new(self.alloc, name, like, props)?;
+        self.panels.push(panel)?;
         self.lanes = lanes;
         Ok(Some(place))
+    }
+
+    /// Begins a life in the panel at the place, if there is one.
+    fn begin_life(&mut self, place: Option<usize>)
+        ensures panels { EachAt self.old.panels.items self.new.panels.items (λ p panel next. IsBegunAt place p panel next) }
+        ensures places { self.new.places ≡ self.old.places }
+        ensures selection { self.new.selection ≡ self.old.selection }
+        ensures grid { self.new.grid ≡ self.old.grid }
+        ensures left_out { self.new.left_out ≡ self.old.left_out }
+    {
+        let Some(panel) = place else {
+            return;
+        };
+        if panel < self.panels.len() {
+            self.panels[panel].begin_life();
+        }
     }
 
     /// Makes room in the panel for what a step at these moments did: where there would be too many columns, all are joined. It
@@ -113,6 +162,7 @@ impl Kept {
         ensures count { length self.new.panels.items ≡ length self.old.panels.items }
         ensures places { self.new.places ≡ self.old.places }
         ensures selection { self.new.selection ≡ self.old.selection }
+        ensures left_out { self.new.left_out ≡ self.old.left_out }
     {
         let since = when.since.max(when.from);
         let until = when.until();
@@ -127,6 +177,7 @@ impl Kept {
         ensures panels { EachAt self.old.panels.items self.new.panels.items (λ place panel next. SamePanel panel next) }
         ensures places { self.new.places ≡ self.old.places }
         ensures selection { self.new.selection ≡ self.old.selection }
+        ensures left_out { self.new.left_out ≡ self.old.left_out }
     {
         if since >= until {
             return;
@@ -145,6 +196,7 @@ impl Kept {
         ensures panels { EachAt self.old.panels.items self.new.panels.items (λ place panel next. SamePanel panel next) }
         ensures places { self.new.places ≡ self.old.places }
         ensures selection { self.new.selection ≡ self.old.selection }
+        ensures left_out { self.new.left_out ≡ self.old.left_out }
     {
         if !self.grid.widen() {
             return;
@@ -153,7 +205,9 @@ impl Kept {
     }
 
     /// Notes that the life of the group is over, which made a step.
-    pub fn end_life(&mut self, group: GroupId) {
+    pub fn end_life(&mut self, group: GroupId)
+        ensures { SameKept self.old self.new }
+    {
         if let Some(place) = self.place_of(group) {
             self.panels[place].end_life();
         }
@@ -161,9 +215,13 @@ impl Kept {
 
     /// The place of the panel of the group, if it is kept.
     pub fn place_of(&self, group: GroupId) -> Option<usize>
-        ensures { IfSome result (λ place. place < length self.now.panels.items) }
+        ensures { MatchOption result ((place : ℕ) → slice_get self.now.places.items group.0 ≡ Some (Some place) → length self.now.panels.items ≤ place)
+            (λ place. (slice_get self.now.places.items group.0 ≡ Some (Some place)) × (place < length self.now.panels.items)) }
     {
-        let place = (*self.places.get(group.0 as usize)?)?;
+        let place = match self.places.get(group.0 as usize) {
+            Some(place) => (*place)?,
+            None => return None,
+        };
         if place < self.panels.len() {
             Some(place)
         } else {
@@ -182,9 +240,12 @@ fn join_panels(panels: &mut [KeptPanel])
 }
 
 /// The place of the panel of the name and of the group of the settings at the place.
-fn find_panel(panels: &[KeptPanel], group: &Text<32>, like: u64) -> Option<usize> {
-    for (place, panel) in panels.iter().enumerate() {
-        if panel.like == like && panel.group == *group {
+fn find_panel(panels: &[KeptPanel], group: &Text<32>, like: u64) -> Option<usize>
+    ensures { MatchOption result (HasNone panels.now group.now like)
+        (λ place. (panel : KeptPanel) × (slice_get panels.now place ≡ Some panel) × IsPanelOf group.now like panel) }
+{
+    for place in 0..panels.len() {
+        if panels[place].is_of(group, like) {
             return Some(place);
         }
     }

@@ -8,6 +8,7 @@ ghost use Rattle.bh_core.specs.CoreView.{view_at};
 ghost use Rattle.bh_look.specs.declared.lane.Lane.{Lane};
 ghost use Rattle.bh_columns.specs.Columns.{told_of};
 ghost use Rattle.bh_columns.specs.Panels.{EachAt, FitsLanes, HasLooked, HasMadeRoom, HasNotedAt, HasSpent, IsJoinedLane, IsNewLife, is_touched, lane_stay};
+ghost use Rattle.bh_columns.specs.Placed.{IsEmptyLane};
 ghost use Rattle.bh_columns.specs.Steps.{closes, is_closed};
 
 use crate::column::told_of;
@@ -42,6 +43,20 @@ pub enum Touched {
 }
 
 impl KeptLane {
+    /// Nothing of a command, whose strategy is THREAD or not.
+    pub(crate) fn new(alloc: Global, pooled: bool) -> KeptLane
+        ensures pooled { result.pooled ≡ pooled }
+        ensures empty { IsEmptyLane result }
+    {
+        KeptLane {
+            pooled,
+            circuit: CircuitState::Closed,
+            busy: 0,
+            queued: 0,
+            track: Track::new(alloc),
+        }
+    }
+
     /// The time from the one moment on and before the other, in which nothing changes.
     pub fn stay(&self, since: Moment, until: Moment) -> Stay
         ensures { result ≡ lane_stay since until self.now }

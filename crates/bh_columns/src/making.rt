@@ -1,12 +1,21 @@
 //! One step, and what it did to the columns of its group's commands.
 
-ghost use Rattle.std.specs.Prelude.{◌≡◌, ◌==◌, ◌<◌, length, slice_get, None, OnOk, Some, if◌then◌else◌};
+ghost use Rattle.std.specs.Prelude.{◌≡◌, ◌==◌, ◌<◌, ℕ, All, is_some, length, slice_get, None, Ok, OnOk, Some, if◌then◌else◌};
 ghost use Rattle.bh_base.specs.Ranges.{IsInRange};
 ghost use Rattle.bh_base.specs.Runs.{State, View, view};
 ghost use Rattle.bh_base.specs.Seen.{view_after};
 ghost use Rattle.bh_core.specs.CoreView.{Shows, view_at};
+ghost use Rattle.bh_core.specs.Step.{IsStep};
+ghost use Rattle.bh_props.specs.SettingsView.{SettingsView};
+ghost use Rattle.bh_port.specs.declared.act.LineAct.TheVariants as act;
+ghost use Rattle.bh_port.specs.Entries.{entry_at};
 ghost use Rattle.bh_columns.specs.Filled.{AreFilled, AreFills, Fills, Stands, fills_with};
+ghost use Rattle.bh_columns.specs.Named.{KeptRun, run_said};
+ghost use Rattle.bh_columns.specs.Panels.{EachAt};
+ghost use Rattle.bh_columns.specs.Placed.{IsAsked, IsStepped};
+ghost use Rattle.bh_columns.specs.Recorded.{IsRecorded};
 ghost use Rattle.bh_columns.specs.declared.panel.KeptPanel.{KeptPanel};
+ghost use Rattle.bh_columns.specs.declared.selection.Selection.{Selection as SelectionView};
 
 use crate::kept::Kept;
 use crate::lane::Touched;
@@ -24,10 +33,15 @@ impl Kept {
         groups: &mut Groups,
         step: &Step,
         reply: &mut Reply,
-    ) -> Result<(), AllocError> {
+    ) -> Result<(), AllocError>
+        ensures { OnOk result ((service : SettingsView) (sel : SelectionView) (run : KeptRun) → All (λ group. IsInRange group.1) service.groups → IsAsked groups.old.entries (act.Step step.entry.now)
+            → IsRecorded service sel groups.old self.old run → IsRecorded service sel groups.new self.new (run_said service sel.from sel.to (Ok (act.Step step.entry.now)) run)) }
+    {
         match self.place_of(step.group) {
             Some(panel) => self.record_step(panel, groups, step, reply),
             None => {
+                // That each group that is there is registered is known where they are looked at.
+                let _core = groups.core();
                 groups.apply_to(step.group, step.now, &step.op, reply);
                 Ok(())
             }
@@ -44,6 +58,13 @@ impl Kept {
         reply: &mut Reply,
     ) -> Result<(), AllocError>
         requires { panel < length self.old.panels.items }
+        ensures step { IsStep groups.old.core step.entry.now reply.new groups.new.core }
+        ensures entries { groups.new.entries ≡ groups.old.entries }
+        ensures there { (number : ℕ) → is_some (view_at groups.old.core number) ≡ is_some (entry_at groups.old.entries number) }
+        ensures panels { OnOk result (EachAt self.old.panels.items self.new.panels.items (λ place own next. IsStepped panel place own next)) }
+        ensures places { self.new.places ≡ self.old.places }
+        ensures selection { self.new.selection ≡ self.old.selection }
+        ensures left_out { self.new.left_out ≡ self.old.left_out }
         ensures filled { OnOk result ((s : State) (fs : Fills) (own : KeptPanel) → Shows groups.old.core step.entry.now.group.0 s → IsInRange s.present.props → slice_get self.old.panels.items panel ≡ Some own → Stands (view s) own
             → AreFills fs → AreFilled self.old.panels.items self.old.grid.width fs
             → AreFilled self.new.panels.items self.new.grid.width (fills_with self.old.selection.from self.old.selection.to panel (view s) step.entry.now.op step.entry.now.now fs)

@@ -1,6 +1,6 @@
 //! What is kept of the groups that have one name and one kind of properties, one behind the other.
 
-ghost use Rattle.std.specs.Prelude.{◌≡◌, ◌+◌, ℕ, min, All, is_some, length, slice_get, OnOk, Some};
+ghost use Rattle.std.specs.Prelude.{◌≡◌, ◌+◌, ℕ, min, All, is_some, length, slice_get, false, true, IfOk, OnOk, Some};
 ghost use Rattle.bh_base.specs.Commands.{command_count};
 ghost use Rattle.bh_base.specs.Machine.{circuit_of};
 ghost use Rattle.bh_base.specs.Ranges.{IsInRange};
@@ -12,6 +12,8 @@ ghost use Rattle.bh_look.specs.declared.lane.Lane.{Lane};
 ghost use Rattle.bh_look.specs.Tallies.{no_tally};
 ghost use Rattle.bh_columns.specs.Columns.{told_of};
 ghost use Rattle.bh_columns.specs.Panels.{EachAt, FitsLanes, HasAdded, HasAddedTime, HasAddedTold, HasLooked, HasMadeRoom, HasNotedAt, HasSpent, HasTold, IsJoinedLane, IsNewLife};
+ghost use Rattle.bh_columns.specs.Placed.{IsEmptyPanel};
+ghost use Rattle.bh_columns.specs.Recorded.{IsPanelOf};
 ghost use Rattle.bh_columns.specs.Spans.{lies};
 ghost use Rattle.bh_columns.specs.Steps.{closes};
 
@@ -88,16 +90,16 @@ impl KeptPanel {
         group: Text<32>,
         like: u64,
         props: &GroupProps,
-    ) -> Result<KeptPanel, AllocError> {
+    ) -> Result<KeptPanel, AllocError>
+        ensures named { IfOk result (λ panel. IsPanelOf group like panel) }
+        ensures lanes { IfOk result (λ panel. length panel.lanes.items ≡ command_count props.now) }
+        ensures steps { IfOk result (λ panel. length panel.steps.items ≡ command_count props.now) }
+        ensures empty { IfOk result IsEmptyPanel }
+    {
         let mut lanes = Vec::with_capacity(alloc, props.commands.len())?;
-        for command in props.commands.iter() {
-            lanes.push(KeptLane {
-                pooled: command.strategy == Strategy::Thread,
-                circuit: CircuitState::Closed,
-                busy: 0,
-                queued: 0,
-                track: Track::new(alloc),
-            })?;
+        for number in 0..props.commands.len() {
+            let pooled = props.commands[number].strategy == Strategy::Thread;
+            lanes.push(KeptLane::new(alloc, pooled))?;
         }
         Ok(KeptPanel {
             group,
@@ -109,10 +111,20 @@ impl KeptPanel {
         })
     }
 
+    /// Whether it is that of the groups of the name which have the properties of the group of the settings at the place.
+    pub(crate) fn is_of(&self, group: &Text<32>, like: u64) -> bool
+        ensures own { result ≡ true → IsPanelOf group.now like self.now }
+        ensures other { result ≡ false → IsPanelOf group.now like self.now → ⊥ }
+    {
+        self.like == like && self.group == *group
+    }
+
     /// Begins a life: no run is under way, and each circuit breaker is closed.
     pub fn begin_life(&mut self)
         ensures lanes { EachAt self.old.lanes.items self.new.lanes.items (λ k lane next. IsNewLife lane next) }
         ensures steps { self.new.steps ≡ self.old.steps }
+        ensures group { self.new.group ≡ self.old.group }
+        ensures like { self.new.like ≡ self.old.like }
     {
         begin_all(&mut self.lanes);
     }
@@ -121,6 +133,8 @@ impl KeptPanel {
     pub fn note_life(&mut self, begun: bool, moment: Moment) -> Result<(), AllocError>
         ensures lanes { self.new.lanes ≡ self.old.lanes }
         ensures steps { self.new.steps ≡ self.old.steps }
+        ensures group { self.new.group ≡ self.old.group }
+        ensures like { self.new.like ≡ self.old.like }
     {
         if !begun {
             self.lives.push(Life {
@@ -140,6 +154,8 @@ impl KeptPanel {
     pub fn end_life(&mut self)
         ensures lanes { self.new.lanes ≡ self.old.lanes }
         ensures steps { self.new.steps ≡ self.old.steps }
+        ensures group { self.new.group ≡ self.old.group }
+        ensures like { self.new.like ≡ self.old.like }
     {
         if let Some(life) = self.lives.last_mut() {
             life.retired = true;
@@ -160,6 +176,8 @@ impl KeptPanel {
             → HasTold (view s) step.entry.now.op step.entry.now.now self.new.steps.items }
         ensures count { length self.new.steps.items ≡ length self.old.steps.items }
         ensures lanes { self.new.lanes ≡ self.old.lanes }
+        ensures group { self.new.group ≡ self.old.group }
+        ensures like { self.new.like ≡ self.old.like }
     {
         clear_all(&mut self.steps);
         make_step(groups, &mut self.steps, step, reply)
@@ -170,6 +188,8 @@ impl KeptPanel {
     pub fn make_room(&mut self, alloc: Global, from: u64, to: u64) -> Result<(), AllocError>
         ensures lanes { OnOk result (EachAt self.old.lanes.items self.new.lanes.items (λ k lane next. HasMadeRoom from to lane next)) }
         ensures steps { self.new.steps ≡ self.old.steps }
+        ensures group { self.new.group ≡ self.old.group }
+        ensures like { self.new.like ≡ self.old.like }
     {
         make_room_in_all(&mut self.lanes, alloc, from, to)?;
         self.pool.make_room(alloc, from, to)
@@ -179,6 +199,8 @@ impl KeptPanel {
     pub fn join(&mut self)
         ensures lanes { EachAt self.old.lanes.items self.new.lanes.items (λ k lane next. IsJoinedLane lane next) }
         ensures steps { self.new.steps ≡ self.old.steps }
+        ensures group { self.new.group ≡ self.old.group }
+        ensures like { self.new.like ≡ self.old.like }
     {
         join_all(&mut self.lanes);
         self.pool.join();
@@ -188,6 +210,8 @@ impl KeptPanel {
     pub fn spend(&mut self, reach: &Reach, since: Moment, until: Moment)
         ensures lanes { EachAt self.old.lanes.items self.new.lanes.items (λ k lane next. HasSpent reach.now since until lane next) }
         ensures steps { self.new.steps ≡ self.old.steps }
+        ensures group { self.new.group ≡ self.old.group }
+        ensures like { self.new.like ≡ self.old.like }
     {
         let pool = self.pool_stay(since, until);
         spend_all(&mut self.lanes, reach, since, until);
@@ -215,6 +239,8 @@ impl KeptPanel {
         ensures lanes { (v : View) → view_at core.now group.0 ≡ Some v → FitsLanes v self.old.lanes.items → length self.old.steps.items ≡ length self.old.lanes.items
             → EachAt self.old.lanes.items self.new.lanes.items (λ k lane next. (step : Lane) → slice_get self.old.steps.items k ≡ Some step → HasAdded grid.now.width when.now (told_of step.tally) (circuit_of k v.present).state lane next) }
         ensures steps { self.new.steps ≡ self.old.steps }
+        ensures group { self.new.group ≡ self.old.group }
+        ensures like { self.new.like ≡ self.old.like }
     {
         self.add_time(grid, when);
         self.add_told(grid, when, core, group);
@@ -224,6 +250,8 @@ impl KeptPanel {
     fn add_time(&mut self, grid: &Grid, when: &When)
         ensures lanes { EachAt self.old.lanes.items self.new.lanes.items (λ k lane next. HasAddedTime grid.now.width when.now lane next) }
         ensures steps { self.new.steps ≡ self.old.steps }
+        ensures group { self.new.group ≡ self.old.group }
+        ensures like { self.new.like ≡ self.old.like }
     {
         let since = when.since.max(when.from);
         let until = when.moment.min(when.to);
@@ -237,6 +265,8 @@ impl KeptPanel {
         ensures lanes { (v : View) → view_at core.now group.0 ≡ Some v → FitsLanes v self.old.lanes.items → length self.old.steps.items ≡ length self.old.lanes.items
             → EachAt self.old.lanes.items self.new.lanes.items (λ k lane next. (step : Lane) → slice_get self.old.steps.items k ≡ Some step → HasAddedTold grid.now.width when.now (told_of step.tally) (circuit_of k v.present).state lane next) }
         ensures steps { self.new.steps ≡ self.old.steps }
+        ensures group { self.new.group ≡ self.old.group }
+        ensures like { self.new.like ≡ self.old.like }
     {
         if when.is_kept() {
             self.note(core, group, grid.index(when.moment), when.moment);
@@ -248,6 +278,8 @@ impl KeptPanel {
         ensures lanes { (v : View) → view_at core.now group.0 ≡ Some v → FitsLanes v self.old.lanes.items → length self.old.steps.items ≡ length self.old.lanes.items
             → EachAt self.old.lanes.items self.new.lanes.items (λ k lane next. (step : Lane) → slice_get self.old.steps.items k ≡ Some step → HasNotedAt index moment (told_of step.tally) (closes lane.circuit (circuit_of k v.present).state) lane next) }
         ensures steps { self.new.steps ≡ self.old.steps }
+        ensures group { self.new.group ≡ self.old.group }
+        ensures like { self.new.like ≡ self.old.like }
     {
         note_all(
             &mut self.lanes,
@@ -264,6 +296,8 @@ impl KeptPanel {
         ensures lanes { (v : View) → view_at core.now group.0 ≡ Some v → FitsLanes v self.old.lanes.items
             → EachAt self.old.lanes.items self.new.lanes.items (λ k lane next. HasLooked v k touched lane next) }
         ensures steps { self.new.steps ≡ self.old.steps }
+        ensures group { self.new.group ≡ self.old.group }
+        ensures like { self.new.like ≡ self.old.like }
     {
         look_all(&mut self.lanes, core, group, now, touched);
     }

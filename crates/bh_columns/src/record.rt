@@ -1,11 +1,16 @@
 //! A run whose columns are kept.
 
-ghost use Rattle.std.specs.Prelude.{◌≡◌, ◌<◌, ◌≤◌, ◌+◌, ◌^◌, true, false, length, IfErr, IfOk, OnOk};
-ghost use Rattle.bh_lines.specs.Lines.{has_line};
+ghost use Rattle.std.specs.Prelude.{◌≡◌, ◌<◌, ◌≤◌, ◌+◌, ◌++◌, ◌^◌, ℕ, List, true, false, length, Err, IfErr, IfOk, IfSome, Ok, OnOk};
+ghost use Rattle.bh_lines.specs.Lines.{cut, has_line};
 ghost use Rattle.bh_lines.specs.Taken.{IsMemoryOrLine};
 ghost use Rattle.bh_props.specs.Shown.{settings_view};
-ghost use Rattle.bh_streams.specs.Watched.{reader_of, reads_of};
+ghost use Rattle.bh_streams.specs.Watched.{bytes_left, reader_of, reads_of};
+ghost use Rattle.bh_port.specs.declared.act.LineAct.TheVariants as act;
 ghost use Rattle.bh_port.specs.Course.{IsActOf};
+ghost use Rattle.bh_columns.specs.Named.{KeptRun, run_begun, run_said, run_with};
+ghost use Rattle.bh_columns.specs.Placed.{IsAsked};
+ghost use Rattle.bh_columns.specs.Recorded.{IsRecorded, RecordOutcome, RecordedUpTo};
+ghost use Rattle.bh_columns.specs.declared.selection.Selection.{Selection as SelectionView};
 
 use crate::kept::Kept;
 use crate::selection::Selection;
@@ -50,7 +55,10 @@ impl Recording {
         alloc: Global,
         settings: &Settings,
         selection: Selection,
-    ) -> Result<Recording, PortError> {
+    ) -> Result<Recording, PortError>
+        ensures recorded { IfOk result (λ recording. IsRecorded (settings_view settings.now) selection recording.groups recording.kept (run_begun (settings_view settings.now))) }
+        ensures err { IfErr result (λ e. e ≡ PortError.Memory) }
+    {
         Ok(Recording {
             alloc,
             groups: Groups::open(alloc, settings)?,
@@ -75,8 +83,12 @@ impl Recording {
 
     /// Does what each line of the buffer that has ended asks for. The buffer then begins behind the last of them.
     fn take_lines(&mut self, settings: &Settings, buffer: &mut BytesMut) -> Result<(), PortError>
+        ensures taken { OnOk result ((sel : SelectionView) (run : KeptRun) → IsRecorded (settings_view settings.now) sel self.old.groups self.old.kept run →
+            RecordedUpTo (settings_view settings.now) sel run self.new.groups self.new.kept buffer.old.items buffer.new.items) }
         ensures none_left { OnOk result (has_line buffer.new.items ≡ false) }
         ensures kinds { IfErr result IsMemoryOrLine }
+        ensures stopped { IfErr result (λ e. (sel : SelectionView) (run : KeptRun) (more : List ℕ) → IsRecorded (settings_view settings.now) sel self.old.groups self.old.kept run →
+            RecordOutcome (settings_view settings.now) sel run (cut (buffer.old.items ++ more)) self.new.groups self.new.kept (Err e)) }
     {
         while self.take_next(settings, buffer)? {}
         Ok(())
@@ -86,6 +98,8 @@ impl Recording {
     fn take_last(&mut self, settings: &Settings, rest: &mut BytesMut) -> Result<(), PortError>
         requires { has_line rest.old.items ≡ false }
         ensures kinds { IfErr result IsMemoryOrLine }
+        ensures outcome { (sel : SelectionView) (run : KeptRun) → IsRecorded (settings_view settings.now) sel self.old.groups self.old.kept run →
+            RecordOutcome (settings_view settings.now) sel run (cut rest.old.items) self.new.groups self.new.kept result }
     {
         let Some(line) = last_line(rest)? else {
             return Ok(());
@@ -96,9 +110,13 @@ impl Recording {
 
     /// Does what the line in front asks for, and says whether one had ended. The buffer then begins behind it.
     fn take_next(&mut self, settings: &Settings, buffer: &mut BytesMut) -> Result<bool, PortError>
+        ensures taken { OnOk result ((sel : SelectionView) (run : KeptRun) → IsRecorded (settings_view settings.now) sel self.old.groups self.old.kept run →
+            RecordedUpTo (settings_view settings.now) sel run self.new.groups self.new.kept buffer.old.items buffer.new.items) }
         ensures shorter { IfOk result (λ ended. ended ≡ true → length buffer.new.items < length buffer.old.items) }
         ensures none_left { IfOk result (λ ended. ended ≡ false → has_line buffer.new.items ≡ false) }
         ensures kinds { IfErr result IsMemoryOrLine }
+        ensures stopped { IfErr result (λ e. (sel : SelectionView) (run : KeptRun) (more : List ℕ) → IsRecorded (settings_view settings.now) sel self.old.groups self.old.kept run →
+            RecordOutcome (settings_view settings.now) sel run (cut (buffer.old.items ++ more)) self.new.groups self.new.kept (Err e)) }
     {
         let Some(line) = front_line(buffer.as_slice()) else {
             return self.take_cut(settings, buffer);
@@ -111,9 +129,13 @@ impl Recording {
 
     /// The same where no plain line stands in front.
     fn take_cut(&mut self, settings: &Settings, buffer: &mut BytesMut) -> Result<bool, PortError>
+        ensures taken { OnOk result ((sel : SelectionView) (run : KeptRun) → IsRecorded (settings_view settings.now) sel self.old.groups self.old.kept run →
+            RecordedUpTo (settings_view settings.now) sel run self.new.groups self.new.kept buffer.old.items buffer.new.items) }
         ensures shorter { IfOk result (λ ended. ended ≡ true → length buffer.new.items < length buffer.old.items) }
         ensures none_left { IfOk result (λ ended. ended ≡ false → has_line buffer.new.items ≡ false) }
         ensures kinds { IfErr result IsMemoryOrLine }
+        ensures stopped { IfErr result (λ e. (sel : SelectionView) (run : KeptRun) (more : List ℕ) → IsRecorded (settings_view settings.now) sel self.old.groups self.old.kept run →
+            RecordOutcome (settings_view settings.now) sel run (cut (buffer.old.items ++ more)) self.new.groups self.new.kept (Err e)) }
     {
         let Some(line) = next_line(buffer)? else {
             return Ok(false);
@@ -123,7 +145,10 @@ impl Recording {
     }
 
     /// Does what the line asks for, and counts a faulty one.
-    fn take_line(&mut self, settings: &Settings, line: &str) -> Result<(), AllocError> {
+    fn take_line(&mut self, settings: &Settings, line: &str) -> Result<(), AllocError>
+        ensures { OnOk result ((sel : SelectionView) (run : KeptRun) → IsRecorded (settings_view settings.now) sel self.old.groups self.old.kept run →
+            IsRecorded (settings_view settings.now) sel self.new.groups self.new.kept (run_with (settings_view settings.now) sel.from sel.to line.now run)) }
+    {
         let said = line_act(
             self.alloc,
             settings,
@@ -145,6 +170,8 @@ impl Recording {
     /// Does what the last line asked for.
     fn take_act(&mut self, settings: &Settings) -> Result<(), AllocError>
         requires { IsActOf (settings_view settings.now) self.old.groups.entries self.old.act }
+        ensures { OnOk result ((sel : SelectionView) (run : KeptRun) → IsRecorded (settings_view settings.now) sel self.old.groups self.old.kept run → IsAsked self.old.groups.entries self.old.act →
+            IsRecorded (settings_view settings.now) sel self.new.groups self.new.kept (run_said (settings_view settings.now) sel.from sel.to (Ok self.old.act) run)) }
     {
         match &self.act {
             LineAct::Step(step) => { self.kept.take_step(&mut self.groups, step, &mut self.reply) }
@@ -161,7 +188,10 @@ impl Recording {
 
     /// Registers the group that the last line named.
     fn register(&mut self, settings: &Settings, name: Text<32>, like: u64) -> Result<(), AllocError>
-        requires { IsActOf (settings_view settings.now) self.old.groups.entries self.old.act }
+        requires act { IsActOf (settings_view settings.now) self.old.groups.entries self.old.act }
+        requires own { self.old.act ≡ act.Register name like }
+        ensures { OnOk result ((sel : SelectionView) (run : KeptRun) → IsRecorded (settings_view settings.now) sel self.old.groups self.old.kept run → IsAsked self.old.groups.entries self.old.act →
+            IsRecorded (settings_view settings.now) sel self.new.groups self.new.kept (run_said (settings_view settings.now) sel.from sel.to (Ok self.old.act) run)) }
     {
         let Ok(_told) = self.groups.act(settings, &self.act) else {
             return Err(AllocError);
@@ -171,7 +201,10 @@ impl Recording {
 
     /// Retires the group that the last line named, unless it is in use.
     fn retire(&mut self, settings: &Settings, group: GroupId) -> Result<(), AllocError>
-        requires { IsActOf (settings_view settings.now) self.old.groups.entries self.old.act }
+        requires act { IsActOf (settings_view settings.now) self.old.groups.entries self.old.act }
+        requires own { self.old.act ≡ act.Retire group }
+        ensures { OnOk result ((sel : SelectionView) (run : KeptRun) → IsRecorded (settings_view settings.now) sel self.old.groups self.old.kept run → IsAsked self.old.groups.entries self.old.act →
+            IsRecorded (settings_view settings.now) sel self.new.groups self.new.kept (run_said (settings_view settings.now) sel.from sel.to (Ok self.old.act) run)) }
     {
         let begun = self.groups.core().steps(group) > 0;
         let Ok(_told) = self.groups.act(settings, &self.act) else {
@@ -197,6 +230,8 @@ pub fn record_script<R: Read>(
 ) -> Result<(), PortError>
     ensures reader { (reader_of reader.new).ghost_name ≡ (reader_of reader.old).ghost_name }
     ensures reads { reads_of reader.new ≤ reads_of reader.old + 2 ^ 40 }
+    ensures outcome { (sel : SelectionView) (run : KeptRun) → IsRecorded (settings_view settings.now) sel recording.old.groups recording.old.kept run → IfSome (bytes_left R.remaining reader.old) (λ input.
+        RecordOutcome (settings_view settings.now) sel run (cut input) recording.new.groups recording.new.kept result) }
 {
     let mut buffer = BytesMut::new(alloc);
     let mut piece = [0u8; READ_SIZE];

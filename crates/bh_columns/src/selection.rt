@@ -1,5 +1,10 @@
 //! What of a run is kept.
 
+ghost use Rattle.std.specs.Prelude.{◌≡◌};
+ghost use Rattle.std.specs.List.{list_any};
+ghost use Rattle.std.specs.Str.{bytes_eq};
+ghost use Rattle.bh_columns.specs.Recorded.{keeps};
+
 use bh_base::{Moment, Text};
 use std::alloc::Global;
 
@@ -32,15 +37,21 @@ impl Selection {
     }
 
     /// Whether groups of the name are kept.
-    pub fn keeps_group(&self, name: &Text<32>) -> bool {
-        if self.groups.is_empty() {
+    pub fn keeps_group(&self, name: &Text<32>) -> bool
+        ensures { result ≡ keeps self.now name.now }
+    {
+        self.groups.len() == 0 || is_among(self.groups.as_slice(), name)
+    }
+}
+
+/// Whether the name is one of these.
+fn is_among(names: &[Text<32>], name: &Text<32>) -> bool
+    ensures { result ≡ list_any (λ g. bytes_eq g name.now) names.now }
+{
+    for other in names {
+        if *other == *name {
             return true;
         }
-        for group in self.groups.iter() {
-            if group == name {
-                return true;
-            }
-        }
-        false
     }
+    false
 }

@@ -290,13 +290,21 @@ fn put_times(canvas: &mut Canvas, axis: Axis, lane: &Lane) -> Result<(), AllocEr
 /// The moment at which the circuit breaker closed, where it stayed closed.
 fn last_closing(lane: &Lane) -> Option<u64> {
     let moment = lane.total.last_close?;
-    if is_open_behind(lane.columns.as_slice(), moment) {
+    if trips_behind(&lane.total, moment) || is_open_behind(lane.columns.as_slice(), moment) {
         return None;
     }
     Some(moment)
 }
 
-/// Whether the circuit breaker opened again behind the moment at which it closed last.
+/// Whether the last trip lies behind the moment.
+fn trips_behind(total: &Column, moment: u64) -> bool {
+    match total.last_trip {
+        Some(trip) => trip > moment,
+        None => false,
+    }
+}
+
+/// Whether the circuit breaker was open in a column behind that in which it closed last, at the moment.
 fn is_open_behind(columns: &[Column], closed: u64) -> bool {
     let mut has_closed = false;
     for column in columns {
@@ -305,20 +313,9 @@ fn is_open_behind(columns: &[Column], closed: u64) -> bool {
         }
         if column.last_close == Some(closed) {
             has_closed = true;
-            if trips_behind(column, closed) {
-                return true;
-            }
         }
     }
     false
-}
-
-/// Whether the first trip of the column lies behind the moment.
-fn trips_behind(column: &Column, closed: u64) -> bool {
-    match column.first_trip {
-        Some(moment) => moment > closed,
-        None => false,
-    }
 }
 
 /// Names the commands whose circuit breakers never opened, the worst first.

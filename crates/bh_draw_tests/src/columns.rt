@@ -1,5 +1,6 @@
 //! The columns of runs, worked out by hand.
 
+use crate::scripts::{FIRST, SECOND, SETTINGS};
 use bh_base::{CircuitState, Text};
 use bh_columns::chart::{Chart, Lane, Panel, make_chart};
 use bh_columns::column::Column;
@@ -10,53 +11,6 @@ use bh_lines::PortError;
 use bh_props::{Settings, settings_in};
 use bh_streams::WatchedReader;
 use std::process::Abort;
-
-/// Two groups, one of them with a further command. A single failure opens the circuit of the first, and the second has one
-/// worker.
-const SETTINGS: &str = "service.groups = [\"a\", \"b\"]
-service.command.r.group = \"b\"
-hystrix.command.a.circuitBreaker.requestVolumeThreshold = 1
-hystrix.threadpool.b.coreSize = 1
-";
-
-/// The first group fails, is short-circuited, and recovers with its test call.
-const FIRST: &str = r#"{"op":"submit","group":"a","now":0,"arg":"x"}
-{"op":"start","group":"a","now":10}
-{"op":"fail","group":"a","now":30,"ticket":1,"bad":false}
-{"op":"collect","group":"a","now":40,"ticket":1}
-{"op":"fallback","group":"a","now":60,"ticket":1,"end":"success","body":"y"}
-{"op":"collect","group":"a","now":70,"ticket":1}
-{"op":"submit","group":"a","now":600,"arg":"x"}
-{"op":"collect","group":"a","now":610,"ticket":2}
-{"op":"fallback","group":"a","now":620,"ticket":2,"end":"missing"}
-{"op":"collect","group":"a","now":650,"ticket":2}
-{"op":"submit","group":"a","now":5600,"arg":"x"}
-{"op":"start","group":"a","now":5610}
-{"op":"finish","group":"a","now":5700,"ticket":3,"body":"z"}
-{"op":"collect","group":"a","now":5700,"ticket":3}
-{"op":"read","group":"a","now":6000}
-"#;
-
-/// In the second one run times out, one is rejected, and two share a third.
-const SECOND: &str = r#"{"op":"submit","group":"b","now":0,"arg":"x"}
-{"op":"start","group":"b","now":0}
-{"op":"submit","group":"b","command":"r","now":10,"arg":"x"}
-{"op":"collect","group":"b","now":20,"ticket":2}
-{"op":"fallback","group":"b","now":30,"ticket":2,"end":"success","body":"y"}
-{"op":"collect","group":"b","now":30,"ticket":2}
-{"op":"expire","group":"b","now":1000}
-{"op":"finish","group":"b","now":1200,"ticket":1,"body":"z"}
-{"op":"collect","group":"b","now":1200,"ticket":1}
-{"op":"fallback","group":"b","now":1300,"ticket":1,"end":"failure"}
-{"op":"collect","group":"b","now":1000,"ticket":1}
-{"op":"submit","group":"b","command":"r","now":2000,"arg":"x","context":1,"key":"k"}
-{"op":"submit","group":"b","command":"r","now":2001,"arg":"x","context":1,"key":"k"}
-{"op":"start","group":"b","now":2002}
-{"op":"fail","group":"b","now":2050,"ticket":3,"bad":true}
-{"op":"collect","group":"b","now":2060,"ticket":3}
-{"op":"collect","group":"b","now":2070,"ticket":3}
-no line
-"#;
 
 const BOTH: &str = "a/a
  0: admitted 1, short-circuited 1, failures 1, fallbacks 1, errors 1, trips 1; closed 600, open 1400, half-open 0; closed from 0; first trip 600; busy 20, queued 10, most 1
@@ -70,7 +24,7 @@ b/b
  2000: ; closed 70, open 0, half-open 0; closed from 2000; busy 0, queued 0, most 0
  4000: ; closed 0, open 0, half-open 0; busy 0, queued 0, most 0
  6000: ; closed 0, open 0, half-open 0; busy 0, queued 0, most 0
-b/r
+b/refund
  0: rejected 1, fallbacks 1; closed 2000, open 0, half-open 0; closed from 0; busy 0, queued 0, most 0
  2000: admitted 1, joined 1, bad 2; closed 70, open 0, half-open 0; closed from 2000; busy 48, queued 2, most 1
  4000: ; closed 0, open 0, half-open 0; busy 0, queued 0, most 0
@@ -88,7 +42,7 @@ life 0 to 6000
 b/b
  0: ; closed 0, open 0, half-open 0; busy 0, queued 0, most 0
  5000: ; closed 0, open 0, half-open 0; busy 0, queued 0, most 0
-b/r
+b/refund
  0: ; closed 0, open 0, half-open 0; busy 0, queued 0, most 0
  5000: ; closed 0, open 0, half-open 0; busy 0, queued 0, most 0
 pool of b: 0 0 0, 0 0 0
@@ -107,13 +61,13 @@ lines 33, at fault 1, left out 0
 
 /// A group comes, goes and comes again under its name.
 const LIVES: &str = r#"{"op":"register","group":"c","like":"b"}
-{"op":"submit","group":"c","command":"r","now":0,"arg":"x"}
+{"op":"submit","group":"c","command":"refund","now":0,"arg":"x"}
 {"op":"start","group":"c","now":0}
 {"op":"finish","group":"c","now":7,"ticket":1,"body":"y"}
 {"op":"collect","group":"c","now":7,"ticket":1}
 {"op":"retire","group":"c"}
 {"op":"register","group":"c","like":"b"}
-{"op":"submit","group":"c","command":"r","now":0,"arg":"x"}
+{"op":"submit","group":"c","command":"refund","now":0,"arg":"x"}
 {"op":"expire","group":"c","now":1000}
 "#;
 
@@ -121,7 +75,7 @@ const LIVES_DRAWN: &str = "c/c
  0: ; closed 507, open 0, half-open 0; closed from 0; busy 0, queued 0, most 0
  500: ; closed 500, open 0, half-open 0; closed from 500; busy 0, queued 0, most 0
  1000: ; closed 0, open 0, half-open 0; busy 0, queued 0, most 0
-c/r
+c/refund
  0: admitted 2, values 1; closed 507, open 0, half-open 0; closed from 0; busy 7, queued 500, most 1
  500: ; closed 500, open 0, half-open 0; closed from 500; busy 0, queued 500, most 1
  1000: timeouts 1; closed 0, open 0, half-open 0; busy 0, queued 0, most 0
@@ -150,7 +104,7 @@ b/b
  500: ; closed 0, open 0, half-open 0; busy 0, queued 0, most 0
  1000: ; closed 0, open 0, half-open 0; busy 0, queued 0, most 0
  1500: ; closed 0, open 0, half-open 0; busy 0, queued 0, most 0
-b/r
+b/refund
  0: ; closed 100, open 0, half-open 0; closed from 300; busy 0, queued 0, most 0
  500: ; closed 0, open 0, half-open 0; busy 0, queued 0, most 0
  1000: ; closed 0, open 0, half-open 0; busy 0, queued 0, most 0

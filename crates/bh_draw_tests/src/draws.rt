@@ -80,10 +80,10 @@ a, 4 s: asked 1, value 1, open 1,600 ms, half-open 100 ms
 pool of a, 0 s: busy 0.01, queued 0.005, most at once 1
 pool of a, 4 s: busy 0.045, queued 0.005, most at once 1
 b, 0 s: asked 1, error 1, timeout 1, late end 1
-b/r, 0 s: asked 1, fallback's value 1, rejected 1
-b/r, 2 s: asked 2, bad request 2, joined 1
-pool of b and r, 0 s: busy 0.6, most at once 1
-pool of b and r, 2 s: busy 0.024, queued 0.001, most at once 1
+b/refund, 0 s: asked 1, fallback's value 1, rejected 1
+b/refund, 2 s: asked 2, bad request 2, joined 1
+pool of b and refund, 0 s: busy 0.6, most at once 1
+pool of b and refund, 2 s: busy 0.024, queued 0.001, most at once 1
 ";
 
 #[test]
@@ -95,6 +95,35 @@ fn each_column_has_its_counts_in_its_title(rt: HostRuntime) {
     assert_well_formed(&rt, drawn.text.as_str());
     let titles = titles(&rt, drawn.text.as_str());
     assert_eq!(rt; titles.as_str(), TITLES);
+}
+
+/// Settings of a group whose circuit breaker opens at a single failure, for 50 ms.
+const SHORT_SLEEP: &str = "service.groups = [\"a\"]
+hystrix.command.a.circuitBreaker.requestVolumeThreshold = 1
+hystrix.command.a.circuitBreaker.sleepWindowInMilliseconds = 50
+";
+
+/// Its circuit breaker opens at 1,000 ms, closes at 1,120 ms, and opens again at 1,800 ms.
+const OPEN_AGAIN: &str = r#"{"op":"submit","group":"a","now":0,"arg":"x"}
+{"op":"start","group":"a","now":10}
+{"op":"fail","group":"a","now":30,"ticket":1,"bad":false}
+{"op":"submit","group":"a","now":1000,"arg":"x"}
+{"op":"submit","group":"a","now":1100,"arg":"x"}
+{"op":"start","group":"a","now":1110}
+{"op":"finish","group":"a","now":1120,"ticket":3,"body":"z"}
+{"op":"submit","group":"a","now":1200,"arg":"x"}
+{"op":"start","group":"a","now":1210}
+{"op":"fail","group":"a","now":1230,"ticket":4,"bad":false}
+{"op":"submit","group":"a","now":1800,"arg":"x"}
+"#;
+
+#[test]
+fn a_trip_behind_a_closing_in_the_last_column_is_open_to_the_end(rt: HostRuntime) {
+    let drawn = draw(&rt, SHORT_SLEEP, OPEN_AGAIN, all(2));
+    assert_eq!(rt; drawn.errors.as_str(), "");
+    assert_well_formed(&rt, drawn.text.as_str());
+    let said = "tripped 2 times, open 1 s to the end:";
+    assert!(rt; drawn.text.as_str().contains(said));
 }
 
 const PART: &str = "a, 0 ms: asked 0, fallback's value 1, failure 1
@@ -269,7 +298,7 @@ fn assert_all_sums<R: Abort + AllocGlobal>(rt: &R, summary: &str, columns: u64) 
     let lines = both(rt);
     let drawn = draw(rt, SETTINGS, lines.as_str(), all(columns));
     let titles = titles(rt, drawn.text.as_str());
-    for (lane, object) in ["a", "b", "b/r"].iter().zip(summary.lines()) {
+    for (lane, object) in ["a", "b", "b/refund"].iter().zip(summary.lines()) {
         assert_sums(rt, titles.as_str(), lane, object);
     }
 }

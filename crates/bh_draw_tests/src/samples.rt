@@ -28,6 +28,7 @@ pub fn column(moment: u64, closed_ms: u64, values: u64) -> Column {
             circuit: CircuitState::Closed,
         }),
         first_trip: None,
+        last_trip: None,
         last_close: None,
         usage: no_usage(),
     }

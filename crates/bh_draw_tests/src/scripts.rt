@@ -3,7 +3,7 @@
 /// Two groups, one of them with a further command. A single failure opens the circuit of the first, and the second has one
 /// worker.
 pub const SETTINGS: &str = "service.groups = [\"a\", \"b\"]
-service.command.r.group = \"b\"
+service.command.refund.group = \"b\"
 hystrix.command.a.circuitBreaker.requestVolumeThreshold = 1
 hystrix.threadpool.b.coreSize = 1
 ";
@@ -29,7 +29,7 @@ pub const FIRST: &str = r#"{"op":"submit","group":"a","now":0,"arg":"x"}
 /// In the second one run times out, one is rejected, and two share a third.
 pub const SECOND: &str = r#"{"op":"submit","group":"b","now":0,"arg":"x"}
 {"op":"start","group":"b","now":0}
-{"op":"submit","group":"b","command":"r","now":10,"arg":"x"}
+{"op":"submit","group":"b","command":"refund","now":10,"arg":"x"}
 {"op":"collect","group":"b","now":20,"ticket":2}
 {"op":"fallback","group":"b","now":30,"ticket":2,"end":"success","body":"y"}
 {"op":"collect","group":"b","now":30,"ticket":2}
@@ -38,8 +38,8 @@ pub const SECOND: &str = r#"{"op":"submit","group":"b","now":0,"arg":"x"}
 {"op":"collect","group":"b","now":1200,"ticket":1}
 {"op":"fallback","group":"b","now":1300,"ticket":1,"end":"failure"}
 {"op":"collect","group":"b","now":1000,"ticket":1}
-{"op":"submit","group":"b","command":"r","now":2000,"arg":"x","context":1,"key":"k"}
-{"op":"submit","group":"b","command":"r","now":2001,"arg":"x","context":1,"key":"k"}
+{"op":"submit","group":"b","command":"refund","now":2000,"arg":"x","context":1,"key":"k"}
+{"op":"submit","group":"b","command":"refund","now":2001,"arg":"x","context":1,"key":"k"}
 {"op":"start","group":"b","now":2002}
 {"op":"fail","group":"b","now":2050,"ticket":3,"bad":true}
 {"op":"collect","group":"b","now":2060,"ticket":3}

@@ -15,7 +15,7 @@ loop-place-preserved c =
     let was = c.index-panels-place.result in
     let inside : n < length c.args.panels.now = omega (arith, c.loop-place-test.true, c.loop-place.auto.place-end) in
     let within : n < length panels = omega (arith, inside, c.loop-place.auto.panels) in
-    let here : IsJoinedPanel (get_or panels n was) next = record { lanes = c.join.ensures.lanes; steps = c.join.ensures.steps } in
+    let here : IsJoinedPanel (get_or panels n was) next = record { lanes = c.join.ensures.lanes; steps = c.join.ensures.steps; group = c.join.ensures.group; like = c.join.ensures.like } in
     let mine : (panel : KeptPanel) → slice_get c.args.panels.now n ≡ Some panel → get_or panels n was ≡ panel =
     λ panel found. get_or_from_slice_get panels n panel was (c.loop-place.invariant.rest n (omega arith) ∙ found) in
     record {

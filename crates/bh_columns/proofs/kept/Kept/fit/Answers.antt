@@ -13,4 +13,5 @@ loop-preserved c = record {
   panels = panels_then c.args.self.now.panels.items c.loop.self.panels.items c.join.new.self.panels.items c.loop.invariant.panels c.join.ensures.panels;
   places = c.join.ensures.places ∙ c.loop.invariant.places;
   selection = c.join.ensures.selection ∙ c.loop.invariant.selection;
+  left_out = c.join.ensures.left_out ∙ c.loop.invariant.left_out;
 }

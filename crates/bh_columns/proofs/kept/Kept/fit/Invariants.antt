@@ -9,4 +9,5 @@ invariant-loop l = record {
   panels : EachAt l.fn.self.panels.items l.self.panels.items (λ place panel next. SamePanel panel next);
   places : l.self.places ≡ l.fn.self.places;
   selection : l.self.selection ≡ l.fn.self.selection;
+  left_out : l.self.left_out ≡ l.fn.self.left_out;
 }

@@ -22,7 +22,7 @@ returns-clause-panels c = both_ok c.make_room.result c.make_room.ensures.lanes c
     let was : KeptPanel = c.index_mut.result.now in
     let inside : c.args.panel < length panels = omega (arith, c.requires, c.fit.ensures.panels.count) in
     let at : slice_get panels c.args.panel ≡ Some was = slice_get_read panels (length panels) c.args.panel was refl inside c.index_mut.ensures.value in
-    panels_then c.args.self.now.panels.items panels _ c.fit.ensures.panels (made_panels panels c.args.panel c.reach-reach.result.first c.reach-reach.result.end was c.make_room.new.self at each c.make_room.ensures.steps))
+    panels_then c.args.self.now.panels.items panels _ c.fit.ensures.panels (made_panels panels c.args.panel c.reach-reach.result.first c.reach-reach.result.end was c.make_room.new.self at each c.make_room.ensures.steps c.make_room.ensures.group c.make_room.ensures.like))
 
 pub returns-clause-room : goal.returns-clause-room
 returns-clause-room c = both_ok c.make_room.result c.make_room.ensures.lanes c.make_room.ensures.lanes (λ each _ own order found.

@@ -18,11 +18,45 @@ use Rattle.bh_columns.specs.declared.lane.KeptLane.{KeptLane}
 use Rattle.bh_columns.specs.declared.panel.KeptPanel.{KeptPanel}
 use Rattle.bh_columns.specs.declared.panel.When.{When}
 use Rattle.bh_columns.proofs.Lists.{each_back}
-use Rattle.bh_columns.proofs.Recording.{latest_rises, recorded, set_filled, since_before, since_is}
+use Rattle.bh_port.proofs.Lists.{read_within}
+use Rattle.bh_columns.proofs.Recording.{all_stepped, latest_rises, recorded, set_filled, since_before, since_is}
 use Rattle.bh_columns.proofs.kept.Kept.record_step.Goals as goal
 
 pub returns : goal.returns
 returns c = record {
+  step = c.make_step.ensures.step;
+  entries = c.make_step.ensures.entries;
+  there = c.make_step.ensures.there;
+  places = c.make_room.ensures.places;
+  selection = c.make_room.ensures.selection;
+  left_out = c.make_room.ensures.left_out;
+  panels =
+      let n = c.args.panel in
+      let p0 = c.args.self.now.panels.items in
+      let m0 : KeptPanel = c.index_mut.result.now in
+      let (own, at) = read_within p0 n c.requires in
+      let at0 : slice_get p0 n ≡ Some m0 = at ∙ ap Some (sym (c.index_mut.ensures.value ∙ get_or_from_slice_get p0 n own m0 at)) in
+      let m1 : KeptPanel = c.make_step.new.self in
+      let p1 = set p0 n m1 in
+      let at1 : slice_get p1 n ≡ Some m1 = set_here p0 n m1 (slice_get_within p0 n m0 at0) in
+      let k1 : KeptPanel = c.index_mut-2.result.now in
+      let k1_is : k1 ≡ m1 = c.index_mut-2.ensures.value ∙ get_or_from_slice_get p1 n m1 k1 at1 in
+      let m2 : KeptPanel = c.note_life.new.self in
+      let p2 = set p1 n m2 in
+      let at2 : slice_get p2 n ≡ Some m2 = set_here p1 n m2 (slice_get_within p1 n m1 at1) in
+      let p3 = c.make_room.new.self.panels.items in
+      let (y, y_at, y_same) = c.in_ok-make_room.ensures.panels.each n m2 at2 in
+      let m3 : KeptPanel = c.index_mut-3.result.now in
+      let at3 : slice_get p3 n ≡ Some m3 = y_at ∙ ap Some (sym (c.index_mut-3.ensures.value ∙ get_or_from_slice_get p3 n y m3 y_at)) in
+      let m4 : KeptPanel = c.add.new.self in
+      let p4 = set p3 n m4 in
+      let at4 : slice_get p4 n ≡ Some m4 = set_here p3 n m4 (slice_get_within p3 n m3 at3) in
+      let k4 : KeptPanel = c.index_mut-4.result.now in
+      let k4_is : k4 ≡ m4 = c.index_mut-4.ensures.value ∙ get_or_from_slice_get p4 n m4 k4 at4 in
+      all_stepped p0 p3 n m0 m1 m2 m3 m4 c.look.new.self at0 c.make_step.ensures.group c.make_step.ensures.like
+      (c.note_life.ensures.group ∙ ap (λ (m : KeptPanel). m.group) k1_is) (c.note_life.ensures.like ∙ ap (λ (m : KeptPanel). m.like) k1_is)
+      c.in_ok-make_room.ensures.panels at3 c.add.ensures.group c.add.ensures.like
+      (c.look.ensures.group ∙ ap (λ (m : KeptPanel). m.group) k4_is) (c.look.ensures.like ∙ ap (λ (m : KeptPanel). m.like) k4_is);
   filled = λ s fs own shown in_range at stands fills filled.
       let x : Step = c.args.step.now in
       let g = x.group.0 in
