@@ -1,12 +1,11 @@
 -- What is kept of a run with one group more.
-use Rattle.std.proofs.Common.{◌≡◌, ◌≢◌, ◌∙◌, ◌⊎◌, inl, inr, ◌+◌, ◌<◌, ◌≤◌, ℕ, zero, suc, Bool, true, false, List, ◌++◌, ◌∷◌, [], length, Option, Some, None, map, sym, ap, refl, subst, arith, length-append}
+use Rattle.std.proofs.Common.{◌≡◌, ◌≢◌, ◌∙◌, ◌⊎◌, inl, inr, ◌+◌, ◌<◌, ℕ, zero, suc, Bool, true, false, List, ◌++◌, ◌∷◌, [], length, Option, Some, None, map, sym, ap, refl, subst, arith, length-append}
 use Rattle.std.specs.Prelude.{◌==◌, Vec, is_some, option_and_then, option_map, slice_get, slice_index_or, if◌then◌else◌}
 use Rattle.std.specs.List.{AllByRecursion}
 use Rattle.std.specs.Cmp.Lexicographic.{bytes_decides}
 use Rattle.std.specs.Str.{bytes_eq}
 use Rattle.std.specs.declared.alloc.Global.{Global}
 use Rattle.std.proofs.lemmas.Bool.Decides.{nat_tests}
-use Rattle.std.proofs.lemmas.Option.{slice_get_within}
 use Rattle.bh_base.specs.Commands.{command_count}
 use Rattle.bh_base.specs.Circuit.{new_circuit}
 use Rattle.bh_base.specs.Machine.{circuit_of}
@@ -16,7 +15,7 @@ use Rattle.bh_base.specs.Runs.{State, own, state_after, view}
 use Rattle.bh_base.specs.declared.step.Step.{Step}
 use Rattle.bh_port.specs.declared.act.LineAct.TheVariants as act
 use Rattle.bh_port.specs.declared.groups.Entry.{Entry}
-use Rattle.bh_port.specs.Course.{Course, group_after, like_at, opened_group, state_at}
+use Rattle.bh_port.specs.Course.{Course, group_after, opened_group, state_at}
 use Rattle.bh_port.specs.Entries.{entry_at, new_entry, number_of}
 use Rattle.bh_port.specs.Text.{with_act}
 use Rattle.bh_port.proofs.Keeping.{either}
@@ -272,10 +271,10 @@ module _ (service : SettingsView) (sel : Selection) (old mid new : Kept) (course
       let (next, next_at, begun) = go_on p q q_at in
       let panel_is : next ≡ panel = some_same next panel (sym next_at ∙ at) in
       let not_here : place ≡ Some p → ⊥ = λ found.
-          let (m, m_at, m_is) = for_it.found p found in
-          let one : m ≡ q = some_same m q (sym m_at ∙ for_it.stay p q q_at) in
-          let alike : name ≡ other = sym m_is.group ∙ ap (λ (k : KeptPanel). k.group) one ∙ q_is.group ∙ mine.named in
-          not_both (bytes_eq name other) differs ((bytes_decides name other).1 alike) in
+      let (m, m_at, m_is) = for_it.found p found in
+      let one : m ≡ q = some_same m q (sym m_at ∙ for_it.stay p q q_at) in
+      let alike : name ≡ other = sym m_is.group ∙ ap (λ (k : KeptPanel). k.group) one ∙ q_is.group ∙ mine.named in
+      not_both (bytes_eq name other) differs ((bytes_decides name other).1 alike) in
       subst (Stands (view t)) (sym (begun.other not_here) ∙ panel_is) (kept.stands other group p t q was state place_is q_at)
 
   stands_later : (other : List ℕ) (group p : ℕ) (t : State) (panel : KeptPanel) → number_of later.entries other ≡ Some group → state_at service later group ≡ Some t

@@ -1,7 +1,6 @@
 -- What is kept of a run with one group fewer.
-use Rattle.std.proofs.Common.{◌≡◌, ◌≢◌, ◌∙◌, ◌⊎◌, inl, inr, ℕ, Bool, true, false, List, length, Option, Some, None, Ok, sym, ap, refl, subst}
+use Rattle.std.proofs.Common.{◌≡◌, ◌≢◌, ◌∙◌, inl, inr, ℕ, Bool, true, false, List, length, Option, Some, None, Ok, sym, ap, refl, subst}
 use Rattle.std.specs.Prelude.{Vec, option_and_then, option_map, slice_get, if◌then◌else◌}
-use Rattle.std.specs.Cmp.Lexicographic.{bytes_decides}
 use Rattle.std.specs.Str.{bytes_eq}
 use Rattle.std.specs.declared.alloc.Global.{Global}
 use Rattle.bh_base.specs.Props.{GroupProps}
@@ -19,9 +18,8 @@ use Rattle.bh_props.specs.SettingsView.{SettingsView}
 use Rattle.bh_cut.proofs.Numbers.{equal, number-without_other, number-without_same, numbers-apart}
 use Rattle.bh_columns.specs.Filled.{Stands}
 use Rattle.bh_columns.specs.Named.{KeptRun, NamedFills, run_said}
-use Rattle.bh_columns.specs.Panels.{EachAt}
 use Rattle.bh_columns.specs.Placed.{IsAsked, SameKept}
-use Rattle.bh_columns.specs.Recorded.{FitsLike, IsKept, IsRecorded}
+use Rattle.bh_columns.specs.Recorded.{IsKept, IsRecorded}
 use Rattle.bh_columns.specs.Spans.{Fill}
 use Rattle.bh_columns.specs.Tracks.{IsFilled}
 use Rattle.bh_columns.specs.declared.kept.Kept.{Kept}

@@ -1,5 +1,5 @@
 -- Columns that are joined, and their width.
-use Rattle.std.proofs.Common.{◌≡◌, ◌+◌, ◌*◌, ◌/◌, ◌<◌, ◌≤◌, ℕ, zero, suc, refl, sym, ap, ◌∙◌, arith}
+use Rattle.std.proofs.Common.{◌≡◌, ◌+◌, ◌*◌, ◌<◌, ℕ, zero, suc, refl, sym, ap, ◌∙◌, arith}
 use Rattle.std.proofs.Math.Nat.{add-mul, mul_assoc, suc-mul, zero-mul}
 use Rattle.bh_columns.specs.Columns.{bare, joined, no_column}
 use Rattle.bh_columns.specs.Laws.{JoinedAreWider}

@@ -1,13 +1,13 @@
 -- What is kept of all groups, where each panel became another.
 use Rattle.std.proofs.Common.{◌≡◌, ◌+◌, ◌*◌, ◌/◌, ◌-◌, ◌<◌, ◌≤◌, ℕ, Some, List, length, set, refl, sym, ap, subst, ◌∙◌, arith}
-use Rattle.std.specs.Prelude.{Bool, max, min, slice_get, true}
+use Rattle.std.specs.Prelude.{max, min, slice_get, true}
 use Rattle.std.proofs.Math.Nat.{div-mul-le_self}
 use Rattle.std.proofs.lemmas.Nat.{le-div}
 use Rattle.std.proofs.lemmas.Bool.Decides.{nat_tests}
 use Rattle.bh_columns.specs.Filled.{AreFilled, AreFills, Fills, HasRoomsFor, IsJoinedPanel, SamePanel}
 use Rattle.bh_columns.specs.Panels.{EachAt, HasMadeRoom, HasRoomFor, IsJoinedLane, SameStanding}
 use Rattle.bh_columns.specs.Spans.{Fill, lies}
-use Rattle.bh_columns.specs.Tracks.{HasRoom, IsFilled, IsReach, SameColumns, column_at}
+use Rattle.bh_columns.specs.Tracks.{HasRoom, IsFilled, IsReach, SameColumns}
 use Rattle.bh_columns.specs.declared.lane.KeptLane.{KeptLane}
 use Rattle.bh_columns.specs.declared.panel.KeptPanel.{KeptPanel}
 use Rattle.bh_columns.specs.declared.panel.When.{When}

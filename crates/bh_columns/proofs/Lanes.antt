@@ -5,11 +5,11 @@ use Rattle.std.proofs.Math.Nat.{mul_comm}
 use Rattle.bh_base.specs.declared.circuit.CircuitState.{CircuitState}
 use Rattle.bh_look.specs.declared.tally.Tally.{Tally}
 use Rattle.bh_look.specs.Tallies.{added}
-use Rattle.bh_columns.specs.Columns.{bare, greatest, is_no_tally, least, no_usage, usage_added, usage_of, with_stay, with_time_from, with_told_at, with_usage}
+use Rattle.bh_columns.specs.Columns.{bare, greatest, is_no_tally, least, usage_added, usage_of, with_stay, with_time_from}
 use Rattle.bh_columns.specs.Panels.{HasAdded, HasAddedTime, HasAddedTold, HasNotedAt, HasRoomFor, HasSpent, IsJoinedLane, SameStanding, lane_stay}
 use Rattle.bh_columns.specs.Spans.{Fill, IsFill, lies, stay_within, with_time_within, with_told_within}
 use Rattle.bh_columns.specs.Steps.{closes, time_fill, told_fill}
-use Rattle.bh_columns.specs.Tracks.{HasRoom, IsFilled, IsReach, SameColumns, column_at, joined_run, with_stay_in}
+use Rattle.bh_columns.specs.Tracks.{HasRoom, IsFilled, IsReach, SameColumns, column_at}
 use Rattle.bh_columns.specs.declared.column.Column.{Column}
 use Rattle.bh_columns.specs.declared.lane.KeptLane.{KeptLane}
 use Rattle.bh_columns.specs.declared.panel.When.{When}

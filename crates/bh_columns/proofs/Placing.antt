@@ -14,7 +14,6 @@ use Rattle.bh_columns.specs.Named.{is_of}
 use Rattle.bh_columns.specs.Panels.{EachAt, SameStanding}
 use Rattle.bh_columns.specs.Recorded.{ArePlaced, keeps}
 use Rattle.bh_columns.specs.declared.kept.Kept.{Kept}
-use Rattle.bh_columns.specs.declared.lane.KeptLane.{KeptLane}
 use Rattle.bh_columns.specs.declared.panel.KeptPanel.{KeptPanel}
 use Rattle.bh_columns.specs.declared.selection.Selection.{Selection}
 use Rattle.bh_columns.proofs.Lists.{each_back}

@@ -1,6 +1,6 @@
 -- What is kept of all groups with one step more.
-use Rattle.std.proofs.Common.{◌≡◌, ◌≢◌, ◌+◌, ◌<◌, ◌≤◌, ◌⊎◌, inl, inr, ℕ, Bool, true, false, List, length, set, Some, None, Option, refl, sym, ap, subst, ◌∙◌, arith}
-use Rattle.std.specs.Prelude.{◌==◌, max, slice_get, unwrap_or, if◌then◌else◌}
+use Rattle.std.proofs.Common.{◌≡◌, ◌≢◌, ◌<◌, ◌≤◌, ◌⊎◌, inl, inr, ℕ, Bool, true, false, List, length, set, Some, None, Option, refl, sym, ap, subst, ◌∙◌, arith}
+use Rattle.std.specs.Prelude.{◌==◌, slice_get, unwrap_or, if◌then◌else◌}
 use Rattle.std.proofs.lemmas.Bool.Decides.{nat_tests}
 use Rattle.std.proofs.lemmas.List.{length-set}
 use Rattle.std.proofs.lemmas.Option.{slice_get_within}
@@ -12,15 +12,12 @@ use Rattle.bh_base.specs.declared.step.Op.{Op}
 use Rattle.bh_base.proofs.Kept.{outcome_keeps}
 use Rattle.bh_port.proofs.Keeping.{either}
 use Rattle.bh_port.proofs.Lists.{read_within}
-use Rattle.bh_look.specs.Steps.{tally_with}
-use Rattle.bh_look.specs.Tallies.{no_tally}
 use Rattle.bh_look.specs.declared.lane.Lane.{Lane}
 use Rattle.bh_look.proofs.Adding.{set_here, set_other}
 use Rattle.bh_columns.specs.Columns.{told_of}
 use Rattle.bh_columns.specs.Filled.{AreFilled, Fills, HasRoomsFor, SamePanel, Stands, fills_with}
 use Rattle.bh_columns.specs.Panels.{EachAt, HasAdded, HasLooked, HasTold, SameStanding}
 use Rattle.bh_columns.specs.Placed.{IsStepped}
-use Rattle.bh_columns.specs.Spans.{Fill}
 use Rattle.bh_columns.specs.Steps.{added_fill, filled_with, when_of}
 use Rattle.bh_columns.specs.Tracks.{IsFilled}
 use Rattle.bh_columns.specs.declared.lane.KeptLane.{KeptLane}

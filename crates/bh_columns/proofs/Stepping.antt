@@ -1,5 +1,5 @@
 -- What is kept of a run with one step more.
-use Rattle.std.proofs.Common.{◌≡◌, ◌≢◌, ◌∙◌, ◌⊎◌, inl, inr, ◌<◌, ◌≤◌, ℕ, Bool, true, false, All, List, ◌++◌, ◌∷◌, [], length, Option, Some, None, Ok, sym, ap, refl, subst, arith}
+use Rattle.std.proofs.Common.{◌≡◌, ◌≢◌, ◌∙◌, inl, inr, ◌≤◌, ℕ, Bool, true, false, All, List, length, Option, Some, None, Ok, sym, ap, refl, subst, arith}
 use Rattle.std.specs.Prelude.{◌==◌, Vec, is_some, option_and_then, slice_get, if◌then◌else◌}
 use Rattle.std.specs.declared.alloc.Global.{Global}
 use Rattle.std.proofs.lemmas.Bool.Decides.{nat_tests}
@@ -15,7 +15,7 @@ use Rattle.bh_core.specs.CoreView.{Shows, shown_by, view_at}
 use Rattle.bh_core.specs.Step.{IsStep}
 use Rattle.bh_port.specs.declared.act.LineAct.TheVariants as act
 use Rattle.bh_port.specs.declared.groups.Entry.{Entry}
-use Rattle.bh_port.specs.Course.{Course, like_at, state_at}
+use Rattle.bh_port.specs.Course.{Course, state_at}
 use Rattle.bh_port.specs.Entries.{entry_at, number_of}
 use Rattle.bh_port.specs.GroupsView.{GroupsView}
 use Rattle.bh_port.specs.Script.{GroupsShow}
@@ -30,12 +30,11 @@ use Rattle.bh_columns.specs.Filled.{AreFilled, AreFills, Fills, Stands, fills_wi
 use Rattle.bh_columns.specs.Named.{KeptRun, NamedFills, fills_in, is_of, run_said}
 use Rattle.bh_columns.specs.Panels.{EachAt}
 use Rattle.bh_columns.specs.Placed.{IsAsked, IsStepped}
-use Rattle.bh_columns.specs.Recorded.{AreNamed, FitsLike, HasNone, IsKept, IsPanelOf, IsRecorded, keeps}
+use Rattle.bh_columns.specs.Recorded.{FitsLike, IsKept, IsPanelOf, IsRecorded, keeps}
 use Rattle.bh_columns.specs.Spans.{Fill, IsFill}
 use Rattle.bh_columns.specs.Steps.{filled_with}
 use Rattle.bh_columns.specs.Tracks.{IsFilled}
 use Rattle.bh_columns.specs.declared.kept.Kept.{Kept}
-use Rattle.bh_columns.specs.declared.lane.KeptLane.{KeptLane}
 use Rattle.bh_columns.specs.declared.panel.KeptPanel.{KeptPanel}
 use Rattle.bh_columns.specs.declared.selection.Selection.{Selection}
 use Rattle.bh_columns.proofs.Filling.{fills_stay_fills}
@@ -144,10 +143,10 @@ module _ (service : SettingsView) (sel : Selection) (was now : GroupsView) (old 
         let gone : view_at now.core group ≡ None = ap shown_by (stepped.others group differ) ∙ shows.others group none in
         let both : None ≡ Some (view t) = sym gone ∙ (shows_later.shows group t is).view_is in cc)
     | inr at ↦ (
-        at.0,
-        at.1,
-        (let both : Some (view at.0) ≡ Some (view t) = sym (shows.shows group at.0 at.1).view_is ∙ sym (ap shown_by (stepped.others group differ)) ∙ (shows_later.shows group t is).view_is in cc),
-      )
+      at.0,
+      at.1,
+      (let both : Some (view at.0) ≡ Some (view t) = sym (shows.shows group at.0 at.1).view_is ∙ sym (ap shown_by (stepped.others group differ)) ∙ (shows_later.shows group t is).view_is in cc),
+    )
   ]
 
   -- the group that made it stands as behind it
@@ -183,9 +182,9 @@ module _ (service : SettingsView) (sel : Selection) (was now : GroupsView) (old 
           subst (λ (f : Fill). IsFilled lane.track old.grid.width f) (sym other) (kept.filled p command panel lane at had);
       fresh = λ name like command selected none_left none.
           ns_other name like command (λ named likes.
-              let (p, stands) = kept.placed.whole g e own_group.at (ap (keeps sel) named ∙ selected) none_left in
-              let (panel, at, is) = kept.placed.at g p e stands own_group.at in
-              none p panel at (record { group = is.group ∙ named; like = is.like ∙ likes }))
+          let (p, stands) = kept.placed.whole g e own_group.at (ap (keeps sel) named ∙ selected) none_left in
+          let (panel, at, is) = kept.placed.at g p e stands own_group.at in
+          none p panel at (record { group = is.group ∙ named; like = is.like ∙ likes }))
           ∙ kept.fresh name like command selected none_left none;
     }
 
@@ -197,7 +196,7 @@ module _ (service : SettingsView) (sel : Selection) (was now : GroupsView) (old 
   module _ (new : Kept) (n : ℕ) (stands_at : slice_get old.places.items g ≡ Some (Some n)) (each : EachAt old.panels.items new.panels.items (λ p a b. IsStepped n p a b))
       (places : new.places ≡ old.places) (selection : new.selection ≡ old.selection) (left_out : new.left_out ≡ old.left_out)
       (does : (s : State) (fs : Fills) (own : KeptPanel) → Shows was.core g s → IsInRange s.present.props → slice_get old.panels.items n ≡ Some own → Stands (view s) own → AreFills fs → AreFilled old.panels.items old.grid.width fs
-          → AreFilled new.panels.items new.grid.width (fills_with old.selection.from old.selection.to n (view s) x.op x.now fs) × ((next : KeptPanel) × (slice_get new.panels.items n ≡ Some next) × Stands (view_after (view s) x.op x.now) next)) where
+      → AreFilled new.panels.items new.grid.width (fills_with old.selection.from old.selection.to n (view s) x.op x.now fs) × ((next : KeptPanel) × (slice_get new.panels.items n ≡ Some next) × Stands (view_after (view s) x.op x.now) next)) where
     was_at : (group p : ℕ) → slice_get new.places.items group ≡ Some (Some p) → slice_get old.places.items group ≡ Some (Some p)
     was_at group p is = sym (ap (λ (w : Places). slice_get w.items group) places) ∙ is
 
@@ -235,7 +234,7 @@ module _ (service : SettingsView) (sel : Selection) (was now : GroupsView) (old 
           ∙ before
           ∙ names
           ∙ sym (ns_other panel.group panel.like command (λ named likes.
-              differ (sym (kept.placed.apart n p home.0 one home.1 at (record { group = sym st.group ∙ sym named ∙ sym home.2.group; like = sym st.like ∙ sym likes ∙ sym home.2.like }))))))
+          differ (sym (kept.placed.apart n p home.0 one home.1 at (record { group = sym st.group ∙ sym named ∙ sym home.2.group; like = sym st.like ∙ sym likes ∙ sym home.2.like }))))))
     ]
       where
         before : fs p command ≡ run.fills one.group one.like command
@@ -300,11 +299,11 @@ module _ (service : SettingsView) (sel : Selection) (was now : GroupsView) (old 
           subst (λ (f : Fill). IsFilled lane.track new.grid.width f) (fill_is p command one panel one_at st) (filled p command panel lane at had);
       fresh = λ name like command selected none_left none.
           ns_other name like command (λ named likes.
-              let (next, at, st) = each.each n home.0 home.1 in
-              none n next at (record { group = st.group ∙ home.2.group ∙ named; like = st.like ∙ home.2.like ∙ likes }))
+          let (next, at, st) = each.each n home.0 home.1 in
+          none n next at (record { group = st.group ∙ home.2.group ∙ named; like = st.like ∙ home.2.like ∙ likes }))
           ∙ kept.fresh name like command selected (sym left_out ∙ none_left) (λ p panel at is.
-              let (next, next_at, st) = each.each p panel at in
-              none p next next_at (record { group = st.group ∙ is.group; like = st.like ∙ is.like }));
+          let (next, next_at, st) = each.each p panel at in
+          none p next next_at (record { group = st.group ∙ is.group; like = st.like ∙ is.like }));
     }
 
     pub step_recorded : IsRecorded service sel now new (run_said service sel.from sel.to (Ok (act.Step x)) run)

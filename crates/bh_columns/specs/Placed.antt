@@ -14,7 +14,6 @@ use Rattle.bh_columns.specs.Tracks.{column_at}
 use Rattle.bh_columns.specs.declared.kept.Kept.{Kept}
 use Rattle.bh_columns.specs.declared.lane.KeptLane.{KeptLane}
 use Rattle.bh_columns.specs.declared.panel.KeptPanel.{KeptPanel}
-use Rattle.bh_columns.specs.declared.selection.Selection.{Selection}
 
 -- nothing is kept of the command
 abbrev pub IsEmptyLane : KeptLane → Type 0

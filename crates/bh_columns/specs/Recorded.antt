@@ -1,5 +1,5 @@
 -- What is kept of a script while its lines come: each group that is kept has the panel of its name and properties.
-use Rattle.std.specs.Prelude.{◌≡◌, ℕ, true, false, Bool, ◌==◌, ◌||◌, List, ◌++◌, length, Option, Some, Result, Ok, Err, slice_get}
+use Rattle.std.specs.Prelude.{◌≡◌, ℕ, true, false, Bool, ◌==◌, ◌||◌, List, ◌++◌, length, Some, Result, Ok, Err, slice_get}
 use Rattle.std.specs.List.{list_any}
 use Rattle.std.specs.Str.{bytes_eq}
 use Rattle.bh_base.specs.Commands.{command_count}
@@ -16,7 +16,7 @@ use Rattle.bh_port.specs.Script.{GroupsShow}
 use Rattle.bh_props.specs.SettingsView.{SettingsView}
 use Rattle.bh_columns.specs.Columns.{no_column}
 use Rattle.bh_columns.specs.Filled.{Stands}
-use Rattle.bh_columns.specs.Named.{KeptRun, NamedFills, run_after, run_with}
+use Rattle.bh_columns.specs.Named.{KeptRun, NamedFills, run_after}
 use Rattle.bh_columns.specs.Spans.{IsFill}
 use Rattle.bh_columns.specs.Tracks.{IsFilled}
 use Rattle.bh_columns.specs.declared.kept.Kept.{Kept}

@@ -1,5 +1,5 @@
 -- What is kept of a command in the moments from one on and before another.
-use Rattle.std.specs.Prelude.{◌≡◌, ◌<◌, ◌≤◌, ℕ, Bool, ◌&&◌, ◌-◌, nat_lt, nat_le, max, min, Some, if◌then◌else◌}
+use Rattle.std.specs.Prelude.{◌≡◌, ◌<◌, ◌≤◌, ℕ, Bool, ◌&&◌, nat_lt, nat_le, max, min, Some, if◌then◌else◌}
 use Rattle.bh_base.specs.declared.circuit.CircuitState.{CircuitState}
 use Rattle.bh_look.specs.declared.tally.Tally.{Tally}
 use Rattle.bh_columns.specs.Columns.{joined, no_column, with_time_from, with_told_at}

@@ -46,11 +46,7 @@ pub struct Kept {
 
 impl Kept {
     /// Nothing of the groups of the settings. It fails only for want of memory.
-    pub fn new(
-        alloc: Global,
-        settings: &Settings,
-        selection: Selection,
-    ) -> Result<Kept, AllocError>
+    pub fn new(alloc: Global, settings: &Settings, selection: Selection) -> Result<Kept, AllocError>
         ensures { IfOk result (λ kept. IsKept (settings_view settings.now) selection kept (new_course (settings_view settings.now)) no_fills) }
     {
         let mut kept = Kept::none(alloc, selection);

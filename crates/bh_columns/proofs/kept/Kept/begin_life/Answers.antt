@@ -1,4 +1,4 @@
-use Rattle.std.proofs.Common.{◌≡◌, ◌<◌, ◌≤◌, ◌∙◌, Option, None, Some, arith, length, refl, rules, set, subst, sym}
+use Rattle.std.proofs.Common.{◌≡◌, ◌<◌, ◌∙◌, None, Some, arith, length, refl, rules, set, subst, sym}
 use Rattle.std.specs.Prelude.{slice_get}
 use Rattle.std.proofs.lemmas.Option.{slice_get_read, slice_get_within}
 use Rattle.bh_columns.specs.Panels.{EachAt}
@@ -27,7 +27,7 @@ returns-else-panel-len-clause-panels c =
     let panels = c.args.self.now.panels.items in
     let n = c.in-Some.panel in
     none_begun panels c.args.place (λ p panel at is.
-        let both : Some n ≡ Some p = sym c.in-Some.is ∙ is in
-        let same : n ≡ p = cc in
-        let inside = slice_get_within panels p panel at in
-        absurd (omega (arith, inside, same, c.if-panel-len.false, c.len.ensures)))
+    let both : Some n ≡ Some p = sym c.in-Some.is ∙ is in
+    let same : n ≡ p = cc in
+    let inside = slice_get_within panels p panel at in
+    absurd (omega (arith, inside, same, c.if-panel-len.false, c.len.ensures)))

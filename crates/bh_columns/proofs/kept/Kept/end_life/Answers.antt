@@ -1,4 +1,4 @@
-use Rattle.std.proofs.Common.{◌≡◌, ◌<◌, Some, arith, length, refl}
+use Rattle.std.proofs.Common.{◌≡◌, Some, length, refl}
 use Rattle.std.specs.Prelude.{slice_get}
 use Rattle.std.proofs.lemmas.Option.{slice_get_read}
 use Rattle.bh_columns.specs.declared.panel.KeptPanel.{KeptPanel}

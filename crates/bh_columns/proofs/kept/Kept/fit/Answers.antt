@@ -1,4 +1,4 @@
-use Rattle.std.proofs.Common.{◌≡◌, ◌∙◌, sym, subst}
+use Rattle.std.proofs.Common.{◌∙◌, sym, subst}
 use Rattle.bh_columns.specs.Filled.{AreFilled}
 use Rattle.bh_columns.proofs.Keeping.{panels_then}
 use Rattle.bh_columns.proofs.kept.Kept.fit.Goals as goal

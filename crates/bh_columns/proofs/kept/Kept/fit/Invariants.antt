@@ -1,4 +1,4 @@
-use Rattle.std.proofs.Common.{◌≡◌, ℕ}
+use Rattle.std.proofs.Common.{◌≡◌}
 use Rattle.bh_columns.specs.Filled.{AreFilled, AreFills, Fills, SamePanel}
 use Rattle.bh_columns.specs.Panels.{EachAt}
 use Rattle.bh_columns.proofs.kept.Kept.fit.Given as goal

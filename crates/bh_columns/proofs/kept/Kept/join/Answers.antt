@@ -1,4 +1,4 @@
-use Rattle.std.proofs.Common.{◌≡◌, rules}
+use Rattle.std.proofs.Common.{rules}
 use Rattle.std.specs.Prelude.{Vec}
 use Rattle.std.specs.Vec.{with_items}
 use Rattle.std.specs.declared.alloc.Global.{Global}

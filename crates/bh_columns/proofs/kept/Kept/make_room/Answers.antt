@@ -1,8 +1,7 @@
-use Rattle.std.proofs.Common.{◌≡◌, ◌<◌, ◌∙◌, Some, arith, length, max, refl, subst, sym}
+use Rattle.std.proofs.Common.{◌≡◌, ◌<◌, Some, arith, length, max, refl, subst}
 use Rattle.std.specs.Prelude.{slice_get}
 use Rattle.std.proofs.lemmas.Option.{slice_get_read}
 use Rattle.bh_port.proofs.Outcomes.{both_ok}
-use Rattle.bh_columns.specs.Filled.{AreFilled, SamePanel}
 use Rattle.bh_columns.specs.Tracks.{IsReach}
 use Rattle.bh_columns.specs.declared.panel.KeptPanel.{KeptPanel}
 use Rattle.bh_columns.proofs.Keeping.{made_all, made_panels, made_rooms, panels_then}

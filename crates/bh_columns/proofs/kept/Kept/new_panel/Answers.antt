@@ -29,22 +29,25 @@ returns c = λ selected none.
             let here : slice_get (panels ++ panel ∷ []) p ≡ Some panel = ap (slice_get (panels ++ panel ∷ [])) last ∙ push_here panels panel in
             let both : Some panel ≡ Some next = sym here ∙ sym (ap (λ ps. slice_get ps p) items) ∙ at in
             let same : panel ≡ next = cc in
-            inr (ap (λ k. Some k) (count ∙ sym last), record {
-              last = last;
-              named = record { group = ap (λ (q : KeptPanel). q.group) (sym same) ∙ c.in_ok-panel.ensures.named.group; like = ap (λ (q : KeptPanel). q.like) (sym same) ∙ c.in_ok-panel.ensures.named.like };
-              chosen = selected;
-              none_left = omega (arith, c.if-self-gt0.false);
-              none = none;
-              fit = λ props listed. (
-                  let found : Some (c.in-Some._name.now, c.in-Some.props.now) ≡ Some props = c.in-Some.ensures.entry ∙ listed in
-                  let pair : (c.in-Some._name.now, c.in-Some.props.now) ≡ props = some_same (c.in-Some._name.now, c.in-Some.props.now) props found in
-                  let commands = ap (λ (l : List ℕ × GroupProps). command_count l.1) pair in
-                  record {
-                    lanes = ap (λ (q : KeptPanel). length q.lanes.items) (sym same) ∙ c.in_ok-panel.ensures.lanes ∙ commands;
-                    steps = ap (λ (q : KeptPanel). length q.steps.items) (sym same) ∙ c.in_ok-panel.ensures.steps ∙ commands;
-                  });
-              empty = subst IsEmptyPanel same c.in_ok-panel.ensures.empty;
-            }))
+            inr (
+              ap (λ k. Some k) (count ∙ sym last),
+              record {
+                last = last;
+                named = record { group = ap (λ (q : KeptPanel). q.group) (sym same) ∙ c.in_ok-panel.ensures.named.group; like = ap (λ (q : KeptPanel). q.like) (sym same) ∙ c.in_ok-panel.ensures.named.like };
+                chosen = selected;
+                none_left = omega (arith, c.if-self-gt0.false);
+                none = none;
+                fit = λ props listed. (
+                    let found : Some (c.in-Some._name.now, c.in-Some.props.now) ≡ Some props = c.in-Some.ensures.entry ∙ listed in
+                    let pair : (c.in-Some._name.now, c.in-Some.props.now) ≡ props = some_same (c.in-Some._name.now, c.in-Some.props.now) props found in
+                    let commands = ap (λ (l : List ℕ × GroupProps). command_count l.1) pair in
+                    record {
+                      lanes = ap (λ (q : KeptPanel). length q.lanes.items) (sym same) ∙ c.in_ok-panel.ensures.lanes ∙ commands;
+                      steps = ap (λ (q : KeptPanel). length q.steps.items) (sym same) ∙ c.in_ok-panel.ensures.steps ∙ commands;
+                    });
+                empty = subst IsEmptyPanel same c.in_ok-panel.ensures.empty;
+              },
+            ))
         | inr differ ↦ (
             let all : p < length (panels ++ panel ∷ []) = slice_get_within (panels ++ panel ∷ []) p next (sym (ap (λ ps. slice_get ps p) items) ∙ at) in
             let inside : p < length panels = omega (arith, all, differ, length-append panels (panel ∷ [])) in

@@ -1,10 +1,8 @@
-use Rattle.std.proofs.Common.{◌≡◌, ◌<◌, ◌≤◌, ◌∙◌, ℕ, List, Some, arith, ap, get_or, length, refl, set, subst, sym}
+use Rattle.std.proofs.Common.{◌≡◌, ◌<◌, ◌≤◌, ◌∙◌, Some, arith, ap, length, refl, set, subst, sym}
 use Rattle.std.specs.Prelude.{◌==◌, Vec, slice_get, unwrap_or}
 use Rattle.std.specs.declared.alloc.Global.{Global}
-use Rattle.std.proofs.lemmas.List.{get_or-set_same, length-set}
-use Rattle.std.proofs.lemmas.Option.{get_or_from_slice_get, slice_get_read, slice_get_within}
+use Rattle.std.proofs.lemmas.Option.{get_or_from_slice_get, slice_get_within}
 use Rattle.bh_base.specs.Commands.{command_count}
-use Rattle.bh_base.specs.Machine.{circuit_of}
 use Rattle.bh_base.specs.Runs.{State, View, step, view}
 use Rattle.bh_base.specs.Seen.{view_after}
 use Rattle.bh_base.specs.declared.step.Step.{Step}

@@ -1,10 +1,9 @@
-use Rattle.std.proofs.Common.{◌≡◌, ◌∙◌, ℕ, Some, ap, length, sym, subst, arith}
+use Rattle.std.proofs.Common.{◌≡◌, ◌∙◌, Some, ap, length, sym}
 use Rattle.std.specs.Prelude.{slice_get}
 use Rattle.bh_base.specs.Machine.{circuit_of}
 use Rattle.bh_look.specs.declared.lane.Lane.{Lane}
 use Rattle.bh_columns.specs.Columns.{told_of}
 use Rattle.bh_columns.specs.Panels.{FitsLanes, HasAdded, HasAddedTime, HasAddedTold}
-use Rattle.bh_columns.specs.declared.lane.KeptLane.{KeptLane}
 use Rattle.bh_columns.proofs.Lanes.{both_added}
 use Rattle.bh_columns.proofs.Lists.{each_then}
 use Rattle.bh_columns.proofs.panel.KeptPanel.add.Goals as goal

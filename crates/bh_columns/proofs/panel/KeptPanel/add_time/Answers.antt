@@ -1,7 +1,6 @@
-use Rattle.std.proofs.Common.{◌≡◌, ◌∙◌, ◌≤◌, ◌<◌, ℕ, max, min, ap, length, sym, subst, arith}
+use Rattle.std.proofs.Common.{◌≡◌, ◌≤◌, max, min, subst, arith}
 use Rattle.bh_columns.specs.Panels.{HasAddedTime, HasSpent}
 use Rattle.bh_columns.specs.Tracks.{IsReach}
-use Rattle.bh_columns.specs.declared.lane.KeptLane.{KeptLane}
 use Rattle.bh_columns.proofs.Lanes.{time_added, time_nothing}
 use Rattle.bh_columns.proofs.Lists.{each_same, each_weaker}
 use Rattle.bh_columns.proofs.panel.KeptPanel.add_time.Goals as goal

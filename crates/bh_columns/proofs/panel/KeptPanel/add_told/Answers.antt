@@ -1,4 +1,4 @@
-use Rattle.std.proofs.Common.{◌≡◌, ◌/◌, ◌<◌, ◌∙◌, ℕ, Some, true, false, ap, sym, subst, arith}
+use Rattle.std.proofs.Common.{◌≡◌, ◌∙◌, Some, true, false, sym, subst}
 use Rattle.std.specs.Prelude.{slice_get}
 use Rattle.bh_base.specs.Machine.{circuit_of}
 use Rattle.bh_look.specs.declared.lane.Lane.{Lane}
@@ -6,7 +6,6 @@ use Rattle.bh_columns.specs.Columns.{told_of}
 use Rattle.bh_columns.specs.Panels.{HasAddedTold, HasNotedAt}
 use Rattle.bh_columns.specs.Spans.{lies}
 use Rattle.bh_columns.specs.Steps.{closes}
-use Rattle.bh_columns.specs.declared.lane.KeptLane.{KeptLane}
 use Rattle.bh_columns.proofs.Lanes.{told_added, told_nothing}
 use Rattle.bh_columns.proofs.Lists.{each_same, each_weaker}
 use Rattle.bh_columns.proofs.panel.KeptPanel.add_told.Goals as goal

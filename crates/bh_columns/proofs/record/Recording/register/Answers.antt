@@ -1,5 +1,4 @@
 use Rattle.std.proofs.Common.{Ok, subst, sym}
-use Rattle.bh_port.specs.declared.act.LineAct.TheVariants as act
 use Rattle.bh_port.specs.Course.{IsActOf}
 use Rattle.bh_port.specs.Script.{GroupsShow}
 use Rattle.bh_port.specs.Text.{with_act}
