@@ -1,7 +1,8 @@
 #!/bin/bash
 # What the program tells its user: each refusal and fault with the fixed text, its status and, with --explain, the line that
-# says more, and the same output without it; the forms of a lint; the pictures of the examples; and that the man page has the
-# commands and options of --help, no more, no fewer.
+# says more, and the same output without it; the forms of a lint; the pictures of the examples, and why there is none; a shared
+# service from its first line to its end, and its record; and that the man page has the commands and options of --help, no
+# more, no fewer.
 #
 #   bindings/told.sh [PROGRAM]     PROGRAM is proved and built where none is given
 set -euo pipefail
@@ -27,7 +28,7 @@ agree() {
     fi
 }
 
-# Runs the words over the input, with --explain and without: `tells STATUS FIXED MORE WORDS..`.
+# Runs the words over the input, with --explain and without: `tells STATUS FIXED MORE WORDS..`. MORE may be empty.
 tells() {
     local wanted=$1 fixed=$2 more=$3 status=0
     shift 3
@@ -37,8 +38,17 @@ tells() {
     status=0
     "$program" "$@" --explain <input >more.out 2>more.err || status=$?
     agree "the status of $* --explain" "$status" "$wanted"
-    agree "the errors of $* --explain" "$(cat more.err)" "${fixed:+$fixed$'\n'}$more"
+    agree "the errors of $* --explain" "$(cat more.err)" "$fixed${fixed:+${more:+$'\n'}}$more"
     agree "the output of $* --explain" "$(cat more.out)" "$(cat plain.out)"
+}
+
+# The same without --explain, for commands that do not have it: `says STATUS FIXED WORDS..`. The output is left in plain.out.
+says() {
+    local wanted=$1 fixed=$2 status=0
+    shift 2
+    "$program" "$@" <input >plain.out 2>plain.err || status=$?
+    agree "the status of $*" "$status" "$wanted"
+    agree "the errors of $*" "$(cat plain.err)" "$fixed"
 }
 
 # The same of a settings file, read from here: `refuses FIXED MORE`.
@@ -47,6 +57,9 @@ refuses() {
     tells 1 "settings refused: $1" "explain: $2" check settings.toml
     tells 1 "settings refused: $1" "explain: $2" run settings.toml
     tells 1 "settings refused: $1" "explain: $2" serve settings.toml --port 1
+    tells 1 "settings refused: $1" "explain: $2" share settings.toml --port 1
+    says 1 "settings refused: $1" draw settings.toml
+    agree "the output of draw under refused settings" "$(cat plain.out)" ""
 }
 
 : >input
@@ -129,6 +142,74 @@ for example in full-pool shared-pool come-and-go outage; do
     beside=$top/examples/$example
     agree "the picture of $example" "$("$program" draw "$beside/settings.toml" <"$beside/script.jsonl")" "$(cat "$beside/picture.svg")"
 done
+
+# Why there is no picture, or none of all lines.
+draw=(draw settings.toml)
+says 3 "fault: file" draw none.toml
+says 2 "error: --to has to be a moment behind --from" "${draw[@]}" --from 7 --to 7
+says 3 "fault: line" "${draw[@]}"
+agree "the end of a picture that a line ended" "$(tail -n 1 plain.out)" "</svg>"
+agree "what a picture says that a line ended" "$(grep -c 'A fault ended the run behind line 1' plain.out)" 1
+head -n 1 input >first && mv first input
+says 3 "fault: group paymnt" "${draw[@]}" --group payment --group paymnt
+agree "the output of draw of a group that is not there" "$(cat plain.out)" ""
+says 0 "" "${draw[@]}"
+mv plain.out all.svg
+says 0 "" "${draw[@]}" --group payment --from 0 --columns 80
+agree "the picture of the only group" "$(cat plain.out)" "$(cat all.svg)"
+
+# A service that connections share: why there is none, and one until its standard input ends.
+agree "what share --help says beneath the options" "$("$program" share --help | sed -n '/^Clients/,$p')" \
+    "Clients run their dependencies themselves, and ask for each decision. What a client has when its connection ends is
+given back at once. A client beyond N waits unanswered until another one leaves.
+To a port any user of this machine may connect and take permits; nothing is authenticated. A socket only its owner may
+open."
+cat >settings.toml <<'END'
+service.groups = ["payment"]
+hystrix.command.payment.execution.isolation.strategy = "SEMAPHORE"
+END
+share=(share settings.toml --socket)
+long=$(printf '%097d' 0)
+: >input
+tells 3 "fault: file" "explain: none.toml: No such file or directory (os error 2)" share none.toml --socket s
+tells 3 "fault: socket: the path has more than 96 bytes" "" "${share[@]}" "$long"
+tells 3 "fault: socket: what is at settings.toml is no socket" "" "${share[@]}" settings.toml
+tells 3 "fault: network" "explain: socket none/s: No such file or directory (os error 2)" "${share[@]}" none/s
+tells 3 "fault: record" "explain: record none/record: No such file or directory (os error 2)" "${share[@]}" s --record none/record
+mkfifo held
+"$program" "${share[@]}" s --record record <held >shared.out 2>shared.err &
+busy=$!
+exec {hold}>held
+until [ -s shared.out ]; do sleep 0.02; done
+agree "the first line of share" "$(cat shared.out)" "listening s"
+tells 3 "fault: socket: a service listens at s" "" "${share[@]}" s
+cat >asked <<'END'
+{"op":"submit","group":"payment","arg":"order 3"}
+{"op":"finish","group":"payment","ticket":1,"body":"paid"}
+{"op":"collect","group":"payment","ticket":1}
+END
+cat >wanted <<'END'
+{"reply":"inline","ticket":1}
+{"reply":"done"}
+{"body":"paid","reply":"value"}
+END
+answered=$(python3 -c 'import socket, sys
+with socket.socket(socket.AF_UNIX) as connection:
+    connection.connect("s")
+    connection.sendall(sys.stdin.buffer.read())
+    connection.shutdown(socket.SHUT_WR)
+    sys.stdout.writelines(connection.makefile())' <asked)
+agree "the answers of share" "$answered" "$(cat wanted)"
+exec {hold}>&-
+status=0
+wait "$busy" || status=$?
+busy=
+agree "the status of share when standard input ends" "$status" 0
+agree "the errors of share" "$(cat shared.err)" ""
+agree "the socket of share at its end" "$(ls s 2>&1 >/dev/null | wc -l)" 1
+"$program" run settings.toml <record >replies
+agree "the answers to a record" "$(paste record replies | grep -v '"op":"\(expire\|read\)"' | cut -f 2)" "$(cat wanted)"
+agree "the last line of a record" "$(tail -n 1 record | grep -c '"end":true')" 1
 
 # Commands and options, one a line: of --help, of the program and of each command, and of the man page.
 options() {
