@@ -5,11 +5,9 @@ from __future__ import annotations
 import asyncio
 import contextlib
 import contextvars
-import inspect
 import itertools
 import random
 import signal
-import sys
 import threading
 from collections import Counter
 from types import FrameType
@@ -17,42 +15,13 @@ from typing import Any, Optional
 
 import bulkhead
 from bulkhead._coroutines import Carried
+from interrupts import Interrupt, at_place
 from support import SETTINGS, Case, Gate
 
 ROUNDS = 2_000
 
 
-class Interrupt(KeyboardInterrupt):
-    """What the signal handler of these tests raises. A loop lets it out as it does a KeyboardInterrupt."""
-
-
 class Interrupts(Case):
-    def at_place(self, call: Any, number: int) -> bool:
-        """Makes a call that is interrupted at that place of the package; whether it came so far.
-
-        Places are the begins of functions and the ends of calls, which is where the interpreter looks for signals. A
-        coroutine that pauses is none.
-        """
-        places, was_reached = itertools.count(1), False
-
-        def profile(frame: FrameType, event: str, argument: object) -> None:
-            nonlocal was_reached
-            code = frame.f_code
-            is_place = event != "c_call" and not (event == "return" and code.co_flags & inspect.CO_COROUTINE)
-            if is_place and "/bulkhead/" in code.co_filename and next(places) == number:
-                sys.setprofile(None)
-                was_reached = True
-                raise Interrupt
-
-        try:
-            sys.setprofile(profile)
-            call()
-        except (Interrupt, bulkhead.CommandError):
-            pass
-        finally:
-            sys.setprofile(None)
-        return was_reached
-
     def test_a_call_under_permits_may_be_interrupted_by_the_kernel_at_random_places(self) -> None:
         service = self.open(SETTINGS)
         calls = [
@@ -224,7 +193,7 @@ class Interrupts(Case):
                 reached = 0
                 for number in range(1, 1_000):
                     with service.context() if is_shared else contextlib.nullcontext():
-                        if not self.at_place(call, number):
+                        if not at_place(call, number):
                             break
                         reached += 1
                     self.assert_idle(service)
@@ -235,11 +204,11 @@ class Interrupts(Case):
     def test_each_place_of_a_registration_and_of_a_retirement_may_be_interrupted(self) -> None:
         service, reached = self.open(), 0
         for number in range(1, 1_000):
-            was_told = [self.at_place(lambda: service.register("tenant-7", like="pool"), number)]
+            was_told = [at_place(lambda: service.register("tenant-7", like="pool"), number)]
             self.assert_known(service, "tenant-7")
             if "tenant-7" not in service.turns.groups:
                 service.register("tenant-7", like="pool")
-            was_told.append(self.at_place(lambda: service.retire("tenant-7"), number))
+            was_told.append(at_place(lambda: service.retire("tenant-7"), number))
             self.assert_known(service, "tenant-7")
             if "tenant-7" in service.turns.groups:
                 self.assertTrue(service.retire("tenant-7"))
@@ -265,7 +234,7 @@ class Interrupts(Case):
             context.__enter__()
             for call in calls:
                 call()
-            was_interrupted = self.at_place(lambda: context.__exit__(None, None, None), number)
+            was_interrupted = at_place(lambda: context.__exit__(None, None, None), number)
             self.assertEqual((context.is_open, service.current.get(), service.runs()), (False, None, []))
             if not was_interrupted:
                 break
@@ -276,14 +245,14 @@ class Interrupts(Case):
         service = self.open()
         service.command("pool")(lambda: 1)()
         for number in range(1, 1_000):
-            if not self.at_place(service.metrics, number):
+            if not at_place(service.metrics, number):
                 break
         self.assertGreater(number, 20)
         self.assert_idle(service)
         for number in range(2, 1_000):
             service = self.open()
             service.command("pool")(lambda: 1)()
-            was_interrupted = self.at_place(service.close, number)
+            was_interrupted = at_place(service.close, number)
             self.assertFalse(service.turns.is_open)
             if not was_interrupted:
                 break
@@ -311,7 +280,7 @@ class Interrupts(Case):
             for number in range(1, 1_000):
                 loop = asyncio.new_event_loop()
                 with service.context():
-                    was_interrupted = self.at_place(lambda: loop.run_until_complete(work(value)), number)
+                    was_interrupted = at_place(lambda: loop.run_until_complete(work(value)), number)
                     then(service, loop)
                     loop.close()
                     self.assertEqual(service.metrics("permits").busy, 0)

@@ -2,6 +2,7 @@
 
 from __future__ import annotations
 
+from collections.abc import Callable
 from typing import Any
 
 import bulkhead
@@ -16,6 +17,22 @@ class Shared(ShareCase):
     def declared(self, client: bulkhead.Client, function: Any, **options: Any) -> Any:
         """A command whose answers are whole numbers, and whose key is its argument."""
         return client.command("catalog", key=lambda item: item, encode=str, decode=int, **options)(function)
+
+    def run_and_wait(
+        self, runs: tuple[Any, bulkhead.Client], waits: tuple[Any, bulkhead.Client], gate: Gate
+    ) -> tuple[Callable[[], Any], Callable[[], Any]]:
+        """Begins a call of the first command within a context, and then one of the second, which waits for its run."""
+
+        def call(command: Any, client: bulkhead.Client) -> int:
+            with client.context(5):
+                value: int = command("lamp")
+                return value
+
+        first = self.in_thread(call, *runs)
+        gate.wait()
+        second = self.in_thread(call, *waits)
+        self.fake.until(lambda: self.fake.last().get("wait"))
+        return first, second
 
     def test_an_answer_of_another_process_is_read_from_its_text(self) -> None:
         ran: list[str] = []
@@ -38,15 +55,7 @@ class Shared(ShareCase):
         first, second, gate = self.client(), self.client(), Gate()
         one, other = self.declared(first, lambda item: gate(item) and 7), self.declared(second, lambda item: 8)
 
-        def call(command: Any, client: bulkhead.Client) -> int:
-            with client.context(5):
-                value: int = command("lamp")
-                return value
-
-        runs = self.in_thread(call, one, first)
-        gate.wait()
-        waits = self.in_thread(call, other, second)
-        self.fake.until(lambda: self.fake.last().get("wait"))
+        runs, waits = self.run_and_wait((one, first), (other, second), gate)
         self.assertEqual(second.metrics("catalog").free, 60)
         gate.open()
         self.assertEqual((runs(), waits()), (7, 7))
@@ -115,15 +124,7 @@ class Shared(ShareCase):
         one = self.declared(first, lambda item: gate(item) and 7, fallback=lambda item, *, cause: 1)
         other = self.declared(second, lambda item: 8, fallback=lambda item, *, cause: 2)
 
-        def call(command: Any, client: bulkhead.Client) -> int:
-            with client.context(5):
-                value: int = command("lamp")
-                return value
-
-        runs = self.in_thread(call, one, first)
-        gate.wait()
-        waits = self.in_thread(call, other, second)
-        self.fake.until(lambda: self.fake.last().get("wait"))
+        runs, waits = self.run_and_wait((one, first), (other, second), gate)
         self.fake.time_out(1)
         self.assertEqual(waits(), 2)
         gate.open()

@@ -2,7 +2,6 @@
 
 from __future__ import annotations
 
-import inspect
 import itertools
 import random
 import signal
@@ -12,12 +11,8 @@ from collections.abc import Callable
 from types import FrameType
 from typing import Any, Optional
 
-import bulkhead
+from interrupts import Interrupt, at_place
 from share_support import ShareCase
-
-
-class Interrupt(KeyboardInterrupt):
-    """What the signal handler of these tests raises."""
 
 
 class Interrupts(ShareCase):
@@ -31,34 +26,10 @@ class Interrupts(ShareCase):
         self.addCleanup(setattr, sys, "unraisablehook", sys.unraisablehook)
         sys.unraisablehook = lambda told: None
 
-    def at_place(self, call: Callable[[], Any], number: int) -> bool:
-        """Makes a call that is interrupted at that place of the package; whether it came so far.
-
-        Places are the begins of functions and the ends of calls, which is where the interpreter looks for signals.
-        """
-        places, was_reached = itertools.count(1), False
-
-        def profile(frame: FrameType, event: str, argument: object) -> None:
-            nonlocal was_reached
-            is_place = event != "c_call" and not (event == "return" and frame.f_code.co_flags & inspect.CO_COROUTINE)
-            if is_place and "/bulkhead/" in frame.f_code.co_filename and next(places) == number:
-                sys.setprofile(None)
-                was_reached = True
-                raise Interrupt
-
-        try:
-            sys.setprofile(profile)
-            call()
-        except (Interrupt, bulkhead.CommandError):
-            pass
-        finally:
-            sys.setprofile(None)
-        return was_reached
-
     def at_each_place(self, call: Callable[[], Any], after: Callable[[], None]) -> int:
         """Interrupts a call at each of its places, and tells how many there were."""
         for number in itertools.count(1):
-            if not self.at_place(call, number):
+            if not at_place(call, number):
                 return number - 1
             self.fake.until(self.fake.settled)
             after()
@@ -81,7 +52,7 @@ class Interrupts(ShareCase):
             for number in itertools.count(1):
                 # one call runs the function, and one shares the answer
                 with client.context():
-                    was_reached = [self.at_place(lambda: call(value), number) for _ in range(2)]
+                    was_reached = [at_place(lambda: call(value), number) for _ in range(2)]
                 self.fake.until(self.fake.settled)
                 after()
                 if not any(was_reached):

@@ -2,8 +2,6 @@
 
 from __future__ import annotations
 
-import copy
-import functools
 from collections.abc import Callable, Coroutine
 from concurrent.futures import Future
 from typing import TYPE_CHECKING, Any, Generic, Optional, ParamSpec, TypeVar
@@ -12,6 +10,7 @@ from . import _client_calls, _client_coroutines
 from ._client_bodies import ClientBody, Keyed
 from ._client_calls import Call
 from ._client_contexts import ClientContext, key_name
+from ._declared import Declared, not_queued
 from .contexts import checked_key
 from .errors import Refused
 
@@ -21,34 +20,20 @@ if TYPE_CHECKING:
 P = ParamSpec("P")
 R = TypeVar("R")
 T = TypeVar("T")
-Self = TypeVar("Self", bound="_Declared")
 
 
-class _Declared:
+class _ClientDeclared(Declared):
     """What the two kinds of command share."""
 
+    _body: ClientBody
+
     def __init__(self, client: Client, body: ClientBody, key: Optional[Callable[..., Any]]) -> None:
-        self._client, self._body, self._key = client, body, key
-        # the instance, where it is the command of a method that was bound
-        self._bound: tuple[Any, ...] = ()
-        functools.update_wrapper(self, body.function)
-
-    @property
-    def name(self) -> str:
-        """The name of the command, by which its metrics go."""
-        return self._body.place.spelled
-
-    def __get__(self: Self, instance: object, owner: Optional[type] = None) -> Self:
-        """The command of a method is bound as the method would be."""
-        if instance is None:
-            return self
-        made = copy.copy(self)
-        made._bound = (instance,)
-        return made
+        super().__init__(body)
+        self._client, self._key = client, key
 
     def queue(self, *args: Any, **kwargs: Any) -> Future[Any]:
         """Refused: a command of a client runs in its caller, under SEMAPHORE."""
-        raise Refused(f"{self.name} runs under SEMAPHORE: to queue it, it has to run under THREAD")
+        raise not_queued(self.name)
 
     def _call(self, arguments: tuple[Any, ...], named: dict[str, Any]) -> Call:
         """A call that has not been submitted yet."""
@@ -68,7 +53,7 @@ class _Declared:
         return None if checked is None else (context, key_name(checked))
 
 
-class ClientCommand(_Declared, Generic[P, R]):
+class ClientCommand(_ClientDeclared, Generic[P, R]):
     """A command of a plain function, which runs in its caller's thread. To call it is to execute it."""
 
     def __call__(self, *args: P.args, **kwargs: P.kwargs) -> R:
@@ -84,7 +69,7 @@ class ClientCommand(_Declared, Generic[P, R]):
         raise Refused(f"{self.name} is a plain function, and runs in the thread of its caller: call it")
 
 
-class AsyncClientCommand(_Declared, Generic[P, T]):
+class AsyncClientCommand(_ClientDeclared, Generic[P, T]):
     """A command of a coroutine function, which runs as a task of its caller's loop. To await its call is to execute it."""
 
     def __call__(self, *args: P.args, **kwargs: P.kwargs) -> Coroutine[Any, Any, T]:

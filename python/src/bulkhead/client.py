@@ -5,15 +5,16 @@ from __future__ import annotations
 import os
 from collections.abc import Callable, Coroutine, Iterable
 from contextvars import ContextVar
-from types import TracebackType
 from typing import Any, Literal, Optional, ParamSpec, Protocol, TypeVar, Union, overload
 
-from . import _coroutines, _lines, _words as words, prometheus, settings as of_settings
+from . import _lines, _words as words, prometheus, settings as of_settings
 from ._client_bodies import ClientBody, Texts, thread_refused
 from ._client_calls import Asked, execute
 from ._client_commands import AsyncClientCommand, ClientCommand
 from ._client_contexts import ClientContext
+from ._closing import Closing
 from ._connection import Address, Answer, Lost, checked_address
+from ._declared import is_coroutine_command
 from ._groups import Group, Place
 from ._links import Links
 from .contexts import RequestContext
@@ -71,7 +72,7 @@ def connect(
     return Client(links, known, when_unreachable)
 
 
-class Client:
+class Client(Closing):
     """A client, which `bulkhead.connect` gives. It is a context manager, whose end closes it.
 
     Threads and coroutines of a process may share it. In a forked process it goes on, over a connection of that process.
@@ -96,14 +97,6 @@ class Client:
         of = known if known is not None else [_unknown(name) for name in links.names]
         self._groups = [Group(number, group, group.name) for number, group in enumerate(of)]
         self._places = {place.spelled: place for group in self._groups for place in group.places}
-
-    def __enter__(self) -> Client:
-        return self
-
-    def __exit__(
-        self, kind: Optional[type[BaseException]], error: Optional[BaseException], trace: Optional[TracebackType]
-    ) -> None:
-        self.close()
 
     def close(self) -> None:
         """Closes all connections. The service fails the runs that go on; every later call is `Stopped`."""
@@ -141,9 +134,7 @@ class Client:
         def declare(function: Callable[..., Any]) -> Any:
             if name in self._declared:
                 raise Refused(f"the command {name} was declared already")
-            is_coroutine = _coroutines.is_coroutine_function(function)
-            if not is_coroutine and _coroutines.is_coroutine_function(fallback):
-                raise Refused(f"the fallback of {name} is a coroutine function, and the function is none")
+            is_coroutine = is_coroutine_command(name, function, fallback)
             self._declared.add(name)
             body = ClientBody(self._links, place, function, fallback, is_coroutine, texts, choice == "fallback")
             body.is_inline = self._is_known

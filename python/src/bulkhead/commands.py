@@ -4,7 +4,6 @@ from __future__ import annotations
 
 import asyncio
 import copy
-import functools
 from collections.abc import Callable, Coroutine
 from concurrent.futures import Future
 from contextvars import copy_context
@@ -12,6 +11,7 @@ from threading import get_ident
 from typing import TYPE_CHECKING, Any, Generic, Optional, ParamSpec, TypeVar
 
 from . import _coroutines, _words as words
+from ._declared import Declared, not_queued
 from ._futures import FutureHolder
 from ._groups import Place
 from ._runs import UNTOLD, Body, Caller, Holder, Run, Waiter
@@ -28,10 +28,10 @@ _VALUE = words.VALUE
 P = ParamSpec("P")
 R = TypeVar("R")
 T = TypeVar("T")
-Self = TypeVar("Self", bound="_Declared")
+Self = TypeVar("Self", bound="_CoreDeclared")
 
 
-class _Declared:
+class _CoreDeclared(Declared):
     """What the two kinds of command share: the function, and the group and the number of the command in it."""
 
     def __init__(
@@ -42,20 +42,12 @@ class _Declared:
         fallback: Optional[Callable[..., Any]],
         key: Optional[Callable[..., Any]],
     ) -> None:
+        super().__init__(Body(place, function, fallback, isinstance(self, AsyncCommand)))
         self._service, self._key = service, key
         self._turns: Core = service.turns
         # looked up once, which each call would do else
         self._turn, self._submit, self._end = self._turns.turn_of, self._turns.submit, self._turns.end
-        self._body = Body(place, function, fallback, isinstance(self, AsyncCommand))
         self._is_pooled = place.settings.is_pooled
-        # the instance, where it is the command of a method that was bound
-        self._bound: tuple[Any, ...] = ()
-        functools.update_wrapper(self, function)
-
-    @property
-    def name(self) -> str:
-        """The name of the command, by which its metrics go."""
-        return self._body.place.spelled
 
     def of(self: Self, group: str) -> Self:
         """The same command in a group that was registered like this one's.
@@ -68,14 +60,6 @@ class _Declared:
             raise Refused(f"{group} was not registered like {body.group.like}, which has the command {self.name}")
         made = copy.copy(self)
         made._body = Body(of.places[body.place.number], body.function, body.fallback, body.is_awaited)
-        return made
-
-    def __get__(self: Self, instance: object, owner: Optional[type] = None) -> Self:
-        """The command of a method is bound as the method would be."""
-        if instance is None:
-            return self
-        made = copy.copy(self)
-        made._bound = (instance,)
         return made
 
     def _run(self, arguments: tuple[Any, ...], named: dict[str, Any]) -> Run:
@@ -106,7 +90,7 @@ class _Declared:
                 continue
 
 
-class Command(_Declared, Generic[P, R]):
+class Command(_CoreDeclared, Generic[P, R]):
     """A command of a plain function. To call it is to execute it."""
 
     def __call__(self, *args: P.args, **kwargs: P.kwargs) -> R:
@@ -148,7 +132,7 @@ class Command(_Declared, Generic[P, R]):
     def queue(self, *args: P.args, **kwargs: P.kwargs) -> Future[R]:
         """Queues the command, which has to run under THREAD: a future of what a call would give or raise."""
         if not self._is_pooled:
-            raise Refused(f"{self.name} runs under SEMAPHORE: to queue it, it has to run under THREAD")
+            raise not_queued(self.name)
         run = self._run(args, kwargs)
         shared = None if self._key is None else self._shared(run)
         run.variables = copy_context()
@@ -199,7 +183,7 @@ def _raise_own(holder: Holder, operation: int) -> None:
             raise error
 
 
-class AsyncCommand(_Declared, Generic[P, T]):
+class AsyncCommand(_CoreDeclared, Generic[P, T]):
     """A command of a coroutine function, which runs as a task under SEMAPHORE. To await its call is to execute it."""
 
     def __call__(self, *args: P.args, **kwargs: P.kwargs) -> Coroutine[Any, Any, T]:

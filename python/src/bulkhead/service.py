@@ -9,11 +9,12 @@ from contextlib import suppress
 from contextvars import ContextVar
 from itertools import count
 from pathlib import Path
-from types import TracebackType
 from typing import Any, Optional, ParamSpec, Protocol, TypeVar, Union, overload
 
 from . import _coroutines, _ends, prometheus, settings as of_settings
+from ._closing import Closing
 from ._core import Core
+from ._declared import is_coroutine_command
 from ._groups import Group, Place
 from ._recording import Record
 from ._runs import RETIRED, Run
@@ -54,7 +55,7 @@ def open(  # noqa: A001: it is called as bulkhead.open
     return CommandService(of_settings.read(settings, text), clock, on_transition)
 
 
-class CommandService:
+class CommandService(Closing):
     """A service of commands, which `bulkhead.open` gives. It is a context manager, whose end closes it."""
 
     def __init__(
@@ -77,14 +78,6 @@ class CommandService:
         _ends.watch(self)
         if clock is None:
             self.turns.start_timer()
-
-    def __enter__(self) -> CommandService:
-        return self
-
-    def __exit__(
-        self, kind: Optional[type[BaseException]], error: Optional[BaseException], trace: Optional[TracebackType]
-    ) -> None:
-        self.close()
 
     # -- commands
 
@@ -109,11 +102,9 @@ class CommandService:
         def declare(function: Callable[..., Any]) -> Any:
             if name in self._declared:
                 raise Refused(f"the command {name} was declared already")
-            is_coroutine = _coroutines.is_coroutine_function(function)
+            is_coroutine = is_coroutine_command(name, function, fallback)
             if is_coroutine and place.settings.is_pooled:
                 raise Refused(f"{name} runs under THREAD, and a coroutine function can run under SEMAPHORE alone")
-            if not is_coroutine and _coroutines.is_coroutine_function(fallback):
-                raise Refused(f"the fallback of {name} is a coroutine function, and the function is none")
             self._declared.add(name)
             kind = AsyncCommand if is_coroutine else Command
             return kind(self, place, function, fallback, key)

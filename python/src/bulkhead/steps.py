@@ -14,10 +14,10 @@ import threading
 import weakref
 from ctypes import byref, c_char, c_size_t, c_uint8, c_uint64
 from dataclasses import dataclass
-from types import TracebackType
 from typing import Any, Optional, Union
 
 from . import _library, _words as words
+from ._closing import Closing
 from .errors import BadStep, Error, NotOpen, Reentered, Refused, raise_unless_done
 
 _NUMBERED = {word: number for number, word in enumerate(words.OPERATIONS, 1)}
@@ -96,7 +96,7 @@ def _raw(value: Any, what: str) -> bytes:
     return bytes(value)
 
 
-class Service:
+class Service(Closing):
     """A service of new groups, by the bytes of a settings file. `Refused` is raised where they are refused.
 
     A service that is dropped gives its memory back, as one that is closed does.
@@ -120,14 +120,6 @@ class Service:
         self._lock, self._is_in_call = threading.RLock(), False
         self._finalizer = weakref.finalize(self, close_held, held, os.getpid())
         self._finalizer.atexit = False
-
-    def __enter__(self) -> Service:
-        return self
-
-    def __exit__(
-        self, kind: Optional[type[BaseException]], error: Optional[BaseException], trace: Optional[TracebackType]
-    ) -> None:
-        self.close()
 
     def close(self) -> None:
         """Gives the memory back; a service that is closed already is left alone. Every later call is `NotOpen`."""
