@@ -8,7 +8,7 @@
 
 PREFIX ?= /usr/local
 to = $(DESTDIR)$(PREFIX)
-VERSION := $(shell sed -n 's/^const VERSION: &str = "\([0-9.]*\)\\n.*/\1/p' crates/bulkhead/src/main.rt)
+VERSION := $(shell sed -n 's/^const VERSION: &str = "\([0-9.]*\)\\n.*/\1/p' crates/bh_arguments/src/commands.rt)
 INTERFACE := $(shell sed -n 's/^\#define BULKHEAD_VERSION \([0-9]*\)u$$/\1/p' include/bulkhead.h)
 MACHINE := $(shell uname -m)
 

@@ -1,6 +1,6 @@
-//! The arguments of the program.
+//! Arguments that are refused.
 
-use crate::{command, run_arguments};
+use bh_arguments::{command, run_arguments};
 use std::fs::Files;
 use std::net::{Net, TcpListener, TcpStream};
 use std::process::Abort;

@@ -1,0 +1,5 @@
+//! Tests of the arguments of the program.
+#![tactic(auto)]
+
+#[cfg(test)]
+mod refused;
