@@ -194,7 +194,19 @@ pub(crate) fn visit_service<
         },
     );
     assert_eq!(rt; status, 0);
+    if visit == Visit::DieWaiting {
+        assert_silent(rt, &reports);
+    }
     recorded.into_inner()
+}
+
+/// Asserts that the service said nothing on standard error.
+fn assert_silent<R: Wait + Abort + AllocGlobal>(rt: &R, reports: &Reports) {
+    let errors = Mutex::new(Vec::new(rt.alloc()));
+    reports.close(rt);
+    reports.write_to(rt, &errors);
+    let said = errors.into_inner();
+    assert!(rt; said.is_empty(), "a client that is gone is no fault");
 }
 
 impl<
