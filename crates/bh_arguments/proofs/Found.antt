@@ -1,11 +1,11 @@
 -- What the getters of a parse tell of an argument, by its rows.
-use Rattle.std.proofs.Common.{◌≡◌, ◌∙◌, ◌^◌, ◌<◌, ℕ, Bool, true, false, List, [], Option, Some, None, Result, Ok, Err, codes, ap, sym, refl}
+use Rattle.std.proofs.Common.{◌≡◌, ◌∙◌, ◌^◌, ◌<◌, ℕ, Bool, true, false, List, [], Option, Some, None, Result, codes, ap, refl}
 use Rattle.std.specs.Prelude.{map, option_map, unwrap_or}
 use Rattle.std.specs.Borrow.{Bor}
 use Rattle.std.specs.declared.num.ParseIntError.{ParseIntError}
 use Rattle.std.specs.Str.Parse.{IsNumeral, ParsesUnsigned, ExplainsUnsignedError, HasUnsignedDigitsIfOk, digits_value, without_leading_plus}
-use Rattle.clap.specs.Words.{ReadsOne, all_of, first_of, first_value, one_text, raw_values, matched_of, rows_of}
-use Rattle.clap.specs.Walk.{Text, one_of}
+use Rattle.clap.specs.Words.{ReadsOne, all_of, first_value, one_text, raw_values, matched_of, rows_of}
+use Rattle.clap.specs.Walk.{Text}
 use Rattle.clap.specs.declared.parser.matches.Found.{Found}
 use Rattle.clap.proofs.WalkLemmas.{first_value-rows, one_text-rows, raw_values-rows}
 use Rattle.bh_arguments.specs.Invocations.{IsFlag, IsNumber, IsText}

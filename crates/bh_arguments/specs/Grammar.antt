@@ -1,5 +1,5 @@
 -- Which arguments may be given, as a parse of the words reads them.
-use Rattle.std.specs.Prelude.{◌≡◌, ℕ, List, [], ◌∷◌, Some, true, false, codes, pos}
+use Rattle.std.specs.Prelude.{◌≡◌, [], ◌∷◌, Some, true, false, codes, pos}
 use Rattle.clap.specs.Walk.{Rule, Text, rule_of}
 use Rattle.clap.specs.Simple.{App, app_of, new_app, new_rule, with_rule}
 use Rattle.clap.specs.declared.builder.arg.Arg.{Arg}
@@ -93,8 +93,14 @@ summary = with_rule (with_file (codes "summary")) (flag (codes "json"))
 abbrev pub listening : Text → App
 listening name = with_rule (with_rule (with_explained_file name) port) socket
 
+abbrev pub serving : App
+serving = with_rule (with_rule (listening (codes "serve")) (connections (codes "1"))) (flag (codes "keep-serving"))
+
 abbrev pub serve : App
-serve = with_rule (with_rule (with_rule (with_rule (listening (codes "serve")) (connections (codes "1"))) (flag (codes "keep-serving"))) serve_forever) idle
+serve = with_rule (with_rule serving serve_forever) idle
+
+abbrev pub lending : App
+lending = with_rule (with_rule (listening (codes "share")) (connections (codes "64"))) tickets
 
 abbrev pub share : App
-share = with_rule (with_rule (with_rule (with_rule (with_rule (listening (codes "share")) (connections (codes "64"))) tickets) (option (codes "record"))) (flag (codes "forever"))) idle
+share = with_rule (with_rule (with_rule lending (option (codes "record"))) (flag (codes "forever"))) idle

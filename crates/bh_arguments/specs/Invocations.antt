@@ -1,8 +1,7 @@
 -- What the arguments ask for, by what a parse found of them.
-use Rattle.std.specs.Prelude.{◌≡◌, ◌<◌, ◌≤◌, ◌^◌, ◌||◌, ◌&&◌, not, ℕ, Bool, true, false, List, [], map, Option, Some, None, codes, option_map, unwrap_or}
+use Rattle.std.specs.Prelude.{◌≡◌, ◌<◌, ◌≤◌, ◌^◌, ◌||◌, ◌&&◌, not, ℕ, Bool, true, false, List, [], map, Some, None, codes, option_map, unwrap_or}
 use Rattle.std.specs.Str.Parse.{IsNumeral, digits_value, without_leading_plus}
 use Rattle.clap.specs.Walk.{Row, Text, all_of, first_of, one_of}
-use Rattle.bh_commands.specs.declared.draw.Drawing.{Drawing}
 use Rattle.bh_commands.specs.declared.place.Place.{Place}
 use Rattle.bh_commands.specs.declared.place.Place.TheVariants as place
 use Rattle.bh_commands.specs.declared.summary.SummaryForm.{SummaryForm}

@@ -11,10 +11,13 @@ bare = let a = new_app (codes "bulkhead") in record a { top = record a.top { has
 abbrev pub settings_program : App
 settings_program = with_subcommand (with_subcommand bare (with_explained_file (codes "check")).top) lint.top
 
--- and those over scripts
+-- and those that print lines of a script or their answers
+abbrev pub line_program : App
+line_program = with_subcommand (with_subcommand settings_program (with_explained_file (codes "run")).top) cut.top
+
+-- and the others over scripts
 abbrev pub script_program : App
-script_program =
-    with_subcommand (with_subcommand (with_subcommand (with_subcommand settings_program (with_explained_file (codes "run")).top) cut.top) draw.top) summary.top
+script_program = with_subcommand (with_subcommand line_program draw.top) summary.top
 
 -- and those that serve: the program
 abbrev pub program : App

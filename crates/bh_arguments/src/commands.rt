@@ -2,7 +2,7 @@
 
 ghost use Rattle.std.specs.Prelude.{IfOk};
 ghost use Rattle.bh_arguments.specs.Grammar.{IsCommand, cut, draw, lint, summary, with_explained_file, with_file};
-ghost use Rattle.bh_arguments.specs.Program.{settings_program};
+ghost use Rattle.bh_arguments.specs.Program.{line_program, program, script_program, settings_program};
 
 use crate::options::{columns, deny_warnings, explain, group, json, moment, settings_file};
 use crate::services::{serve_command, share_command};
@@ -13,23 +13,34 @@ use std::alloc::{AllocError, Global};
 const VERSION: &str = "1.0.0\nrattle-kit-13f logic dac8208d650f15bf";
 
 /// The program, with all commands and arguments that may be given.
-pub fn command<'a>(alloc: Global) -> Result<Command<'a>, AllocError> {
+pub fn command<'a>(alloc: Global) -> Result<Command<'a>, AllocError>
+    ensures { IfOk result (λ command. IsCommand command program) }
+{
     script_commands(alloc)?
         .subcommand(serve_command(alloc)?)?
         .subcommand(share_command(alloc)?)
 }
 
 /// The program, with the commands over scripts behind those over settings alone.
-fn script_commands<'a>(alloc: Global) -> Result<Command<'a>, AllocError> {
+fn script_commands<'a>(alloc: Global) -> Result<Command<'a>, AllocError>
+    ensures { IfOk result (λ command. IsCommand command script_program) }
+{
+    line_commands(alloc)?
+        .subcommand(draw_command(alloc)?)?
+        .subcommand(summary_command(alloc)?)
+}
+
+/// The program, with the commands that print lines of a script or their answers behind those over settings alone.
+fn line_commands<'a>(alloc: Global) -> Result<Command<'a>, AllocError>
+    ensures { IfOk result (λ command. IsCommand command line_program) }
+{
     settings_commands(alloc)?
         .subcommand(with_explained_file(
             alloc,
             "run",
             "Answers each step on standard input, a line of JSON, by a line",
         )?)?
-        .subcommand(cut_command(alloc)?)?
-        .subcommand(draw_command(alloc)?)?
-        .subcommand(summary_command(alloc)?)
+        .subcommand(cut_command(alloc)?)
 }
 
 /// The program, with the commands over settings alone.

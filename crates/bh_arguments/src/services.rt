@@ -1,7 +1,7 @@
 //! The commands of services that connections are made to, with their arguments.
 
 ghost use Rattle.std.specs.Prelude.{IfOk, codes};
-ghost use Rattle.bh_arguments.specs.Grammar.{IsArgument, IsCommand, connections, idle, listening, option, port, serve_forever, socket, tickets};
+ghost use Rattle.bh_arguments.specs.Grammar.{IsArgument, IsCommand, connections, idle, lending, listening, option, port, serve, serve_forever, serving, share, socket, tickets};
 
 use crate::commands::with_explained_file;
 use crate::options::flag;
@@ -23,7 +23,18 @@ To a port any user of this machine may connect and take permits; nothing is auth
 open.";
 
 /// The command that serves connections.
-pub(crate) fn serve_command<'a>(alloc: Global) -> Result<Command<'a>, AllocError> {
+pub(crate) fn serve_command<'a>(alloc: Global) -> Result<Command<'a>, AllocError>
+    ensures { IfOk result (λ command. IsCommand command serve) }
+{
+    serving_command(alloc)?
+        .arg(serve_forever(alloc)?)?
+        .arg(idle(alloc))
+}
+
+/// The command that serves connections, save how long it does.
+fn serving_command<'a>(alloc: Global) -> Result<Command<'a>, AllocError>
+    ensures { IfOk result (λ command. IsCommand command serving) }
+{
     listening_command(
         alloc,
         "serve",
@@ -39,13 +50,27 @@ pub(crate) fn serve_command<'a>(alloc: Global) -> Result<Command<'a>, AllocError
         alloc,
         "keep-serving",
         "Serves further connections until standard input ends",
-    ))?
-    .arg(serve_forever(alloc)?)?
-    .arg(idle(alloc))
+    ))
 }
 
 /// The command that connections share.
-pub(crate) fn share_command<'a>(alloc: Global) -> Result<Command<'a>, AllocError> {
+pub(crate) fn share_command<'a>(alloc: Global) -> Result<Command<'a>, AllocError>
+    ensures { IfOk result (λ command. IsCommand command share) }
+{
+    lending_command(alloc)?
+        .arg(record(alloc))?
+        .arg(flag(
+            alloc,
+            "forever",
+            "Does not look at standard input, at whose end it ends otherwise",
+        ))?
+        .arg(idle(alloc))
+}
+
+/// The command that connections share, save its record and how long it serves.
+fn lending_command<'a>(alloc: Global) -> Result<Command<'a>, AllocError>
+    ensures { IfOk result (λ command. IsCommand command lending) }
+{
     listening_command(
         alloc,
         "share",
@@ -57,14 +82,7 @@ pub(crate) fn share_command<'a>(alloc: Global) -> Result<Command<'a>, AllocError
         "How many connections may be open at a time, 1 to 64",
         "64",
     ))?
-    .arg(tickets(alloc))?
-    .arg(record(alloc))?
-    .arg(flag(
-        alloc,
-        "forever",
-        "Does not look at standard input, at whose end it ends otherwise",
-    ))?
-    .arg(idle(alloc))
+    .arg(tickets(alloc))
 }
 
 /// A command that listens at a port or a socket.
