@@ -21,10 +21,7 @@ cc -O2 -pthread -o "$work/client" "$here/serve_client.c"
 
 # The window is an hour, so that no call has left it when the metrics are read.
 list_settings "$groups" "hystrix.command.default.metrics.rollingStats.timeInMilliseconds = 3600000" >"$work/settings.toml"
-mkfifo "$work/input"
-exec 4<>"$work/input"
-start "$program" --connections 64 --keep-serving <"$work/input" 4>&-
-exec 5>"$work/input" 4>&-
+start_with_input "$program" --connections 64 --keep-serving
 "$work/client" "$port" 64 "$calls" "$groups" "$service"
 exec 3<>"/dev/tcp/127.0.0.1/$port"
 for ((group = 0; group < groups; group++)); do
@@ -32,7 +29,8 @@ for ((group = 0; group < groups; group++)); do
     IFS= read -t 10 -r answer <&3
     echo "$answer"
 done >"$work/metrics"
-exec 3>&- 5>&-
+exec 3>&-
+end_input
 await_end
 counted=$(sed 's/.*"SUCCESS":\([0-9]*\).*/\1/' "$work/metrics" | awk '{ sum += $1 } END { print sum }')
 echo "$calls calls, $counted counted as successes in $(grep -vc '"events":{"SUCCESS":[0-9]*}' "$work/metrics" || true) groups with other events"

@@ -43,10 +43,7 @@ call_four() {
 }
 
 # The service goes on until its standard input is closed, of which nobody else keeps the writing end open.
-mkfifo "$work/input"
-exec 4<>"$work/input"
-start "$program" --connections 64 --keep-serving --idle "$idle" <"$work/input" 4>&- 2>"$work/errors"
-exec 5>"$work/input" 4>&-
+start_with_input "$program" --connections 64 --keep-serving --idle "$idle" 2>"$work/errors"
 call_four "4 connections alone"
 "$work/hostile" "$port" 60 "g$groups" >"$work/connected" &
 hostile=$!
@@ -54,6 +51,6 @@ within_ten_seconds grep -qs connected "$work/connected"
 sleep 1
 call_four "4 connections beside 60"
 end_hostile
-exec 5>&-
+end_input
 await_end
 echo "the service reported: $(sort "$work/errors" | uniq -c | tr -s ' \n' ' ')"

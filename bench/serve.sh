@@ -44,18 +44,9 @@ print_table() {
             run_once "$program" "$connections" >>"$work/this"
             [ -z "$other" ] || run_once "$other" "$connections" >>"$work/other"
         done
-        print_median "$connections" this
-        [ -z "$other" ] || print_median "$connections" other
+        print_median "$connections" this calls
+        [ -z "$other" ] || print_median "$connections" other calls
     done
-}
-
-# Prints the median of the runs of a program by calls a second.
-print_median() {
-    sort -n "$work/$2" | sed -n "$(((runs + 1) / 2))p" | {
-        read -r rate p50 p99 switches busy
-        printf '%2d connections, %5s: %7.0f calls a second, p50 %.3f ms, p99 %.3f ms, %5.2f context switches a call (client busy %.0f %%)\n' \
-            "$1" "$2" "$rate" "$p50" "$p99" "$switches" "$busy"
-    }
 }
 
 if [ -n "$settings" ]; then

@@ -1,6 +1,7 @@
-# For the scripts that time `bulkhead serve`: what `program.sh` asks of them, and they set `port`.
+# For the scripts that time `bulkhead serve`: what `program.sh` asks of them, and they set `port`. They may set the `verb`
+# and the `address` by which a service is started.
 . "$here/program.sh"
-service=
+service= verb=serve address=(--port "$port")
 trap 'end_service; rm -r "$work"' EXIT
 
 end_service() {
@@ -36,9 +37,22 @@ list_settings() {
 start() {
     local started=$1
     shift
-    "$started" serve "$work/settings.toml" --port "$port" "$@" <&0 >"$work/listening" &
+    : >"$work/listening"
+    "$started" "$verb" "$work/settings.toml" "${address[@]}" "$@" <&0 >"$work/listening" &
     service=$!
     within_ten_seconds grep -qs listening "$work/listening" || { echo "the service does not listen" >&2; exit 1; }
+}
+
+# The same, with a standard input that lasts until `end_input`.
+start_with_input() {
+    [ -p "$work/input" ] || mkfifo "$work/input"
+    exec 4<>"$work/input"
+    start "$@" <"$work/input" 4>&-
+    exec 5>"$work/input" 4>&-
+}
+
+end_input() {
+    exec 5>&-
 }
 
 # Waits until the service has ended by itself.
@@ -46,4 +60,14 @@ await_end() {
     within_ten_seconds has_ended || { echo "the service does not end" >&2; exit 1; }
     wait "$service"
     service=
+}
+
+# Prints the median of the `runs` of a program, over so many connections, by what it does a second: the figures of
+# `serve_client` that a file of that name has.
+print_median() {
+    sort -n "$work/$2" | sed -n "$(((runs + 1) / 2))p" | {
+        read -r rate p50 p99 switches busy
+        printf '%2d connections, %5s: %7.0f %s a second, p50 %.3f ms, p99 %.3f ms, %5.2f context switches each (client busy %.0f %%)\n' \
+            "$1" "$2" "$rate" "$3" "$p50" "$p99" "$switches" "$busy"
+    }
 }

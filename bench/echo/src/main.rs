@@ -1,21 +1,33 @@
 //! A server that echoes the argument of each call and does nothing else: no group, no lock, no JSON. It has a thread for
 //! each connection, as `bulkhead serve` does, so it shows what sockets and threads alone cost.
 //!
-//!     echo serve SETTINGS --port PORT --connections COUNT
+//!     echo serve SETTINGS (--port PORT | --socket PATH) --connections COUNT
 //!
 //! It looks at no settings, and ends once so many connections have ended.
 
 use std::io::{Error, ErrorKind, Read, Result, Write};
 use std::net::{TcpListener, TcpStream};
+use std::os::unix::net::UnixListener;
 use std::{env, thread};
 
 fn main() -> Result<()> {
-    let port: u16 = number_after("--port")?;
-    let count: usize = number_after("--connections")?;
-    let listener = TcpListener::bind(("127.0.0.1", port))?;
+    let count = number(&word_after("--connections")?)?;
+    match word_after("--socket") {
+        Ok(path) => {
+            let listener = UnixListener::bind(path)?;
+            serve(listener.incoming(), count)
+        }
+        Err(_) => {
+            let listener = TcpListener::bind(("127.0.0.1", number(&word_after("--port")?)?))?;
+            serve(listener.incoming().map(without_delay), count)
+        }
+    }
+}
+
+/// Serves so many connections, with a thread for each.
+fn serve<S: Read + Write + Send + 'static>(incoming: impl Iterator<Item = Result<S>>, count: usize) -> Result<()> {
     println!("listening");
-    let connections = listener
-        .incoming()
+    let connections = incoming
         .take(count)
         .map(|stream| stream.map(|stream| thread::spawn(move || answer_all(stream))))
         .collect::<Result<Vec<_>>>()?;
@@ -25,18 +37,27 @@ fn main() -> Result<()> {
     Ok(())
 }
 
-/// The number behind the word among the arguments.
-fn number_after<T: std::str::FromStr>(word: &str) -> Result<T> {
+/// The connection, whose answers are sent as they are written.
+fn without_delay(stream: Result<TcpStream>) -> Result<TcpStream> {
+    let stream = stream?;
+    stream.set_nodelay(true)?;
+    Ok(stream)
+}
+
+/// The word behind the one that is given, among the arguments.
+fn word_after(word: &str) -> Result<String> {
     env::args()
         .skip_while(|argument| argument != word)
         .nth(1)
-        .and_then(|text| text.parse().ok())
-        .ok_or_else(|| Error::new(ErrorKind::InvalidInput, format!("no number after {word}")))
+        .ok_or_else(|| Error::new(ErrorKind::InvalidInput, format!("nothing after {word}")))
+}
+
+fn number<T: std::str::FromStr>(word: &str) -> Result<T> {
+    word.parse().map_err(|_| Error::new(ErrorKind::InvalidInput, format!("{word} is no number")))
 }
 
 /// Answers each line of the connection, until it ends.
-fn answer_all(mut stream: TcpStream) -> Result<()> {
-    stream.set_nodelay(true)?;
+fn answer_all(mut stream: impl Read + Write) -> Result<()> {
     let mut received = [0; 4096];
     let mut held = 0;
     let mut answers = Vec::with_capacity(4096);

@@ -1,10 +1,12 @@
 //! A line that is to wait is answered once there is something to tell, its client is gone or the service is stopped.
 
-use crate::scene::{Scene, Visit, pay_visit};
+use crate::scene::{Scene, Visit, pay_visit, visit_service};
 use std::net::{Net, TcpListener, TcpStream};
 use std::process::Abort;
 use std::rt::Clock;
-use std::sync::Wait;
+use std::sync::{Mutex, Wait};
+use std::time::Duration;
+use std::{str, thread};
 
 const SUBMIT: &str = r#"{"op":"submit","group":"pool","arg":"x"}"#;
 
@@ -56,6 +58,15 @@ impl<
         self.assert_answer(&client, COLLECT, failed);
     }
 
+    /// A worker waits for a run that comes a while later.
+    pub(crate) fn wait_a_while(&self) {
+        let (worker, client) = (self.connect(), self.connect());
+        self.ask_late(&worker, START);
+        thread::sleep(self.rt, Duration::from_millis(20));
+        self.assert_answer(&client, SUBMIT, QUEUED);
+        self.assert_heard(&worker, ASSIGNED);
+    }
+
     /// A worker and a caller wait when the service is stopped. The caller's run is its own: what another connection has of runs
     /// is given back as that one ends, before or after the caller looks.
     pub(crate) fn stop_waiting(&self) {
@@ -86,6 +97,30 @@ fn a_holder_that_waits_gets_its_answer(rt: HostRuntime) {
 #[test]
 fn a_worker_that_is_gone_while_it_waits_keeps_no_run(rt: HostRuntime) {
     pay_visit(&rt, Visit::DieWaiting);
+}
+
+/// The moment of the one step of a record that has the operation.
+fn moment_of<R: Abort + AllocGlobal>(rt: &R, record: &str, op: &str) -> u64 {
+    let mut found = None;
+    for line in record.lines() {
+        if line.contains(op) {
+            assert!(rt; found.is_none(), "{op} stands there once");
+            let (_, behind) = line.split_once("\"now\":").expect(rt, "a moment");
+            let (digits, _) = behind.split_once(",").expect(rt, "a member behind it");
+            found = digits.parse::<u64>().ok();
+        }
+    }
+    found.expect(rt, "a number")
+}
+
+#[test]
+fn a_line_that_waits_has_the_moment_at_which_it_goes_on(rt: HostRuntime) {
+    let heard = Mutex::new(Vec::new(rt.alloc()));
+    let record = visit_service(&rt, 256, Visit::WaitAWhile, &heard);
+    let record = str::from_utf8(record.as_slice()).expect(&rt, "a text");
+    let submitted = moment_of(&rt, record, "\"op\":\"submit\"");
+    let started = moment_of(&rt, record, "\"op\":\"start\"");
+    assert!(&rt; submitted <= started, "{submitted} is later than {started}");
 }
 
 #[test]

@@ -1,0 +1,73 @@
+#!/bin/bash
+# Prints how many requests a second `share` decides over 1, 8 and 64 connections, by a port and by a socket, with the median
+# (p50) and the 99th percentile (p99) of the time that a request takes, and the context switches of the service for each. A
+# request is a submit, a finish and a collect under SEMAPHORE, each sent once the one before is answered. Then it prints how
+# long ten permits stay taken whose client is killed (killed.py), and fails where that is over ten milliseconds.
+#
+#   bench/share.sh [-n REQUESTS] [-g GROUPS] [-r RUNS] [-k TIMES] [-o ECHO] [-p PORT] [PROGRAM]
+#
+# A client is killed so many TIMES. ECHO is the program of `echo`, which is run beside it in turn: the same lines, each
+# answered by one. Each figure is that of the median run by requests a second. PROGRAM is proved and built where none is given.
+set -euo pipefail
+
+here=$(cd "$(dirname "$0")" && pwd)
+calls=40000 groups=16 runs=3 times=100 other= port=7417
+while getopts n:g:r:k:o:p: option; do
+    case $option in
+    n) calls=$OPTARG ;;
+    g) groups=$OPTARG ;;
+    r) runs=$OPTARG ;;
+    k) times=$OPTARG ;;
+    o) other=$OPTARG ;;
+    p) port=$OPTARG ;;
+    *) exit 2 ;;
+    esac
+done
+shift $((OPTIND - 1))
+. "$here/service.sh"
+cc -O2 -pthread -o "$work/client" "$here/serve_client.c"
+list_settings "$groups" 'hystrix.command.default.execution.isolation.strategy = "SEMAPHORE"
+hystrix.command.default.execution.isolation.semaphore.maxConcurrentRequests = 64' >"$work/settings.toml"
+
+# Prints the figures of one run over so many connections at the address.
+run_once() {
+    verb=share
+    start_with_input "$program" --connections "$1"
+    "$work/client" "$2" "$1" "$calls" "$groups" "$service" shared
+    end_input
+    await_end
+}
+
+# The same of the echo, which ends with its connections.
+echo_once() {
+    verb=serve
+    start "$other" --connections "$1"
+    "$work/client" "$2" "$1" "$calls" "$groups" "$service" echoed
+    await_end
+    rm -f "$work/socket"
+}
+
+# Prints a line of figures for each number of connections and each program, at the address.
+print_table() {
+    for connections in 1 8 64; do
+        : >"$work/this"
+        : >"$work/other"
+        for _ in $(seq "$runs"); do
+            run_once "$connections" "$1" >>"$work/this"
+            [ -z "$other" ] || echo_once "$connections" "$1" >>"$work/other"
+        done
+        print_median "$connections" this requests
+        [ -z "$other" ] || print_median "$connections" other requests
+    done
+}
+
+echo "by a port"
+print_table "$port"
+echo "by a socket"
+address=(--socket "$work/socket")
+print_table "$work/socket"
+verb=share
+start_with_input "$program" --connections 2
+python3 "$here/killed.py" "$work/socket" g0 "$times"
+end_input
+await_end
