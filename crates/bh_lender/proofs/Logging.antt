@@ -58,7 +58,7 @@ stays_lost (step ∷ steps) l lost =
     let same : logged step l ≡ l = rw lost refl in ap (logged_each steps) same ∙ stays_lost steps l lost
 
 -- a test is true or false
-shown : (b : Bool) → (b ≡ true) ⊎ (b ≡ false)
+pub shown : (b : Bool) → (b ≡ true) ⊎ (b ≡ false)
 shown true = inl refl
 shown false = inr refl
 

@@ -1,8 +1,10 @@
--- What a log has of the steps that were made.
+-- What a log and an account have of the steps that were made.
 use Rattle.std.specs.Prelude.{◌≡◌, ◌≤◌, ℕ, true, false, List, ◌∷◌, length, option_map}
 use Rattle.bh_base.specs.declared.reply.Reply.{Reply}
 use Rattle.bh_base.specs.declared.step.Step.{Step}
 use Rattle.bh_lease.specs.declared.lease.Lease.{Lease}
+use Rattle.bh_audit.specs.Books.{IsAudited}
+use Rattle.bh_lender.specs.Account.{AreEntered}
 use Rattle.bh_lender.specs.Lender.{DoesStep, IsGivenBack, LenderView}
 use Rattle.bh_lender.specs.Recorded.{RecordedView}
 use Rattle.bh_lender.specs.StepLog.{IsFrontLogged, StepLogView, logged_each}
@@ -14,6 +16,15 @@ abbrev pub AreLogged : Type 0
 AreLogged =
     (old : RecordedView) (made : List Made) (new : RecordedView)
     → AreSteps old made new → new.log ≡ option_map (logged_each (steps_of made)) old.log
+
+-- where journals are kept and agree with their groups, the steps that took the groups from old to new are in them then; and
+-- where none are kept, the journals stay as they were
+abbrev pub AreInAccount : Type 0
+AreInAccount =
+    ((old : RecordedView) (made : List Made) (new : RecordedView)
+    → AreSteps old made new → old.audited ≡ true → IsAudited old.groups old.journals → AreEntered old made new)
+    × ((old : RecordedView) (made : List Made) (new : RecordedView)
+    → AreSteps old made new → old.audited ≡ false → (new.journals ≡ old.journals) × (new.audited ≡ false))
 
 -- the steps of one turn are one list: first the one that was asked for, and then those for holders that are left; or those
 -- by which all was given back

@@ -16,8 +16,8 @@ use Rattle.bh_lender.specs.Recorded.{IsMade, RecordedView}
 use Rattle.bh_lender.specs.Steps.{AreSteps, Made, step_at, steps_of}
 use Rattle.bh_lender.specs.Settling.{Settles}
 
--- all groups with the log of their steps, and the holders that are left with the service, in the order in which their
--- connections ended
+-- all groups with the account and the log of their steps, and the holders that are left with the service, in the order in
+-- which their connections ended
 pub record LenderView : Type 0 where
   pub recorded : RecordedView
   pub left : List Left

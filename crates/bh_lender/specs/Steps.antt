@@ -14,7 +14,7 @@ Made = Step × Reply
 abbrev pub step_at : GroupId → ℕ → Op → Step
 step_at group now o = record { group = group; now = now; op = o }
 
--- these steps and no others took the groups from old to new, in this order, and so they stand in the log
+-- these steps and no others took the groups from old to new, in this order, and so they stand in the log and the account
 abbrev pub AreSteps : RecordedView → List Made → RecordedView → Type 0
 AreSteps old [] new = new ≡ old
 AreSteps old (m ∷ ms) new = (mid : RecordedView) × IsMade old m.0 m.1 mid × AreSteps mid ms new

@@ -1,18 +1,19 @@
 //! The groups, the steps of connections, and what is left of connections that are gone.
 
-ghost use Rattle.std.specs.Prelude.{◌≡◌, ◌↔◌, [], Err, Some, None, OnErr, OnOk, OnSome, IfSome, List};
+ghost use Rattle.std.specs.Prelude.{◌≡◌, ◌↔◌, [], Err, Some, None, OnErr, OnOk, OnSome, IfSome, List, true};
 ghost use Rattle.bh_base.specs.declared.step.Op.TheVariants as op;
 ghost use Rattle.bh_base.specs.declared.reply.Reply.TheVariants as replies;
 ghost use Rattle.bh_lease.specs.Leases.{LeasesView, after, refusal};
-ghost use Rattle.bh_lender.specs.Recorded.{log_or, with_log_of};
-ghost use Rattle.bh_lender.specs.Steps.{step_at};
+ghost use Rattle.bh_audit.specs.Books.{IsAudited};
+ghost use Rattle.bh_lender.specs.Recorded.{book_of, log_or, recorded_of, with_log_of};
 ghost use Rattle.bh_lender.specs.Lender.{DoesStep, IsExpired, IsGivenBack};
 
 use crate::recorded::Recorded;
 use crate::returning::{end_each, leave_each};
 use crate::settling::settle;
 use crate::step_log::StepLog;
-use bh_base::{GroupId, Moment, Op, Reply, Serial};
+use bh_audit::Book;
+use bh_base::{GroupId, Moment, Op, Reply, Serial, Step};
 use bh_core::Core;
 use bh_lease::{Leases, Part, Refusal};
 use std::alloc::{AllocError, Global};
@@ -49,12 +50,13 @@ impl Model for Lender {
 }
 
 impl Lender {
-    /// The groups of a core, of which nobody has tickets. Each step is put into the log, where one is given.
-    pub fn new(alloc: Global, core: Core, log: Option<StepLog>) -> Lender
-        ensures { result ≡ record { recorded = record { groups = core; log = log }; left = [] } }
+    /// The groups of a book, of which nobody has tickets. Each step is in the account of the book, where that is audited, and
+    /// is put into the log, where one is given.
+    pub fn new(alloc: Global, book: Book, log: Option<StepLog>) -> Lender
+        ensures { result ≡ record { recorded = recorded_of book log; left = [] } }
     {
         Lender {
-            core: Recorded::new(core, log),
+            core: Recorded::new(book, log),
             left: Vec::new(alloc),
         }
     }
@@ -64,6 +66,22 @@ impl Lender {
         ensures { result.now ≡ self.now.recorded.groups }
     {
         self.core.core()
+    }
+
+    /// The book, with the groups and the account as the steps so far left them. No step is made for the holders
+    /// that are left.
+    pub fn into_book(self) -> Book
+        ensures { result ≡ book_of self.recorded }
+    {
+        let Lender { core, left: _ } = self;
+        core.into_book()
+    }
+
+    /// Where journals are kept, that of each group agrees with what the group shows.
+    pub fn journals_agree(&self)
+        ensures { self.now.recorded.audited ≡ true → IsAudited self.now.recorded.groups self.now.recorded.journals }
+    {
+        self.core.journals_agree();
     }
 
     /// Exchanges the steps that were put into the log, in the order in which they were made, with those of another log, where
@@ -96,22 +114,20 @@ impl Lender {
     pub fn step(
         &mut self,
         leases: &mut Leases,
-        group: GroupId,
-        now: Moment,
-        op: &Op,
+        step: &Step,
         reply: &mut Reply,
     ) -> Result<(), Refusal>
-        ensures refused { (why : Refusal) → (result ≡ Err why) ↔ (refusal group op.now leases.old ≡ Some why) }
-        ensures does { OnOk result (DoesStep (step_at group now op.now) reply.new self.old self.new) }
-        ensures noted { OnOk result (leases.new ≡ record leases.old { listed = after group op.now reply.new leases.old.listed }) }
+        ensures refused { (why : Refusal) → (result ≡ Err why) ↔ (refusal step.entry.now.group step.entry.now.op leases.old ≡ Some why) }
+        ensures does { OnOk result (DoesStep step.entry.now reply.new self.old self.new) }
+        ensures noted { OnOk result (leases.new ≡ record leases.old { listed = after step.entry.now.group step.entry.now.op reply.new leases.old.listed }) }
         ensures err { OnErr result ((self.new ≡ self.old) × (leases.new ≡ leases.old) × (reply.new ≡ reply.old)) }
     {
-        if let Some(refusal) = leases.refusal(group, op) {
+        if let Some(refusal) = leases.refusal(step.group, &step.op) {
             return Err(refusal);
         }
-        self.core.apply_to(group, now, op, reply);
-        leases.note(group, op, reply);
-        settle(&mut self.core, &mut self.left, now);
+        self.core.apply_to(step, reply);
+        leases.note(step.group, &step.op, reply);
+        settle(&mut self.core, &mut self.left, step.now);
         Ok(())
     }
 
@@ -123,8 +139,9 @@ impl Lender {
         if !self.core.due(group, now) {
             return None;
         }
+        let op = Op::Expire;
         let mut reply = Reply::Idle;
-        self.core.apply_to(group, now, &Op::Expire, &mut reply);
+        self.core.apply_to(&Step { group, now, op }, &mut reply);
         settle(&mut self.core, &mut self.left, now);
         match reply {
             Reply::Expired(number) => Some(number),

@@ -1,22 +1,25 @@
-//! All groups, with a log of the steps that are made in them.
+//! All groups, with an account and a log of the steps that are made in them.
 
-ghost use Rattle.std.specs.Prelude.{◌≡◌, ℕ, false, None, Option, Some};
+ghost use Rattle.std.specs.Prelude.{◌≡◌, ℕ, false, true, None, Option, Some};
 ghost use Rattle.bh_base.specs.Runs.{View};
 ghost use Rattle.bh_base.specs.Seen.{view_reply};
 ghost use Rattle.bh_base.specs.declared.step.Op.TheVariants as op;
 ghost use Rattle.bh_core.specs.CoreView.{view_at};
 ghost use Rattle.bh_core.specs.Looks.{expires_some, is_pending};
-ghost use Rattle.bh_lender.specs.Recorded.{IsMade, log_or, with_log_of};
+ghost use Rattle.bh_audit.specs.Books.{IsAudited};
+ghost use Rattle.bh_lender.specs.Recorded.{IsMade, book_of, log_or, recorded_of, with_log_of};
 
 use crate::step_log::StepLog;
-use bh_base::{GroupId, Moment, Op, Reply, Serial, Step};
+use bh_audit::Book;
+use bh_base::{GroupId, Moment, Reply, Serial, Step};
 use bh_core::Core;
 use std::marker::Model;
 
-/// All groups. What is done in them is a step, and each step is put into the log, where there is one.
+/// All groups. What is done in them is a step: an audited book has each step in its journals, and each is put into the log,
+/// where there is one.
 #[derive(Drop)]
 pub struct Recorded {
-    core: Core,
+    book: Book,
     log: Option<StepLog>,
 }
 
@@ -25,35 +28,46 @@ impl Model for Recorded {
 
     ghost Value = { RecordedView };
 
-    ghost view = { λ r. record { groups = r.core; log = r.log } };
+    ghost view = { λ r. record { groups = r.book.groups; log = r.log; journals = r.book.journals; audited = r.book.audited } };
 }
 
 impl Recorded {
-    /// The groups of a core, with a log or without one.
-    pub fn new(core: Core, log: Option<StepLog>) -> Recorded
-        ensures { result ≡ record { groups = core; log = log } }
+    /// The groups of a book, with a log or without one.
+    pub fn new(book: Book, log: Option<StepLog>) -> Recorded
+        ensures { result ≡ recorded_of book log }
     {
-        Recorded { core, log }
+        Recorded { book, log }
     }
 
     /// The groups.
     pub fn core(&self) -> &Core
         ensures { result.now ≡ self.now.groups }
     {
-        &self.core
+        self.book.core()
     }
 
-    /// Makes one step of the group, whose reply is written where the caller keeps it, and puts the step into the log.
-    pub fn apply_to(&mut self, group: GroupId, now: Moment, op: &Op, reply: &mut Reply)
-        ensures { IsMade self.old (record { group = group; now = now; op = op.now }) reply.new self.new }
+    /// The groups with their account.
+    pub fn into_book(self) -> Book
+        ensures { result ≡ book_of self }
     {
-        self.core.apply_to(group, now, op, reply);
+        let Recorded { book, log: _ } = self;
+        book
+    }
+
+    /// Where journals are kept, that of each group agrees with what the group shows.
+    pub fn journals_agree(&self)
+        ensures { self.now.audited ≡ true → IsAudited self.now.groups self.now.journals }
+    {
+        self.book.journals_agree();
+    }
+
+    /// Makes one step, whose reply is written where the caller keeps it. The step is in the account and in the log then.
+    pub fn apply_to(&mut self, step: &Step, reply: &mut Reply)
+        ensures { IsMade self.old step.entry.now reply.new self.new }
+    {
+        self.book.apply_to(step, reply);
         if let Some(log) = &mut self.log {
-            log.put(Step {
-                group,
-                now,
-                op: *op,
-            });
+            log.put(*step);
         }
     }
 
@@ -79,7 +93,7 @@ impl Recorded {
         ensures known { (v : View) (moment : ℕ) → view_at self.now.groups group.0 ≡ Some v → result ≡ is_pending (view_reply v (op.Collect serial) moment) }
         ensures unknown { view_at self.now.groups group.0 ≡ None → result ≡ false }
     {
-        self.core.pending(group, serial)
+        self.book.core().pending(group, serial)
     }
 
     /// Whether a ticket of the group is due, as `Core::due` says.
@@ -87,6 +101,6 @@ impl Recorded {
         ensures known { (v : View) → view_at self.now.groups group.0 ≡ Some v → result ≡ expires_some (view_reply v op.Expire now) }
         ensures unknown { view_at self.now.groups group.0 ≡ None → result ≡ false }
     {
-        self.core.due(group, now)
+        self.book.core().due(group, now)
     }
 }

@@ -7,7 +7,7 @@ ghost use Rattle.bh_lender.specs.Steps.{AreSteps, Made, steps_of};
 
 use crate::lender::Left;
 use crate::recorded::Recorded;
-use bh_base::{FallbackEnd, Moment, Op, Reply, Serial, push_within};
+use bh_base::{FallbackEnd, Moment, Op, Reply, Serial, Step, push_within};
 use bh_lease::{Lease, Part};
 
 /// Ends each run, or each fallback, that the leases have: it has failed.
@@ -17,7 +17,9 @@ pub(crate) fn end_each(core: &mut Recorded, leases: &[Lease], part: Part, now: M
     let mut reply = Reply::Idle;
     for lease in leases {
         if lease.has(part) {
-            core.apply_to(lease.group, now, &end_of(part, lease.serial), &mut reply);
+            let group = lease.group;
+            let op = end_of(part, lease.serial);
+            core.apply_to(&Step { group, now, op }, &mut reply);
         }
     }
 }

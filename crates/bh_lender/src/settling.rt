@@ -6,7 +6,7 @@ ghost use Rattle.bh_lender.specs.Settling.{AreWaiting, IsCollected, Settles, is_
 
 use crate::lender::Left;
 use crate::recorded::Recorded;
-use bh_base::{FallbackEnd, Moment, Op, Reply};
+use bh_base::{FallbackEnd, Moment, Op, Reply, Step};
 
 /// Collects for each holder that is left and need not wait, until all that are left have to wait.
 pub(crate) fn settle(core: &mut Recorded, left: &mut Vec<Left>, now: Moment)
@@ -37,11 +37,14 @@ fn collect(core: &mut Recorded, holder: &Left, now: Moment)
     ensures { (made : List Made) × AreSteps core.old made core.new × IsCollected now holder.now made }
 {
     let Left { group, serial } = *holder;
+    let op = Op::Collect { serial };
+    let collect = Step { group, now, op };
     let mut reply = Reply::Idle;
-    core.apply_to(group, now, &Op::Collect { serial }, &mut reply);
+    core.apply_to(&collect, &mut reply);
     if let Reply::RunFallback(_) = reply {
         let end = FallbackEnd::Missing;
-        core.apply_to(group, now, &Op::FallbackDone { serial, end }, &mut reply);
-        core.apply_to(group, now, &Op::Collect { serial }, &mut reply);
+        let op = Op::FallbackDone { serial, end };
+        core.apply_to(&Step { group, now, op }, &mut reply);
+        core.apply_to(&collect, &mut reply);
     }
 }

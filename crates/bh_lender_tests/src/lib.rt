@@ -2,7 +2,11 @@
 #![tactic(auto)]
 
 #[cfg(test)]
+mod accounts;
+#[cfg(test)]
 mod lending;
+#[cfg(test)]
+mod random_accounts;
 #[cfg(test)]
 mod returns;
 #[cfg(test)]

@@ -2,7 +2,7 @@
 
 use crate::samples::{GROUP, assert_step, body, leases_of, lender_of, metrics, shared_submit};
 use bh_base::{Answer, Cause, FallbackEnd, FallbackFault, Op, Reply};
-use bh_scripts::samples::{command, command_by_callers, submit, text};
+use bh_scripts::samples::{command, command_by_callers, step, submit, text};
 
 #[test]
 fn a_dead_client_keeps_no_permit(rt: HostRuntime) {
@@ -226,6 +226,6 @@ fn a_fallback_that_the_dead_client_ran_has_failed_for_all(rt: HostRuntime) {
         end: FallbackEnd::Missing,
     };
     let mut reply = Reply::Idle;
-    let made = lender.step(&mut other, GROUP, 6, &late, &mut reply);
+    let made = lender.step(&mut other, &step(GROUP.0, 6, &late), &mut reply);
     assert!(&rt; made.is_err());
 }

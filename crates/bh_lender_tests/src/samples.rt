@@ -3,11 +3,12 @@
 ghost use Rattle.std.specs.Prelude.{◌≤◌, length};
 ghost use Rattle.bh_base.specs.Ranges.{IsCommandInRange};
 
+use bh_audit::Book;
 use bh_base::{CommandProps, GroupId, Metrics, Moment, Op, Reply, Request, Text};
 use bh_core::Core;
 use bh_lease::{Leases, Refusal};
 use bh_lender::Lender;
-use bh_scripts::samples::{own_request, props_of, text};
+use bh_scripts::samples::{own_request, props_of, step, text};
 use std::process::Abort;
 
 /// The one group.
@@ -21,7 +22,8 @@ pub(crate) fn lender_of<R: Abort + AllocGlobal>(rt: &R, command: CommandProps) -
     let mut core = Core::new(rt.alloc(), 64);
     let told = core.register(&props_of(commands), 1_000_000);
     assert!(rt; told == Ok(GROUP), "{told:?}");
-    Lender::new(rt.alloc(), core, None)
+    let book = Book::new(rt.alloc(), core, None).ok().expect(rt, "memory");
+    Lender::new(rt.alloc(), book, None)
 }
 
 /// The leases of a connection that may have so many.
@@ -54,7 +56,7 @@ pub(crate) fn assert_step<R: Abort>(
     want: Reply,
 ) {
     let mut reply = Reply::Idle;
-    let made = lender.step(leases, GROUP, now, op, &mut reply);
+    let made = lender.step(leases, &step(GROUP.0, now, op), &mut reply);
     assert!(rt; made == Ok(()), "{op:?}: {made:?}");
     assert!(rt; reply == want, "{op:?}: {reply:?}");
 }
@@ -68,7 +70,7 @@ pub(crate) fn assert_refused<R: Abort>(
     want: Refusal,
 ) {
     let mut reply = Reply::Idle;
-    let made = lender.step(leases, GROUP, 0, op, &mut reply);
+    let made = lender.step(leases, &step(GROUP.0, 0, op), &mut reply);
     assert!(rt; made == Err(want), "{op:?}: {made:?}");
 }
 
@@ -77,7 +79,7 @@ pub(crate) fn metrics<R: Abort + AllocGlobal>(rt: &R, lender: &mut Lender, now: 
     let mut nobody = leases_of(rt, 1);
     let mut reply = Reply::Idle;
     let read = Op::Read { command: 0 };
-    let made = lender.step(&mut nobody, GROUP, now, &read, &mut reply);
+    let made = lender.step(&mut nobody, &step(GROUP.0, now, &read), &mut reply);
     assert!(rt; made == Ok(()), "{made:?}");
     match reply {
         Reply::Metrics(metrics) => metrics,

@@ -5,6 +5,7 @@ ghost use Rattle.std.specs.Prelude.{◌≡◌, ◌⊎◌};
 use crate::names::Names;
 use crate::recorder::MOST_STEPS;
 use crate::threads::Server;
+use bh_audit::Book;
 use bh_lender::StepLog;
 use bh_port::script::open;
 use bh_props::Settings;
@@ -103,6 +104,9 @@ fn share<
     let Ok(core) = open(alloc, settings) else {
         return Err(AllocError);
     };
+    let Ok(book) = Book::new(alloc, core, None) else {
+        return Err(AllocError);
+    };
     let (log, record) = match record {
         Some(writer) => {
             let spare = StepLog::new(alloc, MOST_STEPS)?;
@@ -113,7 +117,7 @@ fn share<
         }
         None => (None, None),
     };
-    let shared = SharedGroups::new(alloc, core, acceptor.threads(), log)?;
+    let shared = SharedGroups::new(alloc, book, acceptor.threads(), log)?;
     let clock = MachineClock::start(rt);
     let server = Server {
         rt,

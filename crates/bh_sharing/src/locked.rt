@@ -1,13 +1,12 @@
 //! What stands under the lock of a service that connections share, and its turns.
 
 ghost use Rattle.std.specs.Prelude.{◌≡◌, [], IfOk, None, OnErr, OnOk};
-ghost use Rattle.bh_lender.specs.Recorded.{log_or, with_log_of};
+ghost use Rattle.bh_lender.specs.Recorded.{book_of, log_or, recorded_of, with_log_of};
 ghost use Rattle.bh_sharing.specs.Locked.{IsExpiredAt, IsGivenBackAt, IsReadAfter, IsTurnAt};
 
 use crate::waiters::{Numbers, Waiter, Waiters};
-use bh_audit::Clock;
+use bh_audit::{Book, Clock};
 use bh_base::{GroupId, Moment, Op, Step};
-use bh_core::Core;
 use bh_desk::Turn;
 use bh_lease::Leases;
 use bh_lender::{Lender, StepLog};
@@ -35,23 +34,38 @@ impl Model for Locked {
 }
 
 impl Locked {
-    /// The groups of a core, for so many connections. Each step is put into the log, where one is given.
+    /// The groups of a book, for so many connections. Each step is in the account of the book, where that is audited, and is
+    /// put into the log, where one is given.
     pub fn new(
         alloc: Global,
-        core: Core,
+        book: Book,
         connections: u32,
         log: Option<StepLog>,
     ) -> Result<Locked, AllocError>
-        ensures { IfOk result (λ made. made ≡ record { lender = record { recorded = record { groups = core; log = log }; left = [] }; latest = 0 }) }
+        ensures { IfOk result (λ made. made ≡ record { lender = record { recorded = recorded_of book log; left = [] }; latest = 0 }) }
     {
         let waiters = Waiters::new(alloc, connections)?;
         Ok(Locked {
-            lender: Lender::new(alloc, core, log),
+            lender: Lender::new(alloc, book, log),
             latest: 0,
             waiters,
             stopped: false,
             ended: false,
         })
+    }
+
+    /// The book, with the groups and the account as the turns so far left them.
+    pub fn into_book(self) -> Book
+        ensures { result ≡ book_of self.lender.recorded }
+    {
+        let Locked {
+            lender,
+            latest: _,
+            waiters: _,
+            stopped: _,
+            ended: _,
+        } = self;
+        lender.into_book()
     }
 
     /// The moment of the turn that begins.

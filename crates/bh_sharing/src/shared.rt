@@ -1,12 +1,13 @@
 //! The groups that connections share, under one lock.
 
+ghost use Rattle.std.specs.Prelude.{◌≡◌, true};
+ghost use Rattle.bh_audit.specs.Books.{IsAudited};
 ghost use Rattle.bh_sharing.specs.Shared.{IsReturned, IsShared};
 
 use crate::locked::Locked;
 use crate::waiters::{MOST_WAITERS, Numbers, Waiter};
-use bh_audit::Clock;
+use bh_audit::{Book, Clock};
 use bh_base::{GroupId, Op};
-use bh_core::Core;
 use bh_desk::Turn;
 use bh_lease::Leases;
 use bh_lender::StepLog;
@@ -33,11 +34,11 @@ pub struct SharedGroups {
 }
 
 impl SharedGroups {
-    /// The groups of a core, for so many connections, `MOST_WAITERS` at most. Each step is put into the log, where one is
-    /// given.
+    /// The groups of a book, for so many connections, `MOST_WAITERS` at most. Each step is in the account of the book, where
+    /// that is audited, and is put into the log, where one is given.
     pub fn new(
         alloc: Global,
-        core: Core,
+        book: Book,
         connections: u32,
         log: Option<StepLog>,
     ) -> Result<SharedGroups, AllocError> {
@@ -46,12 +47,29 @@ impl SharedGroups {
         for _ in 0..connections {
             changed.push(Condvar::new())?;
         }
-        let locked = Locked::new(alloc, core, connections, log)?;
+        let locked = Locked::new(alloc, book, connections, log)?;
         Ok(SharedGroups {
             alloc,
             inside: Mutex::new(locked),
             changed,
         })
+    }
+
+    /// The book, with the groups and the account as all turns left them. It takes no lock: nobody shares the groups any more.
+    ///
+    /// No contract can name what lies under a lock, so none says that the book is the one that the groups were made of. In an
+    /// audited one the journal of each group agrees with what the group shows, whoever made its steps.
+    pub fn into_book(self) -> Book
+        ensures { result.audited ≡ true → IsAudited result.groups result.journals }
+    {
+        let SharedGroups {
+            alloc: _,
+            inside,
+            changed: _,
+        } = self;
+        let book = inside.into_inner().into_book();
+        book.journals_agree();
+        book
     }
 
     /// Makes the step of the group for the connection that has the leases, at the moment of the turn, and puts the line that

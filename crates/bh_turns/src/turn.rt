@@ -56,7 +56,7 @@ pub fn answer_step<D: Directory>(
         × OnOk result (out.new.items ≡ out.old.items ++ line) × OnErr result (out.new.items ≡ out.old.items) }
 {
     let mut reply = Reply::Idle;
-    match lender.step(leases, step.group, step.now, &step.op, &mut reply) {
+    match lender.step(leases, step, &mut reply) {
         Ok(()) => put_reply(alloc, out, &reply, told_name(directory, step.group, &reply)),
         Err(refusal) => put_refusal(alloc, out, refusal),
     }

@@ -17,7 +17,7 @@ loop-lease-preserved c =
     elim c.if-has.branch [
       | then-has w ↦ (let P : RecordedView → Type 0 = λ groups. (all : List Made) × AreSteps c.args.core.now all groups × (steps_of all ≡ map (end_step c.args.now c.args.part) (filter (has c.args.part) (take (c.loop-lease.lease-index + 1) c.args.leases.now))) in
           subst P (sym w.core-is) (end_more c.args.now c.args.part c.args.leases.now c.loop-lease.lease-index _ c.args.core.now made c.loop-lease.core w.apply_to.new.reply w.apply_to.new.self
-          c.loop-lease.invariant.1 c.loop-lease.invariant.2 within (sym c.has.ensures ∙ w.if-has.true) (rw w.end_of.ensures at w.apply_to.ensures)))
+          c.loop-lease.invariant.1 c.loop-lease.invariant.2 within (sym c.has.ensures ∙ w.if-has.true) (rw w.end_of-op.ensures at w.apply_to.ensures)))
       | else-has w ↦ (
         made,
         (let P : RecordedView → Type 0 = λ groups. AreSteps c.args.core.now made groups in subst P (sym w.core-is) c.loop-lease.invariant.1),
