@@ -50,9 +50,7 @@ pub(crate) fn lender_of_two<R: Abort + AllocGlobal>(rt: &R, audited: bool) -> Le
     } else {
         None
     };
-    let book = Book::new(rt.alloc(), core, audit)
-        .ok()
-        .expect(rt, "memory");
+    let book = Book::new(rt.alloc(), core, audit).ok().expect(rt, "memory");
     let log = StepLog::new(rt.alloc(), MOST_STEPS).expect(rt, "memory");
     Lender::new(rt.alloc(), book, Some(log))
 }
@@ -88,7 +86,10 @@ fn assert_journal<R: Abort>(
         if is_refused(&told) {
             continue;
         }
-        assert!(rt; journal.get(place) == Some((*step, told)), "{place}: {step:?}");
+        assert!(rt;
+            journal.get(place) == Some((*step, told)),
+            "{place}: {step:?}"
+        );
         place = place.saturating_add(1);
     }
     assert!(rt; journal.len() == place, "{place}");
@@ -164,7 +165,10 @@ fn assert_end<R: Abort>(rt: &R, journal: &Journal, group: u64, want: &[(u64, Op,
     let mut place = journal.len().saturating_sub(want.len() as u64);
     for (now, op, reply) in want {
         let entry = journal.get(place);
-        assert!(rt; entry == Some((step(group, *now, op), *reply)), "{place}: {op:?}");
+        assert!(rt;
+            entry == Some((step(group, *now, op), *reply)),
+            "{place}: {op:?}"
+        );
         place = place.saturating_add(1);
     }
 }
