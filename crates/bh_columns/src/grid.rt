@@ -1,6 +1,6 @@
 //! How wide columns are, and which of them there are.
 
-ghost use Rattle.std.specs.Prelude.{◌≡◌, ◌*◌, ◌/◌, ◌-◌, ◌+◌, ◌<◌, true, false};
+ghost use Rattle.std.specs.Prelude.{◌≡◌, ◌*◌, ◌/◌, ◌-◌, ◌+◌, ◌<◌, ◌≤◌, true, false};
 ghost use Rattle.bh_columns.specs.Tracks.{IsReach};
 
 use crate::track::{JOINED, Reach};
@@ -15,8 +15,15 @@ pub struct Grid {
     pub extent: Option<(u64, u64)>,
     /// How many columns there may be, from the least index to the greatest.
     pub limit: u64,
+    /// The index of a column in which moments lay that were taken in: those that follow mostly lie in it, too, and then
+    /// nothing has to be divided.
+    pub latest: u64,
+    /// The moment at which that column begins.
+    pub begin: Moment,
     /// A column has a moment.
     pub ghost some_width: { 0 < width },
+    /// It is the column of the index.
+    pub ghost begins: { begin ≡ latest * width },
 }
 
 impl Grid {
@@ -28,6 +35,8 @@ impl Grid {
             width: 1,
             extent: None,
             limit,
+            latest: 0,
+            begin: 0,
         }
     }
 
@@ -35,7 +44,17 @@ impl Grid {
     pub fn index(&self, moment: Moment) -> u64
         ensures { result ≡ moment / self.now.width }
     {
+        if self.is_latest(moment) {
+            return self.latest;
+        }
         moment / self.width
+    }
+
+    /// Whether the moment lies in the column whose beginning is known.
+    fn is_latest(&self, moment: Moment) -> bool
+        ensures { result ≡ true → (self.now.begin ≤ moment) × (moment < self.now.begin + self.now.width) }
+    {
+        self.begin <= moment && moment - self.begin < self.width
     }
 
     /// Where the time from one moment on and before another, which is later, lies.
@@ -62,11 +81,14 @@ impl Grid {
     pub fn takes(&mut self, from: Moment, to: Moment) -> bool
         ensures { self.new.width ≡ self.old.width }
     {
-        let (least, greatest) = self.extended(self.index(from), self.index(to));
+        let last = self.index(to);
+        let (least, greatest) = self.extended(self.index(from), last);
         if greatest.saturating_sub(least) >= self.limit {
             return false;
         }
         self.extent = Some((least, greatest));
+        self.latest = last;
+        self.begin = last * self.width;
         true
     }
 
@@ -78,6 +100,8 @@ impl Grid {
         let Some(width) = self.width.checked_mul(JOINED) else {
             return false;
         };
+        self.latest = 0;
+        self.begin = 0;
         self.width = width;
         self.extent = match self.extent {
             Some((least, greatest)) => Some((least / JOINED, greatest / JOINED)),
