@@ -1,6 +1,6 @@
 //! Columns side by side, from a first index on.
 
-ghost use Rattle.std.specs.Prelude.{◌≡◌, ◌+◌, ◌*◌, ◌/◌, ◌<◌, ◌≤◌, ℕ, OnOk, length};
+ghost use Rattle.std.specs.Prelude.{◌≡◌, ◌+◌, ◌*◌, ◌/◌, ◌<◌, ◌≤◌, ℕ, OnOk, length, true};
 ghost use Rattle.bh_columns.specs.Columns.{no_column};
 ghost use Rattle.bh_columns.specs.Panels.{KeepsRoom};
 ghost use Rattle.bh_columns.specs.Spans.{with_told_within};
@@ -70,9 +70,29 @@ impl Track {
         }
     }
 
+    /// Whether there is room for the columns of the indexes from the one on and before the other.
+    fn has_room(&self, from: u64, to: u64) -> bool
+        ensures { result ≡ true → HasRoom self.now from to }
+    {
+        self.first <= from && to <= self.first.saturating_add(self.columns.len() as u64)
+    }
+
     /// Makes room for the columns of the indexes from the one on and before the other, with nothing in those that are new.
     /// It fails only for want of memory, and what is kept is the same then, too.
     pub fn make_room(&mut self, alloc: Global, from: u64, to: u64) -> Result<(), AllocError>
+        ensures same { SameColumns self.old self.new }
+        ensures room { OnOk result (from < to → HasRoom self.new from to) }
+    {
+        // Mostly there is room.
+        if self.has_room(from, to) {
+            return Ok(());
+        }
+        self.make_new_room(alloc, from, to)
+    }
+
+    /// The same where there is none.
+    #[inline(never)]
+    fn make_new_room(&mut self, alloc: Global, from: u64, to: u64) -> Result<(), AllocError>
         ensures same { SameColumns self.old self.new }
         ensures room { OnOk result (from < to → HasRoom self.new from to) }
     {
