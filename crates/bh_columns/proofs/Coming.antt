@@ -31,7 +31,7 @@ use Rattle.bh_columns.specs.Panels.{EachAt, IsNewLife}
 use Rattle.bh_columns.specs.Placed.{IsBegunAt, IsEmptyLane, IsNewPanel, IsPlaceFor}
 use Rattle.bh_columns.specs.Recorded.{ArePlaced, FitsLike, HasNone, IsKept, IsPanelOf, keeps}
 use Rattle.bh_columns.specs.Spans.{Fill}
-use Rattle.bh_columns.specs.Tracks.{IsFilled, column_at}
+use Rattle.bh_columns.specs.Tracks.{IsFilled, IsWithin, column_at}
 use Rattle.bh_columns.specs.declared.kept.Kept.{Kept}
 use Rattle.bh_columns.specs.declared.lane.KeptLane.{KeptLane}
 use Rattle.bh_columns.specs.declared.panel.KeptPanel.{KeptPanel}
@@ -74,7 +74,8 @@ not_both b is_not is = let both : false ≡ true = sym is_not ∙ is in absurd c
 module _ (service : SettingsView) (sel : Selection) (old mid new : Kept) (course : Course) (fills : NamedFills) (name : List ℕ) (like : ℕ) (place : Option ℕ)
     (listed : like < length service.groups) (before : AllByRecursion (λ x. x.group.0 < length course.entries) course.steps) (kept : IsKept service sel old course fills)
     (for_it : IsPlaceFor service name like old mid place) (each : EachAt mid.panels.items new.panels.items (λ p panel next. IsBegunAt place p panel next))
-    (places : new.places.items ≡ mid.places.items ++ place ∷ []) (selection : new.selection ≡ mid.selection) (width : new.grid.width ≡ mid.grid.width) (left_out : new.left_out ≡ mid.left_out) where
+    (places : new.places.items ≡ mid.places.items ++ place ∷ []) (selection : new.selection ≡ mid.selection) (width : new.grid.width ≡ mid.grid.width) (extent : new.grid.extent ≡ mid.grid.extent)
+    (left_out : new.left_out ≡ mid.left_out) where
   abbrev es : List Entry
   es = course.entries
 
@@ -291,17 +292,27 @@ module _ (service : SettingsView) (sel : Selection) (old mid new : Kept) (course
 
   -- ---- the columns
 
+  -- nothing is kept of a new panel's groups
+  nothing_new : (p command : ℕ) (panel : KeptPanel) → IsNewPanel service name like old p panel → fills panel.group panel.like command ≡ (λ a b. no_column)
+  nothing_new p command panel is_new =
+      let named = is_new.named in
+      (λ i. fills (named.group i) (named.like i) command)
+      ∙ kept.fresh name like command (ap (λ q. keeps q name) (sym kept.selection) ∙ is_new.chosen) is_new.none_left is_new.none
+
+  mid_within : (p command : ℕ) (panel : KeptPanel) → slice_get mid.panels.items p ≡ Some panel → IsWithin old.grid.extent old.grid.width (fills panel.group panel.like command)
+  mid_within p command panel at = by (for_it.more p panel at)
+    where
+      by : (slice_get old.panels.items p ≡ Some panel) ⊎ ((place ≡ Some p) × IsNewPanel service name like old p panel) → IsWithin old.grid.extent old.grid.width (fills panel.group panel.like command)
+      by (inl was) = kept.within p command panel was
+      by (inr is_new) = subst (λ (f : Fill). IsWithin old.grid.extent old.grid.width f) (sym (nothing_new p command panel is_new.1)) (λ i out. refl)
+
   mid_filled : (p command : ℕ) (panel : KeptPanel) (lane : KeptLane) → slice_get mid.panels.items p ≡ Some panel → slice_get panel.lanes.items command ≡ Some lane → IsFilled lane.track old.grid.width (fills panel.group panel.like command)
   mid_filled p command panel lane at had = by (for_it.more p panel at)
     where
       by : (slice_get old.panels.items p ≡ Some panel) ⊎ ((place ≡ Some p) × IsNewPanel service name like old p panel) → IsFilled lane.track old.grid.width (fills panel.group panel.like command)
       by (inl was) = kept.filled p command panel lane was had
       by (inr is_new) =
-          let named = is_new.1.named in
-          let nothing : fills panel.group panel.like command ≡ (λ a b. no_column) =
-          (λ i. fills (named.group i) (named.like i) command)
-          ∙ kept.fresh name like command (ap (λ q. keeps q name) (sym kept.selection) ∙ is_new.1.chosen) is_new.1.none_left is_new.1.none in
-          subst (λ (f : Fill). IsFilled lane.track old.grid.width f) (sym nothing) (empty_filled lane.track old.grid.width (every_at IsEmptyLane panel.lanes.items command lane is_new.1.empty had))
+          subst (λ (f : Fill). IsFilled lane.track old.grid.width f) (sym (nothing_new p command panel is_new.1)) (empty_filled lane.track old.grid.width (every_at IsEmptyLane panel.lanes.items command lane is_new.1.empty had))
 
   pub kept_more : IsKept service sel new later fills
   kept_more = record {
@@ -324,5 +335,14 @@ module _ (service : SettingsView) (sel : Selection) (old mid new : Kept) (course
         subst (λ w. IsFilled lane.track w (fills panel.group panel.like command)) wide
         (subst (λ (t : Track). IsFilled t old.grid.width (fills panel.group panel.like command)) tracks
         (subst (λ (f : Fill). IsFilled one.track old.grid.width f) (λ i. fills (groups i) (likes i) command) was));
+    within = λ p command panel at.
+        let (m, m_at, begun) = back p panel at in
+        let wide : old.grid.width ≡ new.grid.width = sym (width ∙ for_it.width) in
+        let reaches : old.grid.extent ≡ new.grid.extent = sym (extent ∙ for_it.extent) in
+        let groups = sym begun.group in
+        let likes = sym begun.like in
+        subst (λ e. IsWithin e new.grid.width (fills panel.group panel.like command)) reaches
+        (subst (λ w. IsWithin old.grid.extent w (fills panel.group panel.like command)) wide
+        (subst (λ (f : Fill). IsWithin old.grid.extent old.grid.width f) (λ i. fills (groups i) (likes i) command) (mid_within p command m m_at)));
     fresh = λ other number command selected none_left none. kept.fresh other number command selected (none_before none_left) (none_old other number none);
   }

@@ -21,7 +21,7 @@ use Rattle.bh_columns.specs.Named.{KeptRun, NamedFills, run_said}
 use Rattle.bh_columns.specs.Placed.{IsAsked, SameKept}
 use Rattle.bh_columns.specs.Recorded.{IsKept, IsRecorded}
 use Rattle.bh_columns.specs.Spans.{Fill}
-use Rattle.bh_columns.specs.Tracks.{IsFilled}
+use Rattle.bh_columns.specs.Tracks.{IsFilled, IsWithin}
 use Rattle.bh_columns.specs.declared.kept.Kept.{Kept}
 use Rattle.bh_columns.specs.declared.lane.KeptLane.{KeptLane}
 use Rattle.bh_columns.specs.declared.panel.KeptPanel.{KeptPanel}
@@ -42,6 +42,7 @@ same_kept kept = record {
   places = refl;
   selection = refl;
   width = refl;
+  extent = refl;
   left_out = refl;
 }
 
@@ -71,6 +72,13 @@ kept_same service sel old new course fills same kept = record {
       let likes = sym ab.3 in
       subst (λ w. IsFilled lane.track w (fills panel.group panel.like command)) (sym same.width)
       (subst (λ (f : Fill). IsFilled lane.track old.grid.width f) (λ i. fills (groups i) (likes i) command) was);
+  within = λ p command panel at.
+      let (one, one_at, ab) = back p panel at in
+      let groups = sym ab.2 in
+      let likes = sym ab.3 in
+      subst (λ e. IsWithin e new.grid.width (fills panel.group panel.like command)) (sym same.extent)
+      (subst (λ w. IsWithin old.grid.extent w (fills panel.group panel.like command)) (sym same.width)
+      (subst (λ (f : Fill). IsWithin old.grid.extent old.grid.width f) (λ i. fills (groups i) (likes i) command) (kept.within p command one one_at)));
   fresh = λ name like command selected none_left none. kept.fresh name like command selected (sym same.left_out ∙ none_left) (λ p panel at is.
       let (next, next_at, ab) = same.panels.each p panel at in
       none p next next_at (record { group = ab.2 ∙ is.group; like = ab.3 ∙ is.like }));
@@ -111,6 +119,7 @@ module _ (service : SettingsView) (sel : Selection) (kept : Kept) (course : Cour
     stands = λ name group p t panel. stands_left name group p t panel (bytes_eq own name) refl;
     sound = was.sound;
     filled = was.filled;
+    within = was.within;
     fresh = was.fresh;
   }
 

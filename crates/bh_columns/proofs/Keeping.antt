@@ -61,10 +61,10 @@ div_up : (a b k : ℕ) → 0 < k → a ≤ b → a / k ≤ b / k
 div_up a b k some le = let most = div-mul-le_self a k in le-div (a / k) b k some (omega (arith, most, le))
 
 -- a moment that lies in some is not before the first, and before the last
-lies_from : (a b m : ℕ) → lies a b m ≡ true → a ≤ m
+pub lies_from : (a b m : ℕ) → lies a b m ≡ true → a ≤ m
 lies_from a b m is = grind (arith, nat_tests)
 
-lies_to : (a b m : ℕ) → lies a b m ≡ true → m < b
+pub lies_to : (a b m : ℕ) → lies a b m ≡ true → m < b
 lies_to a b m is = grind (arith, nat_tests)
 
 -- room for the moments of a step is room for all that it did

@@ -36,10 +36,10 @@ latest_rises s o now = at (is_known o s.present.props) (is_worn s.present)
     at true true = omega arith
     at true false = let e : (outcome_in s o now).present.latest ≡ (begun now s.present).latest = (outcome_keeps o _ (begun now s.present)).latest in omega (arith, e)
 
-same_number : (m n : ℕ) → m ≡ n → (m == n) ≡ true
+pub same_number : (m n : ℕ) → m ≡ n → (m == n) ≡ true
 same_number m n is = grind (arith, nat_tests)
 
-other_number : (m n : ℕ) → m ≢ n → (m == n) ≡ false
+pub other_number : (m n : ℕ) → m ≢ n → (m == n) ≡ false
 other_number m n differ = grind (arith, nat_tests)
 
 -- the moment of the step before, or that of the first

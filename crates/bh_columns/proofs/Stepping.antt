@@ -26,14 +26,14 @@ use Rattle.bh_props.specs.SettingsView.{SettingsView}
 use Rattle.bh_look.proofs.Adding.{props_kept}
 use Rattle.bh_look.proofs.Watching.{IsLike, like_in_range, like_of, state_there}
 use Rattle.bh_columns.specs.Columns.{no_column}
-use Rattle.bh_columns.specs.Filled.{AreFilled, AreFills, Fills, Stands, fills_with}
+use Rattle.bh_columns.specs.Filled.{AreFilled, AreFills, AreWithin, Fills, Stands, fills_with}
 use Rattle.bh_columns.specs.Named.{KeptRun, NamedFills, fills_in, is_of, run_said}
 use Rattle.bh_columns.specs.Panels.{EachAt}
 use Rattle.bh_columns.specs.Placed.{IsAsked, IsStepped}
 use Rattle.bh_columns.specs.Recorded.{FitsLike, IsKept, IsPanelOf, IsRecorded, keeps}
 use Rattle.bh_columns.specs.Spans.{Fill, IsFill}
 use Rattle.bh_columns.specs.Steps.{filled_with}
-use Rattle.bh_columns.specs.Tracks.{IsFilled}
+use Rattle.bh_columns.specs.Tracks.{IsFilled, IsWithin}
 use Rattle.bh_columns.specs.declared.kept.Kept.{Kept}
 use Rattle.bh_columns.specs.declared.panel.KeptPanel.{KeptPanel}
 use Rattle.bh_columns.specs.declared.selection.Selection.{Selection}
@@ -180,6 +180,9 @@ module _ (service : SettingsView) (sel : Selection) (was now : GroupsView) (old 
       filled = λ p command panel lane at had.
           let other = ns_other panel.group panel.like command (λ named likes. not_at p panel at (kept.placed.placed g p e panel own_group.at at (record { group = sym named; like = sym likes }))) in
           subst (λ (f : Fill). IsFilled lane.track old.grid.width f) (sym other) (kept.filled p command panel lane at had);
+      within = λ p command panel at.
+          let other = ns_other panel.group panel.like command (λ named likes. not_at p panel at (kept.placed.placed g p e panel own_group.at at (record { group = sym named; like = sym likes }))) in
+          subst (λ (f : Fill). IsWithin old.grid.extent old.grid.width f) (sym other) (kept.within p command panel at);
       fresh = λ name like command selected none_left none.
           ns_other name like command (λ named likes.
           let (p, stands) = kept.placed.whole g e own_group.at (ap (keeps sel) named ∙ selected) none_left in
@@ -196,7 +199,8 @@ module _ (service : SettingsView) (sel : Selection) (was now : GroupsView) (old 
   module _ (new : Kept) (n : ℕ) (stands_at : slice_get old.places.items g ≡ Some (Some n)) (each : EachAt old.panels.items new.panels.items (λ p a b. IsStepped n p a b))
       (places : new.places ≡ old.places) (selection : new.selection ≡ old.selection) (left_out : new.left_out ≡ old.left_out)
       (does : (s : State) (fs : Fills) (own : KeptPanel) → Shows was.core g s → IsInRange s.present.props → slice_get old.panels.items n ≡ Some own → Stands (view s) own → AreFills fs → AreFilled old.panels.items old.grid.width fs
-      → AreFilled new.panels.items new.grid.width (fills_with old.selection.from old.selection.to n (view s) x.op x.now fs) × ((next : KeptPanel) × (slice_get new.panels.items n ≡ Some next) × Stands (view_after (view s) x.op x.now) next)) where
+      → AreFilled new.panels.items new.grid.width (fills_with old.selection.from old.selection.to n (view s) x.op x.now fs) × ((next : KeptPanel) × (slice_get new.panels.items n ≡ Some next) × Stands (view_after (view s) x.op x.now) next))
+      (reaches : (s : State) (fs : Fills) → Shows was.core g s → AreFills fs → AreWithin old.grid.extent old.grid.width fs → AreWithin new.grid.extent new.grid.width (fills_with old.selection.from old.selection.to n (view s) x.op x.now fs)) where
     was_at : (group p : ℕ) → slice_get new.places.items group ≡ Some (Some p) → slice_get old.places.items group ≡ Some (Some p)
     was_at group p is = sym (ap (λ (w : Places). slice_get w.items group) places) ∙ is
 
@@ -216,6 +220,14 @@ module _ (service : SettingsView) (sel : Selection) (was now : GroupsView) (old 
 
     filled : AreFilled new.panels.items new.grid.width (fills_with sel.from sel.to n v x.op x.now fs)
     filled = subst (λ (q : Selection). AreFilled new.panels.items new.grid.width (fills_with q.from q.to n v x.op x.now fs)) kept.selection did.0
+
+    within : AreWithin new.grid.extent new.grid.width (fills_with sel.from sel.to n v x.op x.now fs)
+    within = subst (λ (q : Selection). AreWithin new.grid.extent new.grid.width (fills_with q.from q.to n v x.op x.now fs)) kept.selection
+        (reaches s fs shown (λ p command. fill_at run.fills kept.sound (slice_get old.panels.items p) command) (λ p command. was_within p command (slice_get old.panels.items p) refl))
+      where
+        was_within : (p command : ℕ) (o : Option KeptPanel) → slice_get old.panels.items p ≡ o → IsWithin old.grid.extent old.grid.width (named_fill run.fills o command)
+        was_within p command None at = λ i out. refl
+        was_within p command (Some panel) at = kept.within p command panel at
 
     one_own : (p : ℕ) (one : KeptPanel) → p ≡ n → slice_get old.panels.items p ≡ Some one → home.0 ≡ one
     one_own p one is at = let both : Some home.0 ≡ Some one = sym home.1 ∙ ap (slice_get old.panels.items) (sym is) ∙ at in cc
@@ -297,6 +309,9 @@ module _ (service : SettingsView) (sel : Selection) (was now : GroupsView) (old 
       filled = λ p command panel lane at had.
           let (one, one_at, st) = back p panel at in
           subst (λ (f : Fill). IsFilled lane.track new.grid.width f) (fill_is p command one panel one_at st) (filled p command panel lane at had);
+      within = λ p command panel at.
+          let (one, one_at, st) = back p panel at in
+          subst (λ (f : Fill). IsWithin new.grid.extent new.grid.width f) (fill_is p command one panel one_at st) (within p command);
       fresh = λ name like command selected none_left none.
           ns_other name like command (λ named likes.
           let (next, at, st) = each.each n home.0 home.1 in

@@ -1,5 +1,5 @@
 -- What is kept of all groups, all but the usage, by the places of panels and the numbers of commands.
-use Rattle.std.specs.Prelude.{◌≡◌, ℕ, ◌==◌, List, Some, length, slice_get, if◌then◌else◌}
+use Rattle.std.specs.Prelude.{◌≡◌, ℕ, ◌==◌, List, Option, Some, length, slice_get, if◌then◌else◌}
 use Rattle.bh_base.specs.Commands.{command_count}
 use Rattle.bh_base.specs.Machine.{circuit_of}
 use Rattle.bh_base.specs.Runs.{View}
@@ -7,7 +7,7 @@ use Rattle.bh_base.specs.declared.step.Op.{Op}
 use Rattle.bh_columns.specs.Panels.{EachAt, HasRoomFor, IsJoinedLane, SameStanding}
 use Rattle.bh_columns.specs.Spans.{Fill, IsFill}
 use Rattle.bh_columns.specs.Steps.{filled_with}
-use Rattle.bh_columns.specs.Tracks.{IsFilled}
+use Rattle.bh_columns.specs.Tracks.{IsFilled, IsWithin}
 use Rattle.bh_columns.specs.declared.lane.KeptLane.{KeptLane}
 use Rattle.bh_columns.specs.declared.panel.KeptPanel.{KeptPanel}
 use Rattle.bh_columns.specs.declared.panel.When.{When}
@@ -23,6 +23,10 @@ AreFills fs = (place command : ℕ) → IsFill (fs place command)
 -- the columns of all lanes, which are so wide, are those of the moments that lie in them
 abbrev pub AreFilled : List KeptPanel → ℕ → Fills → Type 0
 AreFilled panels width fs = (place command : ℕ) (panel : KeptPanel) (lane : KeptLane) → slice_get panels place ≡ Some panel → slice_get panel.lanes.items command ≡ Some lane → IsFilled lane.track width (fs place command)
+
+-- nothing is kept of any command outside the extent
+abbrev pub AreWithin : Option (ℕ × ℕ) → ℕ → Fills → Type 0
+AreWithin extent width fs = (place command : ℕ) → IsWithin extent width (fs place command)
 
 -- the panel is as it was but for its columns
 pub record SamePanel (old new : KeptPanel) : Type 0 where

@@ -8,3 +8,4 @@ pub mod Filled  -- what is kept of all groups, by panels and commands
 pub mod Named  -- what is kept of all moments of a script, by the names of its groups
 pub mod Recorded  -- what is kept of a script while its lines come
 pub mod Placed  -- where the panel of a group that comes stands
+pub mod Charts  -- what a picture is drawn from, by what is kept

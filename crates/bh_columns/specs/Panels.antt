@@ -1,5 +1,6 @@
 -- What is kept of the commands of a group.
-use Rattle.std.specs.Prelude.{◌≡◌, ◌+◌, ◌*◌, ◌/◌, ◌<◌, ◌≤◌, ℕ, ◌==◌, max, min, Bool, true, false, List, Some, length, slice_get}
+use Rattle.std.specs.Prelude.{◌≡◌, ◌+◌, ◌-◌, ◌*◌, ◌/◌, ◌<◌, ◌≤◌, ℕ, ◌==◌, max, min, Bool, true, false, List, Option, Some, length, slice_get}
+use Rattle.std.specs.List.{list_any}
 use Rattle.bh_base.specs.Commands.{command_count}
 use Rattle.bh_base.specs.Machine.{busy_count, circuit_of, queued_count}
 use Rattle.bh_base.specs.Runs.{View}
@@ -12,7 +13,7 @@ use Rattle.bh_look.specs.Steps.{tally_with}
 use Rattle.bh_look.specs.Tallies.{no_tally}
 use Rattle.bh_columns.specs.Spans.{Fill, lies, with_told_within}
 use Rattle.bh_columns.specs.Steps.{added_fill, closes, time_fill, told_fill}
-use Rattle.bh_columns.specs.Tracks.{HasRoom, IsFilled, IsReach, SameColumns, column_at, joined_run, with_stay_in}
+use Rattle.bh_columns.specs.Tracks.{HasRoom, IsFilled, IsIn, IsReach, SameColumns, column_at, joined_run, with_stay_in}
 use Rattle.bh_columns.specs.declared.lane.KeptLane.{KeptLane}
 use Rattle.bh_columns.specs.declared.lane.Touched.{Touched}
 use Rattle.bh_columns.specs.declared.lane.Touched.TheVariants as touched
@@ -59,6 +60,10 @@ pub record HasNotedAt (place moment : ℕ) (told : Tally) (closed : Bool) (old n
   pub room : KeepsRoom old.track new.track
   pub columns : (width : ℕ) → 0 < width → place ≡ moment / width → HasRoom old.track place (place + 1) → (index : ℕ) → column_at new.track index ≡ with_told_within (index * width) (index * width + width) moment told closed (column_at old.track index)
 
+-- whether a command runs in the pool
+abbrev pub any_pooled : List KeptLane → Bool
+any_pooled lanes = list_any (λ lane. lane.pooled) lanes
+
 -- whether the step touched the runs of the command
 abbrev pub is_touched : Touched → ℕ → Bool
 is_touched touched.None command = false
@@ -97,6 +102,10 @@ pub record FitsLanes (v : View) (lanes : List KeptLane) : Type 0 where
 pub record HasRoomFor (width : ℕ) (when : When) (t : Track) : Type 0 where
   pub spent : (r : Reach) → r.width ≡ width → IsReach r (max when.since when.from) (min when.moment when.to) → HasRoom t r.first r.end
   pub told : lies when.from when.to when.moment ≡ true → HasRoom t (when.moment / width) (when.moment / width + 1)
+
+-- the columns of all moments of a step that are kept lie in the extent: that of the first does, and that of the last
+abbrev pub IsTaken : Option (ℕ × ℕ) → ℕ → When → Type 0
+IsTaken extent width when = max when.since when.from < min (when.moment + 1) when.to → IsIn extent (max when.since when.from / width) × IsIn extent ((min (when.moment + 1) when.to - 1) / width)
 
 -- the lane has added the time that passed before a step
 pub record HasAddedTime (width : ℕ) (when : When) (old new : KeptLane) : Type 0 where

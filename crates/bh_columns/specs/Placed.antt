@@ -39,6 +39,7 @@ pub record IsPlaceFor (service : SettingsView) (name : List ℕ) (like : ℕ) (o
   pub places : new.places ≡ old.places
   pub selection : new.selection ≡ old.selection
   pub width : new.grid.width ≡ old.grid.width
+  pub extent : new.grid.extent ≡ old.grid.extent
   pub left : new.left_out ≡ 0 → old.left_out ≡ 0
   pub stay : (p : ℕ) (panel : KeptPanel) → slice_get old.panels.items p ≡ Some panel → slice_get new.panels.items p ≡ Some panel
   pub more : (p : ℕ) (panel : KeptPanel) → slice_get new.panels.items p ≡ Some panel
@@ -67,6 +68,7 @@ pub record SameKept (old new : Kept) : Type 0 where
   pub places : new.places ≡ old.places
   pub selection : new.selection ≡ old.selection
   pub width : new.grid.width ≡ old.grid.width
+  pub extent : new.grid.extent ≡ old.grid.extent
   pub left_out : new.left_out ≡ old.left_out
 
 -- what a line can ask for: a step and a retirement are of a group that was found by a name

@@ -18,7 +18,7 @@ use Rattle.bh_columns.specs.Columns.{no_column}
 use Rattle.bh_columns.specs.Filled.{Stands}
 use Rattle.bh_columns.specs.Named.{KeptRun, NamedFills, run_after}
 use Rattle.bh_columns.specs.Spans.{IsFill}
-use Rattle.bh_columns.specs.Tracks.{IsFilled}
+use Rattle.bh_columns.specs.Tracks.{IsFilled, IsWithin}
 use Rattle.bh_columns.specs.declared.kept.Kept.{Kept}
 use Rattle.bh_columns.specs.declared.lane.KeptLane.{KeptLane}
 use Rattle.bh_columns.specs.declared.panel.KeptPanel.{KeptPanel}
@@ -61,7 +61,7 @@ pub record FitsLike (like : List ℕ × GroupProps) (panel : KeptPanel) : Type 0
   pub steps : length panel.steps.items ≡ command_count like.1
 
 -- what is kept is that of the run so far: the columns of each lane are those of all groups of its panel's name and properties,
--- and each panel stands as the group of its name that is there
+-- nothing of their moments lies outside the extent, and each panel stands as the group of its name that is there
 pub record IsKept (service : SettingsView) (sel : Selection) (kept : Kept) (course : Course) (fills : NamedFills) : Type 0 where
   pub selection : kept.selection ≡ sel
   pub placed : ArePlaced sel kept course.entries
@@ -70,6 +70,7 @@ pub record IsKept (service : SettingsView) (sel : Selection) (kept : Kept) (cour
       → slice_get kept.places.items group ≡ Some (Some place) → slice_get kept.panels.items place ≡ Some panel → Stands (view s) panel
   pub sound : (name : List ℕ) (like command : ℕ) → IsFill (fills name like command)
   pub filled : AreNamed kept.panels.items kept.grid.width fills
+  pub within : (p command : ℕ) (panel : KeptPanel) → slice_get kept.panels.items p ≡ Some panel → IsWithin kept.grid.extent kept.grid.width (fills panel.group panel.like command)
   pub fresh : (name : List ℕ) (like command : ℕ) → keeps sel name ≡ true → kept.left_out ≡ 0 → HasNone kept.panels.items name like → fills name like command ≡ (λ a b. no_column)
 
 -- the groups and what is kept of them are those of the run so far

@@ -46,6 +46,20 @@ with_stay_in width index s c = with_stay (stay_within (index * width) (index * w
 abbrev pub IsFilled : Track → ℕ → Fill → Type 0
 IsFilled t width f = (index : ℕ) → bare (column_at t index) ≡ f (index * width) (index * width + width)
 
+-- the index lies from the least to the greatest of an extent, where there is one
+abbrev pub IsIn : Option (ℕ × ℕ) → ℕ → Type 0
+IsIn None index = ⊥
+IsIn (Some extent) index = (extent.0 ≤ index) × (index ≤ extent.1)
+
+-- the extent where ten columns are one
+abbrev pub tenth : Option (ℕ × ℕ) → Option (ℕ × ℕ)
+tenth None = None
+tenth (Some extent) = Some (extent.0 / 10, extent.1 / 10)
+
+-- nothing is kept of the moments of columns, which are so wide, whose indexes do not lie in the extent
+abbrev pub IsWithin : Option (ℕ × ℕ) → ℕ → Fill → Type 0
+IsWithin extent width f = (index : ℕ) → (IsIn extent index → ⊥) → f (index * width) (index * width + width) ≡ no_column
+
 -- the column of the index has the stay, and each other is as it was
 pub record IsSpentAt (index : ℕ) (s : Stay) (old new : Track) : Type 0 where
   pub here : column_at new index ≡ with_stay s (column_at old index)

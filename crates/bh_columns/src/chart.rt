@@ -1,17 +1,23 @@
 //! What a picture is drawn from: for each command as many columns as there are, all of one width and side by side.
 
+ghost use Rattle.std.specs.Prelude.{◌≡◌, [], true, false, max, IfOk};
+ghost use Rattle.bh_props.specs.SettingsView.{SettingsView};
+ghost use Rattle.bh_columns.specs.Charts.{AreDrawn, AreUsed, EachDrawn, HasHappened, IsChartOf, IsDrawnOf, IsLaneOf, total_of};
+ghost use Rattle.bh_columns.specs.Panels.{any_pooled};
+ghost use Rattle.bh_columns.specs.Named.{KeptRun};
+ghost use Rattle.bh_columns.specs.Recorded.{IsRecorded};
+ghost use Rattle.bh_columns.specs.declared.selection.Selection.{Selection as SelectionView};
+
 use crate::column::{Column, Usage};
-use crate::grid::Grid;
+use crate::drawn::Drawn;
 use crate::lane::KeptLane;
 use crate::panel::KeptPanel;
 use crate::record::Recording;
+use crate::track::Track;
 use bh_base::{Moment, Text};
 use bh_look::rows::further_names;
 use bh_props::Settings;
 use std::alloc::{AllocError, Global};
-
-/// As many powers of ten fit into a moment.
-const MOST_POWERS: u32 = 20;
 
 /// What a picture is drawn from.
 #[derive(Drop)]
@@ -79,19 +85,21 @@ pub fn make_chart(
     settings: &Settings,
     recording: &Recording,
     columns: u64,
-) -> Result<Chart, AllocError> {
+) -> Result<Chart, AllocError>
+    ensures drawn { IfOk result (IsChartOf recording.now.kept (max columns 2)) }
+    ensures happened { IfOk result (λ chart. (service : SettingsView) (sel : SelectionView) (run : KeptRun) → IsRecorded service sel recording.now.groups recording.now.kept run → HasHappened run.fills chart) }
+    ensures lines { IfOk result (λ chart. chart.lines ≡ recording.now.lines) }
+    ensures faults { IfOk result (λ chart. chart.faults ≡ recording.now.faults) }
+{
     let kept = &recording.kept;
     let drawn = Drawn::of(&kept.grid, columns.max(2));
+    let width = kept.grid.width.saturating_mul(drawn.many);
     let names = further_names(alloc, settings)?;
-    let mut panels = Vec::with_capacity(alloc, kept.panels.len())?;
-    for panel in kept.panels.iter() {
-        let further = names.get(panel.like as usize);
-        panels.push(draw_panel(alloc, panel, further, &drawn)?)?;
-    }
+    let panels = draw_panels(alloc, kept.panels.as_slice(), names.as_slice(), &drawn)?;
     Ok(Chart {
-        begin: drawn.first.saturating_mul(drawn.width),
-        width: drawn.width,
-        count: drawn.count as usize,
+        begin: drawn.first.saturating_mul(width),
+        width,
+        count: drawn.count() as usize,
         panels,
         left_out: kept.left_out,
         lines: recording.lines,
@@ -99,117 +107,125 @@ pub fn make_chart(
     })
 }
 
-/// The columns of a chart: of those that are kept so many are one.
-#[derive(Clone, Copy, Debug)]
-struct Drawn {
-    many: u64,
-    width: u64,
-    /// The index of the first.
-    first: u64,
-    count: u64,
-}
-
-impl Drawn {
-    /// The narrowest columns of which there are at most so many, at least 2.
-    fn of(grid: &Grid, columns: u64) -> Drawn {
-        let mut power = 1u64;
-        for _ in 0..MOST_POWERS {
-            for times in [1, 2, 5] {
-                let drawn = Drawn::at(grid, power.saturating_mul(times));
-                if drawn.count <= columns {
-                    return drawn;
-                }
-            }
-            power = power.saturating_mul(10);
-        }
-        Drawn::at(grid, power)
+/// The panels as they are drawn, by the names of the further commands of the groups whose properties they have.
+fn draw_panels(
+    alloc: Global,
+    kept: &[KeptPanel],
+    names: &[Vec<Text<32>>],
+    drawn: &Drawn,
+) -> Result<Vec<Panel>, AllocError>
+    ensures { IfOk result (λ panels. EachDrawn kept.now panels.items (λ one panel. IsDrawnOf drawn.now.many drawn.now.first drawn.now.end one panel)) }
+{
+    let mut panels = Vec::with_capacity(alloc, kept.len())?;
+    for place in 0..kept.len() {
+        let panel = draw_panel(alloc, &kept[place], names, drawn)?;
+        panels.push(panel)?;
     }
-
-    /// Columns of which each is so many of those that are kept.
-    fn at(grid: &Grid, many: u64) -> Drawn {
-        let width = grid.width.saturating_mul(many);
-        match grid.extent {
-            Some((least, greatest)) => {
-                let first = least / many.max(1);
-                Drawn {
-                    many,
-                    width,
-                    first,
-                    count: (greatest / many.max(1))
-                        .saturating_sub(first)
-                        .saturating_add(1),
-                }
-            }
-            None => Drawn {
-                many,
-                width,
-                first: 0,
-                count: 0,
-            },
-        }
-    }
+    Ok(panels)
 }
 
 /// The panel as it is drawn.
 fn draw_panel(
     alloc: Global,
-    panel: &KeptPanel,
+    kept: &KeptPanel,
+    names: &[Vec<Text<32>>],
+    drawn: &Drawn,
+) -> Result<Panel, AllocError>
+    ensures { IfOk result (IsDrawnOf drawn.now.many drawn.now.first drawn.now.end kept.now) }
+{
+    let further = names.get(kept.like as usize);
+    let lanes = draw_lanes(alloc, kept.group, kept.lanes.as_slice(), further, drawn)?;
+    let pool = draw_pool(alloc, kept, drawn)?;
+    let lives = Vec::from_slice(alloc, kept.lives.as_slice())?;
+    Ok(Panel {
+        group: kept.group,
+        like: kept.like,
+        lanes,
+        pool,
+        lives,
+    })
+}
+
+/// The lanes of a group of the name as they are drawn, by the names of its further commands.
+fn draw_lanes(
+    alloc: Global,
+    group: Text<32>,
+    kept: &[KeptLane],
     further: Option<&Vec<Text<32>>>,
     drawn: &Drawn,
-) -> Result<Panel, AllocError> {
-    let mut lanes = Vec::with_capacity(alloc, panel.lanes.len())?;
-    for (number, lane) in panel.lanes.iter().enumerate() {
-        lanes.push(draw_lane(
-            alloc,
-            lane,
-            command_name(panel.group, further, number),
-            drawn,
-        )?)?;
+) -> Result<Vec<Lane>, AllocError>
+    ensures { IfOk result (λ lanes. EachDrawn kept.now lanes.items (λ one lane. IsLaneOf drawn.now.many drawn.now.first drawn.now.end one lane)) }
+{
+    let mut lanes = Vec::with_capacity(alloc, kept.len())?;
+    for number in 0..kept.len() {
+        let command = command_name(group, further, number);
+        let lane = draw_lane(alloc, &kept[number], command, drawn)?;
+        lanes.push(lane)?;
     }
-    Ok(Panel {
-        group: panel.group,
-        like: panel.like,
-        lanes,
-        pool: draw_pool(alloc, panel, drawn)?,
-        lives: Vec::from_slice(alloc, panel.lives.as_slice())?,
-    })
+    Ok(lanes)
 }
 
 /// The lane as it is drawn.
 fn draw_lane(
     alloc: Global,
-    lane: &KeptLane,
+    kept: &KeptLane,
     command: Text<32>,
     drawn: &Drawn,
-) -> Result<Lane, AllocError> {
-    let mut columns = Vec::with_capacity(alloc, drawn.count as usize)?;
-    let mut total = Column::new();
-    for place in 0..drawn.count {
-        let column = lane
-            .track
-            .joined(drawn.first.saturating_add(place), drawn.many);
-        total.join(&column);
-        columns.push(column)?;
-    }
+) -> Result<Lane, AllocError>
+    ensures { IfOk result (IsLaneOf drawn.now.many drawn.now.first drawn.now.end kept.now) }
+{
+    let columns = draw_columns(alloc, &kept.track, drawn)?;
+    let total = total_of(columns.as_slice());
     Ok(Lane {
         command,
-        pooled: lane.pooled,
+        pooled: kept.pooled,
         columns,
         total,
     })
 }
 
-/// The pool as it is drawn: nothing where no command runs in it.
-fn draw_pool(alloc: Global, panel: &KeptPanel, drawn: &Drawn) -> Result<Vec<Usage>, AllocError> {
-    let mut usages = Vec::new(alloc);
-    if !panel.has_pool() {
-        return Ok(usages);
+/// The columns of the track as they are drawn.
+fn draw_columns(alloc: Global, track: &Track, drawn: &Drawn) -> Result<Vec<Column>, AllocError>
+    ensures { IfOk result (λ columns. AreDrawn drawn.now.many drawn.now.first drawn.now.end track.now columns.items) }
+{
+    let mut columns = Vec::with_capacity(alloc, drawn.count() as usize)?;
+    for index in drawn.first..drawn.end {
+        let column = track.joined(index, drawn.many);
+        columns.push(column)?;
     }
-    for place in 0..drawn.count {
-        let column = panel
-            .pool
-            .joined(drawn.first.saturating_add(place), drawn.many);
-        usages.push(column.usage)?;
+    Ok(columns)
+}
+
+/// All columns as one.
+fn total_of(columns: &[Column]) -> Column
+    ensures { result ≡ total_of columns.now }
+{
+    let mut total = Column::new();
+    for column in columns {
+        total.join(column);
+    }
+    total
+}
+
+/// The pool as it is drawn: nothing where no command runs in it.
+fn draw_pool(alloc: Global, kept: &KeptPanel, drawn: &Drawn) -> Result<Vec<Usage>, AllocError>
+    ensures used { IfOk result (λ usages. any_pooled kept.now.lanes.items ≡ true → AreUsed drawn.now.many drawn.now.first drawn.now.end kept.now.pool usages.items) }
+    ensures none { IfOk result (λ usages. any_pooled kept.now.lanes.items ≡ false → usages.items ≡ []) }
+{
+    if kept.has_pool() {
+        draw_usages(alloc, &kept.pool, drawn)
+    } else {
+        Ok(Vec::new(alloc))
+    }
+}
+
+/// The usages of the columns of the track as they are drawn.
+fn draw_usages(alloc: Global, track: &Track, drawn: &Drawn) -> Result<Vec<Usage>, AllocError>
+    ensures { IfOk result (λ usages. AreUsed drawn.now.many drawn.now.first drawn.now.end track.now usages.items) }
+{
+    let mut usages = Vec::with_capacity(alloc, drawn.count() as usize)?;
+    for index in drawn.first..drawn.end {
+        usages.push(track.joined(index, drawn.many).usage)?;
     }
     Ok(usages)
 }

@@ -1,7 +1,8 @@
 //! How wide columns are, and which of them there are.
 
-ghost use Rattle.std.specs.Prelude.{◌≡◌, ◌*◌, ◌/◌, ◌-◌, ◌+◌, ◌<◌, ◌≤◌, true, false};
-ghost use Rattle.bh_columns.specs.Tracks.{IsReach};
+ghost use Rattle.std.specs.Prelude.{◌≡◌, ◌*◌, ◌/◌, ◌-◌, ◌+◌, ◌<◌, ◌≤◌, ℕ, Some, true, false};
+ghost use Rattle.bh_columns.specs.Spans.{Fill, IsFill};
+ghost use Rattle.bh_columns.specs.Tracks.{IsIn, IsReach, IsWithin, tenth};
 
 use crate::track::{JOINED, Reach};
 use bh_base::Moment;
@@ -70,7 +71,11 @@ impl Grid {
     }
 
     /// The extent with the columns of the indexes from the one to the other.
-    fn extended(&self, first: u64, last: u64) -> (u64, u64) {
+    fn extended(&self, first: u64, last: u64) -> (u64, u64)
+        ensures covers { (index : ℕ) → IsIn self.now.extent index → IsIn (Some result) index }
+        ensures first { first ≤ last → IsIn (Some result) first }
+        ensures last { first ≤ last → IsIn (Some result) last }
+    {
         match self.extent {
             Some((least, greatest)) => (least.min(first), greatest.max(last)),
             None => (first, last),
@@ -79,23 +84,37 @@ impl Grid {
 
     /// Takes in the moments from the one to the other, if there are not too many columns then, and says whether it did.
     pub fn takes(&mut self, from: Moment, to: Moment) -> bool
-        ensures { self.new.width ≡ self.old.width }
+        ensures width { self.new.width ≡ self.old.width }
+        ensures within { (f : Fill) → IsWithin self.old.extent self.old.width f → IsWithin self.new.extent self.new.width f }
+        ensures taken { result ≡ true → from ≤ to → IsIn self.new.extent (from / self.new.width) × IsIn self.new.extent (to / self.new.width) }
     {
-        let last = self.index(to);
-        let (least, greatest) = self.extended(self.index(from), last);
+        let (least, greatest) = self.extended(self.index(from), self.index(to));
         if greatest.saturating_sub(least) >= self.limit {
             return false;
         }
-        self.extent = Some((least, greatest));
+        self.take_in(from, to);
+        true
+    }
+
+    /// Takes in the moments from the one to the other.
+    pub fn take_in(&mut self, from: Moment, to: Moment)
+        ensures width { self.new.width ≡ self.old.width }
+        ensures within { (f : Fill) → IsWithin self.old.extent self.old.width f → IsWithin self.new.extent self.new.width f }
+        ensures taken { from ≤ to → IsIn self.new.extent (from / self.new.width) × IsIn self.new.extent (to / self.new.width) }
+    {
+        let first = self.index(from);
+        let last = self.index(to);
+        let extent = self.extended(first, last);
+        self.extent = Some(extent);
         self.latest = last;
         self.begin = last * self.width;
-        true
     }
 
     /// Makes columns ten times as wide, and says whether it did: it does not where no moment would lie behind the first.
     pub fn widen(&mut self) -> bool
         ensures wider { result ≡ true → self.new.width ≡ self.old.width * 10 }
         ensures same { result ≡ false → self.new ≡ self.old }
+        ensures within { (f : Fill) → IsFill f → IsWithin self.old.extent self.old.width f → IsWithin self.new.extent self.new.width f }
     {
         let Some(width) = self.width.checked_mul(JOINED) else {
             return false;
@@ -103,10 +122,17 @@ impl Grid {
         self.latest = 0;
         self.begin = 0;
         self.width = width;
-        self.extent = match self.extent {
-            Some((least, greatest)) => Some((least / JOINED, greatest / JOINED)),
-            None => None,
-        };
+        self.extent = tenth(self.extent);
         true
+    }
+}
+
+/// The extent where ten columns are one.
+fn tenth(extent: Option<(u64, u64)>) -> Option<(u64, u64)>
+    ensures { result ≡ tenth extent }
+{
+    match extent {
+        Some((least, greatest)) => Some((least / JOINED, greatest / JOINED)),
+        None => None,
     }
 }

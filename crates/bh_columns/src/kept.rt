@@ -1,6 +1,6 @@
 //! The columns that are kept of all groups, and where.
 
-ghost use Rattle.std.specs.Prelude.{◌≡◌, ◌<◌, ◌≤◌, ℕ, [], true, length, slice_get, IfOk, MatchOption, OnOk, Some};
+ghost use Rattle.std.specs.Prelude.{◌≡◌, ◌<◌, ◌≤◌, ◌-◌, ◌/◌, ℕ, [], true, length, slice_get, IfOk, MatchOption, OnOk, Some};
 ghost use Rattle.std.specs.List.{AllByRecursion};
 ghost use Rattle.bh_props.specs.Shown.{settings_view};
 ghost use Rattle.bh_props.specs.SettingsView.{SettingsView};
@@ -9,9 +9,11 @@ ghost use Rattle.bh_port.specs.Course.{Course, new_course};
 ghost use Rattle.bh_port.specs.Text.{with_act};
 ghost use Rattle.bh_columns.specs.Filled.{AreFilled, AreFills, Fills, HasRoomsFor, IsJoinedPanel, SamePanel};
 ghost use Rattle.bh_columns.specs.Named.{NamedFills, no_fills};
-ghost use Rattle.bh_columns.specs.Panels.{EachAt};
+ghost use Rattle.bh_columns.specs.Panels.{EachAt, IsTaken};
 ghost use Rattle.bh_columns.specs.Placed.{IsBegunAt, IsPlaceFor, SameKept};
 ghost use Rattle.bh_columns.specs.Recorded.{HasNone, IsKept, IsPanelOf, keeps};
+ghost use Rattle.bh_columns.specs.Spans.{Fill, IsFill};
+ghost use Rattle.bh_columns.specs.Tracks.{IsIn, IsWithin};
 ghost use Rattle.bh_columns.specs.declared.panel.KeptPanel.{KeptPanel};
 ghost use Rattle.bh_columns.specs.declared.selection.Selection.{Selection as SelectionView};
 
@@ -154,6 +156,8 @@ impl Kept {
         requires { panel < length self.old.panels.items }
         ensures filled { OnOk result ((fs : Fills) → AreFills fs → AreFilled self.old.panels.items self.old.grid.width fs → AreFilled self.new.panels.items self.new.grid.width fs) }
         ensures panels { OnOk result (EachAt self.old.panels.items self.new.panels.items (λ place panel next. SamePanel panel next)) }
+        ensures within { (f : Fill) → IsFill f → IsWithin self.old.grid.extent self.old.grid.width f → IsWithin self.new.grid.extent self.new.grid.width f }
+        ensures taken { IsTaken self.new.grid.extent self.new.grid.width when.now }
         ensures room { OnOk result ((own : KeptPanel) → when.now.since ≤ when.now.moment → slice_get self.new.panels.items panel ≡ Some own → HasRoomsFor self.new.grid.width when.now own) }
         ensures count { length self.new.panels.items ≡ length self.old.panels.items }
         ensures places { self.new.places ≡ self.old.places }
@@ -171,6 +175,8 @@ impl Kept {
     fn fit(&mut self, since: Moment, until: Moment)
         ensures filled { (fs : Fills) → AreFills fs → AreFilled self.old.panels.items self.old.grid.width fs → AreFilled self.new.panels.items self.new.grid.width fs }
         ensures panels { EachAt self.old.panels.items self.new.panels.items (λ place panel next. SamePanel panel next) }
+        ensures within { (f : Fill) → IsFill f → IsWithin self.old.grid.extent self.old.grid.width f → IsWithin self.new.grid.extent self.new.grid.width f }
+        ensures taken { since < until → IsIn self.new.grid.extent (since / self.new.grid.width) × IsIn self.new.grid.extent ((until - 1) / self.new.grid.width) }
         ensures places { self.new.places ≡ self.old.places }
         ensures selection { self.new.selection ≡ self.old.selection }
         ensures left_out { self.new.left_out ≡ self.old.left_out }
@@ -178,18 +184,21 @@ impl Kept {
         if since >= until {
             return;
         }
+        let last = until - 1;
         for _ in 0..MOST_JOINS {
-            if self.grid.takes(since, until.saturating_sub(1)) {
+            if self.grid.takes(since, last) {
                 return;
             }
             self.join();
         }
+        self.grid.take_in(since, last);
     }
 
     /// Joins all columns ten by ten, where they can be.
     fn join(&mut self)
         ensures filled { (fs : Fills) → AreFills fs → AreFilled self.old.panels.items self.old.grid.width fs → AreFilled self.new.panels.items self.new.grid.width fs }
         ensures panels { EachAt self.old.panels.items self.new.panels.items (λ place panel next. SamePanel panel next) }
+        ensures within { (f : Fill) → IsFill f → IsWithin self.old.grid.extent self.old.grid.width f → IsWithin self.new.grid.extent self.new.grid.width f }
         ensures places { self.new.places ≡ self.old.places }
         ensures selection { self.new.selection ≡ self.old.selection }
         ensures left_out { self.new.left_out ≡ self.old.left_out }

@@ -7,7 +7,7 @@ ghost use Rattle.bh_base.specs.Runs.{View};
 ghost use Rattle.bh_core.specs.CoreView.{view_at};
 ghost use Rattle.bh_look.specs.declared.lane.Lane.{Lane};
 ghost use Rattle.bh_columns.specs.Columns.{told_of};
-ghost use Rattle.bh_columns.specs.Panels.{EachAt, FitsLanes, HasLooked, HasMadeRoom, HasNotedAt, HasSpent, IsJoinedLane, IsNewLife, is_touched, lane_stay};
+ghost use Rattle.bh_columns.specs.Panels.{EachAt, FitsLanes, HasLooked, HasMadeRoom, HasNotedAt, HasSpent, IsJoinedLane, IsNewLife, any_pooled, is_touched, lane_stay};
 ghost use Rattle.bh_columns.specs.Placed.{IsEmptyLane};
 ghost use Rattle.bh_columns.specs.Steps.{closes, is_closed};
 
@@ -204,6 +204,18 @@ pub fn join_all(lanes: &mut [KeptLane])
     for place in 0..lanes.len() {
         lanes[place].join();
     }
+}
+
+/// Whether a command runs in the pool.
+pub fn any_pooled(lanes: &[KeptLane]) -> bool
+    ensures { result ≡ any_pooled lanes.now }
+{
+    for lane in lanes {
+        if lane.pooled {
+            return true;
+        }
+    }
+    false
 }
 
 /// How many runs of the lanes in the pool are under way.

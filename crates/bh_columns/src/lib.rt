@@ -4,6 +4,7 @@
 
 pub mod chart;
 pub mod column;
+mod drawn;
 pub mod grid;
 pub mod kept;
 pub mod lane;

@@ -9,7 +9,7 @@ ghost use Rattle.bh_core.specs.Step.{IsStep};
 ghost use Rattle.bh_props.specs.SettingsView.{SettingsView};
 ghost use Rattle.bh_port.specs.declared.act.LineAct.TheVariants as act;
 ghost use Rattle.bh_port.specs.Entries.{entry_at};
-ghost use Rattle.bh_columns.specs.Filled.{AreFilled, AreFills, Fills, Stands, fills_with};
+ghost use Rattle.bh_columns.specs.Filled.{AreFilled, AreFills, AreWithin, Fills, Stands, fills_with};
 ghost use Rattle.bh_columns.specs.Named.{KeptRun, run_said};
 ghost use Rattle.bh_columns.specs.Panels.{EachAt};
 ghost use Rattle.bh_columns.specs.Placed.{IsAsked, IsStepped};
@@ -69,6 +69,8 @@ impl Kept {
             → AreFills fs → AreFilled self.old.panels.items self.old.grid.width fs
             → AreFilled self.new.panels.items self.new.grid.width (fills_with self.old.selection.from self.old.selection.to panel (view s) step.entry.now.op step.entry.now.now fs)
             × ((next : KeptPanel) × (slice_get self.new.panels.items panel ≡ Some next) × Stands (view_after (view s) step.entry.now.op step.entry.now.now) next)) }
+        ensures within { OnOk result ((s : State) (fs : Fills) → Shows groups.old.core step.entry.now.group.0 s → AreFills fs → AreWithin self.old.grid.extent self.old.grid.width fs
+            → AreWithin self.new.grid.extent self.new.grid.width (fills_with self.old.selection.from self.old.selection.to panel (view s) step.entry.now.op step.entry.now.now fs)) }
     {
         let began = clock(groups.core(), step.group);
         let run_of = run_of(groups.core(), step.group, &step.op);

@@ -11,7 +11,7 @@ ghost use Rattle.bh_port.specs.Entries.{entry_at};
 ghost use Rattle.bh_look.specs.declared.lane.Lane.{Lane};
 ghost use Rattle.bh_look.specs.Tallies.{no_tally};
 ghost use Rattle.bh_columns.specs.Columns.{told_of};
-ghost use Rattle.bh_columns.specs.Panels.{EachAt, FitsLanes, HasAdded, HasAddedTime, HasAddedTold, HasLooked, HasMadeRoom, HasNotedAt, HasSpent, HasTold, IsJoinedLane, IsNewLife};
+ghost use Rattle.bh_columns.specs.Panels.{EachAt, FitsLanes, HasAdded, HasAddedTime, HasAddedTold, HasLooked, HasMadeRoom, HasNotedAt, HasSpent, HasTold, IsJoinedLane, IsNewLife, any_pooled};
 ghost use Rattle.bh_columns.specs.Placed.{IsEmptyPanel};
 ghost use Rattle.bh_columns.specs.Recorded.{IsPanelOf};
 ghost use Rattle.bh_columns.specs.Spans.{lies};
@@ -20,8 +20,8 @@ ghost use Rattle.bh_columns.specs.Steps.{closes};
 use crate::chart::Life;
 use crate::grid::Grid;
 use crate::lane::{
-    KeptLane, Touched, begin_all, join_all, look_all, make_room_in_all, note_all, pool_busy,
-    pool_queued, spend_all,
+    KeptLane, Touched, any_pooled, begin_all, join_all, look_all, make_room_in_all, note_all,
+    pool_busy, pool_queued, spend_all,
 };
 use crate::stay::Stay;
 use crate::track::{Reach, Track};
@@ -230,8 +230,10 @@ impl KeptPanel {
     }
 
     /// Whether a command runs in the pool.
-    pub fn has_pool(&self) -> bool {
-        self.lanes.iter().any(|lane| lane.pooled)
+    pub fn has_pool(&self) -> bool
+        ensures { result ≡ any_pooled self.now.lanes.items }
+    {
+        any_pooled(self.lanes.as_slice())
     }
 
     /// Adds what was done: the time from the step before to this one, and what this one told, as far as both are kept.

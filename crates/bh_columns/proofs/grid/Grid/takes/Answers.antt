@@ -1,9 +1,7 @@
-use Rattle.std.proofs.Common.{◌≡◌, ◌*◌, ◌/◌, ap, arith}
-use Rattle.std.proofs.Math.Nat.{div-mul-le_self}
 use Rattle.bh_columns.proofs.grid.Grid.takes.Goals as goal
 
-pub overflow_mul-self : goal.overflow_mul-self
-overflow_mul-self c =
-    let g = c.args.self.now in
-    let is : c.index-last.result * g.width ≡ c.args.to / g.width * g.width = ap (λ k. k * g.width) c.index-last.ensures in
-    omega (arith, is, div-mul-le_self c.args.to g.width, c.ranges.to.fits)
+pub returns-clause-within : goal.returns-clause-within
+returns-clause-within c = λ f within. c.take_in.ensures.within f within
+
+pub returns-clause-taken : goal.returns-clause-taken
+returns-clause-taken c = λ _ le. c.take_in.ensures.taken le

@@ -17,5 +17,6 @@ returns-in-Some c =
       places = refl;
       selection = refl;
       width = refl;
+      extent = refl;
       left_out = refl;
     }

@@ -21,3 +21,6 @@ returns-clause-panels c =
     let new = c.join_panels.new.panels in
     each_weaker v.items (with_items v new).items (λ p panel next. IsJoinedPanel panel next) (λ p panel next. SamePanel panel next) (λ p x y xy. joined_panel x y xy)
     (each_items v c.deref_mut.result.now new (λ p panel next. IsJoinedPanel panel next) c.deref_mut.ensures.value c.join_panels.ensures)
+
+pub returns-clause-within : goal.returns-clause-within
+returns-clause-within c = λ f fill within. c.widen.ensures.within f fill within

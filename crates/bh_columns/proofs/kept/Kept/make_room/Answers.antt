@@ -1,8 +1,8 @@
-use Rattle.std.proofs.Common.{◌≡◌, ◌<◌, Some, arith, length, max, refl, subst}
+use Rattle.std.proofs.Common.{◌≡◌, ◌-◌, ◌/◌, ◌<◌, Some, arith, length, max, refl, subst}
 use Rattle.std.specs.Prelude.{slice_get}
 use Rattle.std.proofs.lemmas.Option.{slice_get_read}
 use Rattle.bh_port.proofs.Outcomes.{both_ok}
-use Rattle.bh_columns.specs.Tracks.{IsReach}
+use Rattle.bh_columns.specs.Tracks.{IsIn, IsReach}
 use Rattle.bh_columns.specs.declared.panel.KeptPanel.{KeptPanel}
 use Rattle.bh_columns.proofs.Keeping.{made_all, made_panels, made_rooms, panels_then}
 use Rattle.bh_columns.proofs.kept.Kept.make_room.Goals as goal
@@ -34,3 +34,12 @@ returns-clause-room c = both_ok c.make_room.result c.make_room.ensures.lanes c.m
     let reach : max when.since when.from < until → IsReach r (max when.since when.from) until =
     subst (λ n. n < until → IsReach r n until) c.max-since.ensures c.reach-reach.ensures.reach in
     made_rooms panels c.args.panel c.fit.new.self.grid.width until when r was c.make_room.new.self own inside found each c.reach-reach.ensures.width c.until-until.ensures order reach)
+
+pub returns-clause-taken : goal.returns-clause-taken
+returns-clause-taken c =
+    let when = c.args.when.now in
+    let extent = c.fit.new.self.grid.extent in
+    let width = c.fit.new.self.grid.width in
+    let until = c.until-until.result in
+    subst (λ n. max when.since when.from < n → IsIn extent (max when.since when.from / width) × IsIn extent ((n - 1) / width)) c.until-until.ensures
+    (subst (λ n. n < until → IsIn extent (n / width) × IsIn extent ((until - 1) / width)) c.max-since.ensures c.fit.ensures.taken)

@@ -20,6 +20,7 @@ returns c = λ selected none.
       places = refl;
       selection = refl;
       width = refl;
+      extent = refl;
       left = λ is. is;
       stay = λ p next at.
           let inside = slice_get_within panels p next at in

@@ -7,6 +7,7 @@ returns-in-Some c = record {
   places = refl;
   selection = refl;
   width = refl;
+  extent = refl;
   left = λ none. none;
   stay = λ p panel at. at;
   more = λ p panel at. inl at;

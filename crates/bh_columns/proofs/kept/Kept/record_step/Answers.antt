@@ -18,6 +18,7 @@ use Rattle.bh_columns.specs.declared.panel.When.{When}
 use Rattle.bh_columns.proofs.Lists.{each_back}
 use Rattle.bh_port.proofs.Lists.{read_within}
 use Rattle.bh_columns.proofs.Recording.{all_stepped, latest_rises, recorded, set_filled, since_before, since_is}
+use Rattle.bh_columns.proofs.Within.{stepped_within}
 use Rattle.bh_columns.proofs.kept.Kept.record_step.Goals as goal
 
 pub returns : goal.returns
@@ -137,4 +138,28 @@ returns c = record {
         circuits = λ k lane found. (each_back m4.lanes.items m5.lanes.items (λ q l next. HasLooked w q touched l next) k lane looked found).2.circuit;
       } in
       (recorded p3 n width own m3 m4 m5 when v w touched x.op x.now from to fs stands standing told count added looked rooms when_is refl at3 filled3, (m5, set_here p4 n m5 inside4, stands5));
+  within = λ s fs shown fills within.
+      let x : Step = c.args.step.now in
+      let g = x.group.0 in
+      let n = c.args.panel in
+      let v : View = view s in
+      let t : State = (step s x.op x.now).state in
+      let w : View = view_after v x.op x.now in
+      let after : Shows c.make_step.new.groups.core g t = c.make_step.ensures.step.own s shown in
+      let seen : view_at c.make_step.new.groups.core g ≡ Some w = (c.make_step.ensures.step.seen v shown.view_is).1 in
+      let views : Some (view t) ≡ Some w = sym after.view_is ∙ seen in
+      let is : view t ≡ w = cc in
+      let from = c.args.self.now.selection.from in
+      let to = c.args.self.now.selection.to in
+      let when : When = record { since = c.unwrap_or-since.result; moment = c.latest-moment.result; from = from; to = to } in
+      let moment : c.latest-moment.result ≡ w.present.latest = c.latest-moment.ensures.known w (ap (λ k. view_at k g) c.core-3.ensures.core ∙ seen) in
+      let began = c.clock-began.ensures v (ap (λ k. view_at k g) c.core.ensures.core ∙ shown.view_is) in
+      let since : c.unwrap_or-since.result ≡ (when_of from to v x.op x.now).since =
+      c.unwrap_or-since.ensures ∙ ap (unwrap_or c.clock-began.result) moment ∙ since_is (v.present.steps == 0) c.clock-began.result v.present.latest w.present.latest began in
+      let when_is : when ≡ when_of from to v x.op x.now = λ i. record { since = since i; moment = moment i; from = from; to = to } in
+      let rises : v.present.latest ≤ w.present.latest = subst (λ (u : View). v.present.latest ≤ u.present.latest) is (latest_rises s x.op x.now) in
+      let before = since_before (v.present.steps == 0) v.present.latest w.present.latest rises in
+      let order : when.since ≤ when.moment = omega (arith, moment, since, before) in
+      let grid = c.make_room.new.self.grid in
+      stepped_within grid.extent grid.width n from to v x.op x.now fs when when_is grid.some_width order c.make_room.ensures.taken (λ p command. c.make_room.ensures.within (fs p command) (fills p command) (within p command));
 }
