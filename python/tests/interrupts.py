@@ -1,13 +1,16 @@
-"""What the tests of interrupts share: a call that is interrupted at a place of the package."""
+"""What the tests of interrupts share: a call that is interrupted at a place of the package, or by the kernel."""
 
 from __future__ import annotations
 
 import inspect
 import itertools
+import random
+import signal
 import sys
+import unittest
 from collections.abc import Callable
 from types import FrameType
-from typing import Any
+from typing import Any, Optional
 
 from bulkhead import CommandError
 
@@ -41,3 +44,22 @@ def at_place(call: Callable[[], Any], number: int) -> bool:
     finally:
         sys.setprofile(None)
     return was_reached
+
+
+class Alarm:
+    """A signal of the kernel that raises an Interrupt once it was armed: once, and at a random moment."""
+
+    def __init__(self, case: unittest.TestCase) -> None:
+        self.is_armed = False
+        before = signal.signal(signal.SIGALRM, self.ring)
+        case.addCleanup(signal.signal, signal.SIGALRM, before)
+
+    def ring(self, number: int, frame: Optional[FrameType]) -> None:
+        if self.is_armed:
+            self.is_armed = False
+            raise Interrupt
+
+    def arm(self, longest: float) -> None:
+        """From now on it rings within so many seconds."""
+        self.is_armed = True
+        signal.setitimer(signal.ITIMER_REAL, random.uniform(0.000_001, longest))

@@ -15,7 +15,7 @@ from typing import Any, Optional
 
 import bulkhead
 from bulkhead._coroutines import Carried
-from interrupts import Interrupt, at_place
+from interrupts import Alarm, Interrupt, at_place
 from support import SETTINGS, Case, Gate
 
 ROUNDS = 2_000
@@ -34,34 +34,25 @@ class Interrupts(Case):
         self.interrupt_at_random(service, calls)
 
     def test_a_context_may_be_interrupted_by_the_kernel_at_random_places(self) -> None:
-        service, opened, is_armed, count = self.open(), [], False, 0
+        service, alarm, opened, count = self.open(), Alarm(self), [], 0
         call = service.command("permits", key=lambda: 1)(lambda: 1)
-
-        def handle(number: int, frame: Optional[FrameType]) -> None:
-            nonlocal is_armed
-            if is_armed:
-                is_armed = False
-                raise Interrupt
 
         def enter_while_armed() -> None:  # a loop of its own: where one ends a `try`, some versions of Python leave it out
             nonlocal opened
-            while is_armed:
+            while alarm.is_armed:
                 opened = [service.context()]
                 with opened[0]:
                     call()
 
-        before = signal.signal(signal.SIGALRM, handle)
-        self.addCleanup(signal.signal, signal.SIGALRM, before)
         random.seed(11)
         while count < ROUNDS:
             try:
-                is_armed = True
-                signal.setitimer(signal.ITIMER_REAL, random.uniform(0.000_001, 0.000_100))
+                alarm.arm(0.000_100)
                 enter_while_armed()
             except Interrupt:
                 count += 1
             finally:
-                is_armed = False
+                alarm.is_armed = False
             self.assertIsNone(service.current.get())
             self.assertEqual([context for context in opened if context.groups], [])
         self.assert_idle(service)
@@ -89,25 +80,15 @@ class Interrupts(Case):
 
     def interrupt_at_random(self, service: bulkhead.CommandService, calls: list[Any]) -> None:
         told: Counter[str] = Counter()
-        is_armed = False
-
-        def handle(number: int, frame: Optional[FrameType]) -> None:
-            nonlocal is_armed
-            if is_armed:
-                is_armed = False
-                raise Interrupt
-
-        before = signal.signal(signal.SIGALRM, handle)
-        self.addCleanup(signal.signal, signal.SIGALRM, before)
+        alarm = Alarm(self)
         random.seed(7)
         while told["Interrupt"] < ROUNDS:
             context = service.context()
             context.__enter__()
             try:
-                is_armed = True
-                signal.setitimer(signal.ITIMER_REAL, random.uniform(0.000_001, 0.000_300))
+                alarm.arm(0.000_300)
                 for call in itertools.cycle(calls):
-                    if not is_armed:  # it came in a callback of the interpreter, which ignores exceptions
+                    if not alarm.is_armed:  # it came in a callback of the interpreter, which ignores exceptions
                         break
                     for value in (1, 0):
                         try:
@@ -117,7 +98,7 @@ class Interrupts(Case):
             except Interrupt:
                 told["Interrupt"] += 1
             finally:
-                is_armed = False
+                alarm.is_armed = False
                 context.__exit__(None, None, None)
         self.assert_idle(service)
         with contextlib.suppress(bulkhead.ShortCircuited):

@@ -4,14 +4,12 @@ from __future__ import annotations
 
 import itertools
 import random
-import signal
 import sys
 import warnings
 from collections.abc import Callable
-from types import FrameType
-from typing import Any, Optional
+from typing import Any
 
-from interrupts import Interrupt, at_place
+from interrupts import Alarm, Interrupt, at_place
 from share_support import ShareCase
 
 
@@ -61,33 +59,24 @@ class Interrupts(ShareCase):
             self.fake.until(lambda: all(ticket.name is None for ticket in self.fake.tickets.values()))
 
     def test_contexts_may_be_interrupted_by_the_kernel_at_random_places(self) -> None:
-        client, is_armed, count = self.client(), False, 0
+        client, alarm, count = self.client(), Alarm(self), 0
         call = client.command("catalog", key=lambda value: value, encode=str, decode=int)(lambda value: 1 // value)
 
-        def handle(number: int, frame: Optional[FrameType]) -> None:
-            nonlocal is_armed
-            if is_armed:
-                is_armed = False
-                raise Interrupt
-
         def within_while_armed() -> None:  # a loop of its own: where one ends a `try`, some versions of Python leave it out
-            while is_armed:
+            while alarm.is_armed:
                 with client.context():
                     call(1)
                     call(1)
 
-        before = signal.signal(signal.SIGALRM, handle)
-        self.addCleanup(signal.signal, signal.SIGALRM, before)
         random.seed(3)
         while count < 300:
             try:
-                is_armed = True
-                signal.setitimer(signal.ITIMER_REAL, random.uniform(0.000_001, 0.002))
+                alarm.arm(0.002)
                 within_while_armed()
             except Interrupt:
                 count += 1
             finally:
-                is_armed = False
+                alarm.is_armed = False
             self.assertIsNone(client.current.get())
         self.assertEqual(call(1), 1)
         self.fake.until(self.fake.settled)

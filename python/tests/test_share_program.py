@@ -3,11 +3,8 @@
 from __future__ import annotations
 
 import asyncio
-import contextlib
-import io
 import json
 import os
-import re
 import signal
 import socket
 import stat
@@ -21,6 +18,7 @@ from typing import Any, Union
 
 import bulkhead
 from bulkhead._connection import Connection
+from pages import Page
 from support import PROGRAM, Case, Gate, replayed
 
 TOP = Path(__file__).parents[2]
@@ -300,25 +298,12 @@ class Program(Case):
         self.assertEqual([reply["body"] for reply in replies if reply["reply"] == "value"], ["", *["lamp is here"] * 2])
 
     def test_each_block_of_the_page_prints_what_stands_below_it(self) -> None:
-        text = PAGE.read_text()
-        blocks = re.findall(r"^```(\w*)\n(.*?)^```$", text, re.DOTALL | re.MULTILINE)
-        self.settings.write_text(next(block for kind, block in blocks if kind == "toml"))
-        before = Path.cwd()
-        self.addCleanup(os.chdir, before)
+        page = Page(PAGE)
+        self.settings.write_text(page.settings())
+        self.addCleanup(os.chdir, Path.cwd())
         os.chdir(self.at)
         self.start()
-        names: dict[str, object] = {"__name__": "page"}
-        printed, compared = "", 0
-        for kind, block in blocks:
-            if kind == "python":
-                self.assertEqual(printed, "", "a block that prints has what it prints below it")
-                out = io.StringIO()
-                with contextlib.redirect_stdout(out):
-                    exec(compile(block, str(PAGE), "exec"), names)
-                printed = out.getvalue()
-            elif not kind and printed:
-                self.assertEqual(printed, block)
-                printed, compared = "", compared + 1
+        names, compared = page.run(self)
         self.assertEqual(compared, 4)
         for name in ("client", "other"):
             names[name].close()  # type: ignore[attr-defined]
