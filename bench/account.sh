@@ -6,16 +6,9 @@
 set -euo pipefail
 
 here=$(cd "$(dirname "$0")" && pwd)
+declare -A options=([n]=calls [g]=groups [p]=port)
 calls=1000000 groups=16 port=7414
-while getopts n:g:p: option; do
-    case $option in
-    n) calls=$OPTARG ;;
-    g) groups=$OPTARG ;;
-    p) port=$OPTARG ;;
-    *) exit 2 ;;
-    esac
-done
-shift $((OPTIND - 1))
+. "$here/options.sh"
 . "$here/service.sh"
 cc -O2 -pthread -o "$work/client" "$here/serve_client.c"
 

@@ -7,13 +7,8 @@
 set -euo pipefail
 
 here=$(cd "$(dirname "$0")" && pwd)
+declare -A options=([p]=port)
 port=7415
-while getopts p: option; do
-    case $option in
-    p) port=$OPTARG ;;
-    *) exit 2 ;;
-    esac
-done
-shift $((OPTIND - 1))
+. "$here/options.sh"
 . "$here/program.sh"
 python3 "$here/held.py" "$program" "$port"

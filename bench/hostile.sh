@@ -9,17 +9,9 @@
 set -euo pipefail
 
 here=$(cd "$(dirname "$0")" && pwd)
+declare -A options=([n]=calls [g]=groups [i]=idle [p]=port)
 calls=40000 groups=16 idle=2 port=7413
-while getopts n:g:i:p: option; do
-    case $option in
-    n) calls=$OPTARG ;;
-    g) groups=$OPTARG ;;
-    i) idle=$OPTARG ;;
-    p) port=$OPTARG ;;
-    *) exit 2 ;;
-    esac
-done
-shift $((OPTIND - 1))
+. "$here/options.sh"
 . "$here/service.sh"
 hostile=
 trap 'end_hostile; end_service; rm -r "$work"' EXIT

@@ -8,17 +8,9 @@
 set -euo pipefail
 
 here=$(cd "$(dirname "$0")" && pwd)
+declare -A options=([g]=groups [w]=workers [s]=seconds [p]=port)
 groups=1000 workers=1 seconds=20 port=7413
-while getopts g:w:s:p: option; do
-    case $option in
-    g) groups=$OPTARG ;;
-    w) workers=$OPTARG ;;
-    s) seconds=$OPTARG ;;
-    p) port=$OPTARG ;;
-    *) exit 2 ;;
-    esac
-done
-shift $((OPTIND - 1))
+. "$here/options.sh"
 . "$here/service.sh"
 list_settings "$groups" "hystrix.threadpool.default.coreSize = $workers" >"$work/settings.toml"
 

@@ -10,15 +10,9 @@
 set -euo pipefail
 
 here=$(cd "$(dirname "$0")" && pwd)
+declare -A options=([n]=rounds [r]=runs)
 rounds=2000 runs=5
-while getopts n:r: option; do
-    case $option in
-    n) rounds=$OPTARG ;;
-    r) runs=$OPTARG ;;
-    *) exit 2 ;;
-    esac
-done
-shift $((OPTIND - 1))
+. "$here/options.sh"
 work=$(mktemp -d)
 trap 'rm -r "$work"' EXIT
 program=${1:-$work/crates/lives/out/lives}

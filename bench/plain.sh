@@ -9,16 +9,9 @@
 set -euo pipefail
 
 here=$(cd "$(dirname "$0")" && pwd)
+declare -A options=([n]=lines [g]=groups [r]=runs)
 lines=1000000 groups=16 runs=5
-while getopts n:g:r: option; do
-    case $option in
-    n) lines=$OPTARG ;;
-    g) groups=$OPTARG ;;
-    r) runs=$OPTARG ;;
-    *) exit 2 ;;
-    esac
-done
-shift $((OPTIND - 1))
+. "$here/options.sh"
 . "$here/timing.sh"
 
 cp -r "$here/plain" "$work/plain"

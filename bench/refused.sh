@@ -10,14 +10,9 @@ set -euo pipefail
 
 here=$(cd "$(dirname "$0")" && pwd)
 crates=$here/../crates
+declare -A options=([p]=port)
 port=7413
-while getopts p: option; do
-    case $option in
-    p) port=$OPTARG ;;
-    *) exit 2 ;;
-    esac
-done
-shift $((OPTIND - 1))
+. "$here/options.sh"
 program=${1:-$crates/bulkhead/out/bulkhead}
 refusals=(bh_refusals bh_service_refusals)
 built=("${@:2}")

@@ -9,17 +9,9 @@
 set -euo pipefail
 
 here=$(cd "$(dirname "$0")" && pwd)
+declare -A options=([n]=lines [g]=groups [c]=commands [r]=runs)
 lines=1000000 groups=16 commands=1 runs=3
-while getopts n:g:c:r: option; do
-    case $option in
-    n) lines=$OPTARG ;;
-    g) groups=$OPTARG ;;
-    c) commands=$OPTARG ;;
-    r) runs=$OPTARG ;;
-    *) exit 2 ;;
-    esac
-done
-shift $((OPTIND - 1))
+. "$here/options.sh"
 . "$here/timing.sh"
 
 list_groups "$groups" >"$settings"

@@ -10,19 +10,9 @@
 set -euo pipefail
 
 here=$(cd "$(dirname "$0")" && pwd)
+declare -A options=([n]=calls [g]=groups [r]=runs [s]=settings [o]=other [p]=port)
 calls=40000 groups=16 runs=3 settings= other= port=7412
-while getopts n:g:r:s:o:p: option; do
-    case $option in
-    n) calls=$OPTARG ;;
-    g) groups=$OPTARG ;;
-    r) runs=$OPTARG ;;
-    s) settings=$OPTARG ;;
-    o) other=$OPTARG ;;
-    p) port=$OPTARG ;;
-    *) exit 2 ;;
-    esac
-done
-shift $((OPTIND - 1))
+. "$here/options.sh"
 . "$here/service.sh"
 cc -O2 -pthread -o "$work/client" "$here/serve_client.c"
 

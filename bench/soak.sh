@@ -7,15 +7,9 @@
 set -euo pipefail
 
 here=$(cd "$(dirname "$0")" && pwd)
+declare -A options=([s]=seconds [p]=port)
 seconds=3600 port=7416
-while getopts s:p: option; do
-    case $option in
-    s) seconds=$OPTARG ;;
-    p) port=$OPTARG ;;
-    *) exit 2 ;;
-    esac
-done
-shift $((OPTIND - 1))
+. "$here/options.sh"
 . "$here/program.sh"
 cc -O2 -shared -fPIC -o "$work/live.so" "$here/live.c"
 python3 "$here/soak.py" "$program" "$port" "$seconds" "$work/live.so"

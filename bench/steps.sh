@@ -7,15 +7,9 @@
 set -euo pipefail
 
 here=$(cd "$(dirname "$0")" && pwd)
+declare -A options=([n]=lines [r]=runs)
 lines=2000000 runs=3
-while getopts n:r: option; do
-    case $option in
-    n) lines=$OPTARG ;;
-    r) runs=$OPTARG ;;
-    *) exit 2 ;;
-    esac
-done
-shift $((OPTIND - 1))
+. "$here/options.sh"
 . "$here/timing.sh"
 
 # Prints what a step costs with so many groups that hold so many tickets each.

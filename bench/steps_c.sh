@@ -6,15 +6,9 @@
 set -euo pipefail
 
 here=$(cd "$(dirname "$0")" && pwd)
+declare -A options=([n]=steps [r]=runs)
 steps=1000000 runs=20
-while getopts n:r: option; do
-    case $option in
-    n) steps=$OPTARG ;;
-    r) runs=$OPTARG ;;
-    *) exit 2 ;;
-    esac
-done
-shift $((OPTIND - 1))
+. "$here/options.sh"
 . "$here/../bindings/library.sh"
 work=$(mktemp -d)
 trap 'rm -r "$work"' EXIT

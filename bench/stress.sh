@@ -8,14 +8,9 @@ set -euo pipefail
 
 here=$(cd "$(dirname "$0")" && pwd)
 crates=$here/../crates
+declare -A options=([n]=times)
 times=100
-while getopts n: option; do
-    case $option in
-    n) times=$OPTARG ;;
-    *) exit 2 ;;
-    esac
-done
-shift $((OPTIND - 1))
+. "$here/options.sh"
 built=("$@")
 work=$(mktemp -d)
 busy=()
