@@ -12,18 +12,8 @@ set -euo pipefail
 
 here=$(cd "$(dirname "$0")" && pwd)
 calls=40000 groups=16 runs=3 times=100 other= port=7417
-while getopts n:g:r:k:o:p: option; do
-    case $option in
-    n) calls=$OPTARG ;;
-    g) groups=$OPTARG ;;
-    r) runs=$OPTARG ;;
-    k) times=$OPTARG ;;
-    o) other=$OPTARG ;;
-    p) port=$OPTARG ;;
-    *) exit 2 ;;
-    esac
-done
-shift $((OPTIND - 1))
+declare -A options=([n]=calls [g]=groups [r]=runs [k]=times [o]=other [p]=port)
+. "$here/options.sh"
 . "$here/service.sh"
 cc -O2 -pthread -o "$work/client" "$here/serve_client.c"
 list_settings "$groups" 'hystrix.command.default.execution.isolation.strategy = "SEMAPHORE"

@@ -132,7 +132,7 @@ class Connection:
             self.holds.append((group, told["ticket"]))
 
     def start(self, group: str) -> None:
-        told = self.ask(op="start", group=group, wait=self._chance.random() < 0.01)
+        told = self.ask(op="start", group=group)
         if told["reply"] == "assigned":
             self.runs.append((group, told["ticket"]))
 

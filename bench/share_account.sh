@@ -7,12 +7,7 @@ set -euo pipefail
 
 here=$(cd "$(dirname "$0")" && pwd)
 steps=1000000
-while getopts n: option; do
-    case $option in
-    n) steps=$OPTARG ;;
-    *) exit 2 ;;
-    esac
-done
-shift $((OPTIND - 1))
+declare -A options=([n]=steps)
+. "$here/options.sh"
 . "$here/program.sh"
 python3 "$here/share_account.py" "$program" "$steps"
