@@ -1,15 +1,17 @@
 //! Where moments stand from left to right, and the marks that tell them.
 
+ghost use Rattle.std.specs.Prelude.{◌≡◌, ◌+◌, ◌-◌, ◌*◌, ◌/◌, ◌^◌, ◌<◌, ◌≤◌, min, vec_len, ℕ, IfOk};
+
 use crate::canvas::{Canvas, PIXEL, Path};
 use crate::scale::share;
 use crate::time::Clock;
 use std::alloc::{AllocError, Global};
 
 /// The left end of all columns.
-pub const LEFT: u64 = 40 * PIXEL;
+pub(crate) const LEFT: u64 = 40 * PIXEL;
 
 /// How wide they are together.
-pub const PLOT: u64 = 936 * PIXEL;
+pub(crate) const PLOT: u64 = 936 * PIXEL;
 
 /// Texts lie between these ends.
 const FIRST: u64 = 4 * PIXEL;
@@ -20,12 +22,12 @@ const LAST: u64 = 996 * PIXEL;
 const WIDEST: u64 = 80 * PIXEL;
 
 /// A letter of the smallest text is about so wide, in tenths of a pixel.
-pub const LETTER: u64 = 65;
+pub(crate) const LETTER: u64 = 65;
 
 /// The columns: the moment at which the first begins, how many milliseconds each has, and how many there are, of which
 /// there is one at least.
 #[derive(Clone, Copy)]
-pub struct Axis {
+pub(crate) struct Axis {
     pub begin: u64,
     pub width: u64,
     pub count: u64,
@@ -33,75 +35,102 @@ pub struct Axis {
 
 impl Axis {
     /// How many milliseconds it has.
-    pub fn span(self) -> u64 {
+    fn span(self) -> u64
+        ensures { result ≡ min (self.width * self.count) (2 ^ 64 - 1) }
+    {
         self.width.saturating_mul(self.count)
     }
 
     /// The moment at which the last column ends.
-    pub fn end(self) -> u64 {
+    pub(crate) fn end(self) -> u64
+        ensures { self.begin + self.width * self.count < 2 ^ 64 → result ≡ self.begin + self.width * self.count }
+    {
         self.begin.saturating_add(self.span())
     }
 
     /// Where the column begins.
-    pub fn left(self, number: usize) -> u64 {
+    pub(crate) fn left(self, number: usize) -> u64
+        ensures inside { number < self.count → self.count < 2 ^ 48 → result ≡ LEFT + (number * PLOT + self.count / 2) / self.count }
+        ensures last { 0 < self.count → self.count ≤ number → result ≡ LEFT + PLOT }
+        ensures within { (LEFT ≤ result) × (result ≤ LEFT + PLOT) }
+    {
         LEFT.saturating_add(share(number as u64, self.count, PLOT))
     }
 
     /// The middle of the column.
-    pub fn middle(self, number: usize) -> u64 {
+    pub(crate) fn middle(self, number: usize) -> u64
+        ensures inside { number < self.count → self.count < 2 ^ 47 → result ≡ LEFT + ((number * 2 + 1) * PLOT + self.count) / (self.count * 2) }
+        ensures within { (LEFT ≤ result) × (result ≤ LEFT + PLOT) }
+    {
         let halves = (number as u64).saturating_mul(2).saturating_add(1);
         LEFT.saturating_add(share(halves, self.count.saturating_mul(2), PLOT))
     }
 
     /// How wide a column is.
-    pub fn step(self) -> u64 {
+    pub(crate) fn step(self) -> u64
+        ensures exact { 1 < self.count → self.count < 2 ^ 48 → result ≡ (PLOT + self.count / 2) / self.count }
+        ensures within { result ≤ PLOT }
+    {
         share(1, self.count, PLOT)
     }
 
     /// How much of a column its means fill: a little less than all.
-    pub fn filled(self) -> u64 {
+    pub(crate) fn filled(self) -> u64 {
         self.step().saturating_sub((self.step() / 5).min(PIXEL))
     }
 
     /// How wide a bar is: as much, but no wider than a bar that is alone should be.
-    pub fn bar_width(self) -> u64 {
+    pub(crate) fn bar_width(self) -> u64
+        ensures { result ≤ WIDEST }
+    {
         self.filled().min(WIDEST)
     }
 
     /// The place so many milliseconds behind the begin of the column, at most its end.
-    pub fn within(self, number: usize, milliseconds: u64) -> u64 {
+    pub(crate) fn within(self, number: usize, milliseconds: u64) -> u64
+        ensures first { milliseconds ≡ 0 → number < self.count → self.count < 2 ^ 48 → result ≡ LEFT + (number * PLOT + self.count / 2) / self.count }
+        ensures within { (LEFT ≤ result) × (result ≤ LEFT + PLOT) }
+    {
         let left = self.left(number);
         let wide = self.left(number.saturating_add(1)).saturating_sub(left);
         left.saturating_add(share(milliseconds, self.width, wide))
     }
 
     /// Where the moment stands, the left or the right end where it lies before or behind all columns.
-    pub fn place(self, moment: u64) -> u64 {
+    pub(crate) fn place(self, moment: u64) -> u64
+        ensures before { moment ≤ self.begin → result ≡ LEFT }
+        ensures behind { 0 < self.width * self.count → self.begin + self.width * self.count ≤ moment → result ≡ LEFT + PLOT }
+        ensures within { (LEFT ≤ result) × (result ≤ LEFT + PLOT) }
+    {
         LEFT.saturating_add(share(moment.saturating_sub(self.begin), self.span(), PLOT))
     }
 
     /// The moment at which the column begins.
-    pub fn moment(self, number: usize) -> u64 {
+    pub(crate) fn moment(self, number: usize) -> u64
+        ensures { self.begin + number * self.width < 2 ^ 64 → result ≡ self.begin + number * self.width }
+    {
         self.begin
             .saturating_add((number as u64).saturating_mul(self.width))
     }
 
     /// How the moments are written.
-    pub fn clock(self) -> Clock {
+    pub(crate) fn clock(self) -> Clock {
         Clock::of(self.span(), self.width)
     }
 }
 
 /// The moments that are marked.
 #[derive(Drop)]
-pub struct Marks {
+pub(crate) struct Marks {
     pub moments: Vec<u64>,
 }
 
 impl Marks {
-    /// Moments that are round in the sense of columns, of which as many as have room: 13 at most. It fails only for want
+    /// Moments that are round in the sense of columns, of which as many as have room: 14 at most. It fails only for want
     /// of memory.
-    pub fn new(alloc: Global, axis: Axis) -> Result<Marks, AllocError> {
+    pub(crate) fn new(alloc: Global, axis: Axis) -> Result<Marks, AllocError>
+        ensures { IfOk result (λ marks. vec_len marks.moments ≤ MOST_MARKS) }
+    {
         let step = mark_step(axis, most_marks(alloc, axis)?);
         let mut moments = Vec::new(alloc);
         let mut moment = first_mark(axis.begin, step);
@@ -145,7 +174,10 @@ fn mark_step(axis: Axis, most: u64) -> u64 {
 }
 
 /// The first multiple of the step from the moment on.
-fn first_mark(begin: u64, step: u64) -> u64 {
+fn first_mark(begin: u64, step: u64) -> u64
+    ensures multiple { 0 < step → begin + step < 2 ^ 64 → (k : ℕ) × (result ≡ k * step) }
+    ensures first { 0 < step → begin + step < 2 ^ 64 → (begin ≤ result) × (result < begin + step) }
+{
     if step == 0 {
         return begin;
     }
@@ -159,7 +191,7 @@ fn first_mark(begin: u64, step: u64) -> u64 {
 }
 
 /// Writes the moments of the marks along that base line.
-pub fn draw_moments(
+pub(crate) fn draw_moments(
     alloc: Global,
     canvas: &mut Canvas,
     axis: Axis,
@@ -189,7 +221,7 @@ fn label_at(middle: u64, half: u64) -> (u64, &'static str) {
 }
 
 /// Draws a line at each mark from one height to the other.
-pub fn draw_grid(
+pub(crate) fn draw_grid(
     path: &mut Path,
     axis: Axis,
     marks: &Marks,

@@ -8,7 +8,7 @@ use bh_columns::column::Column;
 use std::alloc::{AllocError, Global};
 
 /// How high the band is.
-pub const BAND: u64 = 14 * PIXEL;
+pub(crate) const BAND: u64 = 14 * PIXEL;
 
 /// The line of a closed circuit breaker is so thick.
 const CLOSED: u64 = 4 * PIXEL;
@@ -67,7 +67,7 @@ impl State {
 }
 
 /// Draws the band of the columns below that height, and a triangle at the first trip of each.
-pub fn draw_band(
+pub(crate) fn draw_band(
     alloc: Global,
     canvas: &mut Canvas,
     axis: Axis,
@@ -241,7 +241,7 @@ fn draw_trips(
 }
 
 /// Draws a triangle that points down to the band.
-pub fn draw_trip(path: &mut Path, x: u64, top: u64) -> Result<(), AllocError> {
+pub(crate) fn draw_trip(path: &mut Path, x: u64, top: u64) -> Result<(), AllocError> {
     path.move_to(x.saturating_sub(4 * PIXEL), top.saturating_sub(9 * PIXEL))?;
     path.put("h8l-4 6z")
 }

@@ -1,7 +1,8 @@
 //! The bars of a lane: what callers got stands up, and why it was no value hangs down.
 
-ghost use Rattle.std.specs.Prelude.{◌≡◌};
+ghost use Rattle.std.specs.Prelude.{◌≡◌, ◌≤◌, All};
 ghost use Rattle.bh_draw.specs.Bars.{bar_count};
+ghost use Rattle.bh_draw.specs.Lengths.{bars_count, bars_height};
 
 use crate::axis::Axis;
 use crate::canvas::{Canvas, PIXEL, Path};
@@ -12,7 +13,7 @@ use std::alloc::{AllocError, Global};
 
 /// A kind of bar, as a part of the stack of a column.
 #[derive(Clone, Copy)]
-pub enum Bar {
+pub(crate) enum Bar {
     Value,
     FallbackValue,
     Error,
@@ -25,10 +26,10 @@ pub enum Bar {
 }
 
 /// What callers got, from the line of the lane upwards.
-pub const ANSWERS: [Bar; 4] = [Bar::Value, Bar::FallbackValue, Bar::Error, Bar::BadRequest];
+pub(crate) const ANSWERS: [Bar; 4] = [Bar::Value, Bar::FallbackValue, Bar::Error, Bar::BadRequest];
 
 /// Why it was no value, from the line downwards, and at last the ends that nobody waited for any more.
-pub const REASONS: [Bar; 5] = [
+pub(crate) const REASONS: [Bar; 5] = [
     Bar::ShortCircuited,
     Bar::Rejected,
     Bar::Timeout,
@@ -41,7 +42,7 @@ const LEAST_HEIGHT: u64 = 2 * PIXEL;
 
 impl Bar {
     /// The class by which the style sheet knows it.
-    pub fn class(self) -> &'static str {
+    pub(crate) fn class(self) -> &'static str {
         match self {
             Bar::Value => "value",
             Bar::FallbackValue => "fallback",
@@ -56,7 +57,7 @@ impl Bar {
     }
 
     /// What it is called.
-    pub fn words(self) -> &'static str {
+    pub(crate) fn words(self) -> &'static str {
         match self {
             Bar::Value => "value",
             Bar::FallbackValue => "fallback's value",
@@ -71,7 +72,7 @@ impl Bar {
     }
 
     /// How many of it the tally has.
-    pub fn count(self, tally: &Tally) -> u64
+    pub(crate) fn count(self, tally: &Tally) -> u64
         ensures { result ≡ bar_count self tally.now }
     {
         match self {
@@ -89,7 +90,9 @@ impl Bar {
 }
 
 /// How many there are of all these bars in the column that has most of them.
-pub fn most_of(bars: &[Bar], columns: &[Column]) -> u64 {
+pub(crate) fn most_of(bars: &[Bar], columns: &[Column]) -> u64
+    ensures { All (λ column. bars_count bars.now column.tally ≤ result) columns.now }
+{
     let mut most = 0;
     for column in columns {
         most = most.max(count_of(bars, &column.tally));
@@ -98,7 +101,9 @@ pub fn most_of(bars: &[Bar], columns: &[Column]) -> u64 {
 }
 
 /// How many there are of all these bars.
-fn count_of(bars: &[Bar], tally: &Tally) -> u64 {
+fn count_of(bars: &[Bar], tally: &Tally) -> u64
+    ensures { result ≡ bars_count bars.now tally.now }
+{
     let mut count = 0u64;
     for bar in bars {
         count = count.saturating_add(bar.count(tally));
@@ -107,7 +112,9 @@ fn count_of(bars: &[Bar], tally: &Tally) -> u64 {
 }
 
 /// How high the highest stack of these bars is.
-pub fn highest(bars: &[Bar], columns: &[Column], scale: Scale) -> u64 {
+pub(crate) fn highest(bars: &[Bar], columns: &[Column], scale: Scale) -> u64
+    ensures { All (λ column. bars_height bars.now column.tally scale LEAST_HEIGHT ≤ result) columns.now }
+{
     let mut highest = 0;
     for column in columns {
         highest = highest.max(height_of(bars, &column.tally, scale));
@@ -116,7 +123,9 @@ pub fn highest(bars: &[Bar], columns: &[Column], scale: Scale) -> u64 {
 }
 
 /// How high the stack of these bars is.
-fn height_of(bars: &[Bar], tally: &Tally, scale: Scale) -> u64 {
+fn height_of(bars: &[Bar], tally: &Tally, scale: Scale) -> u64
+    ensures { result ≡ bars_height bars.now tally.now scale LEAST_HEIGHT }
+{
     let mut height = 0u64;
     for bar in bars {
         height = height.saturating_add(scale.height_of(bar.count(tally), LEAST_HEIGHT));
@@ -126,7 +135,7 @@ fn height_of(bars: &[Bar], tally: &Tally, scale: Scale) -> u64 {
 
 /// Draws these bars of all columns, upwards or downwards from that line. All bars of a kind are one path, which takes a
 /// dozen bytes for each.
-pub fn draw_bars(
+pub(crate) fn draw_bars(
     alloc: Global,
     canvas: &mut Canvas,
     axis: Axis,
@@ -154,7 +163,7 @@ pub fn draw_bars(
 
 /// Bars upon one another, from a line on.
 #[derive(Clone, Copy)]
-pub struct Stack<'a> {
+pub(crate) struct Stack<'a> {
     pub bars: &'a [Bar],
     pub scale: Scale,
     /// The height of the line.

@@ -7,7 +7,7 @@ use std::alloc::{AllocError, Global};
 use std::marker::Model;
 
 /// A pixel of the view box in tenths, the unit of all lengths and places here.
-pub const PIXEL: u64 = 10;
+pub(crate) const PIXEL: u64 = 10;
 
 /// A text that grows at its end. Each call fails only for want of memory.
 #[derive(Drop)]
@@ -41,21 +41,21 @@ impl Canvas {
     }
 
     /// How many bytes it has.
-    pub fn len(&self) -> usize
+    pub(crate) fn len(&self) -> usize
         ensures { result ≡ length self.now }
     {
         self.text.len()
     }
 
     /// Whether it has none.
-    pub fn is_empty(&self) -> bool
+    pub(crate) fn is_empty(&self) -> bool
         ensures { result ≡ (length self.now == 0) }
     {
         self.text.is_empty()
     }
 
     /// Adds a text as it stands.
-    pub fn put(&mut self, text: &str) -> Result<(), AllocError>
+    pub(crate) fn put(&mut self, text: &str) -> Result<(), AllocError>
         ensures { OnOk result (self.new ≡ self.old ++ text.now) }
     {
         self.text.push_str(text)
@@ -77,7 +77,7 @@ impl Canvas {
     }
 
     /// Adds a number.
-    pub fn put_number(&mut self, number: u64) -> Result<(), AllocError>
+    pub(crate) fn put_number(&mut self, number: u64) -> Result<(), AllocError>
         ensures { OnOk result (self.new ≡ self.old ++ decimal number) }
     {
         self.put(Buffer::new().format(number))
@@ -102,7 +102,7 @@ impl Canvas {
     }
 
     /// Adds a length or a place, given in tenths of a pixel, in pixels.
-    pub fn put_tenths(&mut self, tenths: u64) -> Result<(), AllocError> {
+    pub(crate) fn put_tenths(&mut self, tenths: u64) -> Result<(), AllocError> {
         self.put_number(tenths / PIXEL)?;
         if tenths % PIXEL == 0 {
             return Ok(());
@@ -112,7 +112,7 @@ impl Canvas {
     }
 
     /// Adds a number and the word for what is counted, with an `s` behind it unless it is one.
-    pub fn put_counted(&mut self, number: u64, word: &str) -> Result<(), AllocError> {
+    pub(crate) fn put_counted(&mut self, number: u64, word: &str) -> Result<(), AllocError> {
         self.put_grouped(number)?;
         self.put(" ")?;
         self.put(word)?;
@@ -123,7 +123,7 @@ impl Canvas {
     }
 
     /// Begins a text of the class at the place, the left end of its base line unless the class says else.
-    pub fn open_text(&mut self, x: u64, y: u64, class: &str) -> Result<(), AllocError> {
+    pub(crate) fn open_text(&mut self, x: u64, y: u64, class: &str) -> Result<(), AllocError> {
         self.put("<text x=\"")?;
         self.put_tenths(x)?;
         self.put("\" y=\"")?;
@@ -136,19 +136,30 @@ impl Canvas {
     }
 
     /// Ends a text.
-    pub fn close_text(&mut self) -> Result<(), AllocError> {
+    pub(crate) fn close_text(&mut self) -> Result<(), AllocError> {
         self.put("</text>\n")
     }
 
     /// Adds a whole text of the class at the place.
-    pub fn put_text(&mut self, x: u64, y: u64, class: &str, words: &str) -> Result<(), AllocError> {
+    pub(crate) fn put_text(
+        &mut self,
+        x: u64,
+        y: u64,
+        class: &str,
+        words: &str,
+    ) -> Result<(), AllocError> {
         self.open_text(x, y, class)?;
         self.put_escaped(words)?;
         self.close_text()
     }
 
     /// Adds a path of the class, its strokes of that width in tenths of a pixel, unless it has no points.
-    pub fn put_path(&mut self, class: &str, width: u64, path: &Path) -> Result<(), AllocError> {
+    pub(crate) fn put_path(
+        &mut self,
+        class: &str,
+        width: u64,
+        path: &Path,
+    ) -> Result<(), AllocError> {
         if path.is_empty() {
             return Ok(());
         }
@@ -164,65 +175,60 @@ impl Canvas {
 
 /// The points of a path, as its attribute `d` has them. Places and lengths are in tenths of a pixel.
 #[derive(Drop)]
-pub struct Path {
+pub(crate) struct Path {
     points: Canvas,
 }
 
 impl Path {
     /// No points.
-    pub fn new(alloc: Global) -> Path {
+    pub(crate) fn new(alloc: Global) -> Path {
         Path {
             points: Canvas::new(alloc),
         }
     }
 
     /// Whether it has no points.
-    pub fn is_empty(&self) -> bool {
+    fn is_empty(&self) -> bool {
         self.points.is_empty()
     }
 
     /// The points so far.
-    pub fn as_str(&self) -> &str {
+    pub(crate) fn as_str(&self) -> &str {
         self.points.as_str()
     }
 
     /// Goes to a place, and draws nothing on the way.
-    pub fn move_to(&mut self, x: u64, y: u64) -> Result<(), AllocError> {
+    pub(crate) fn move_to(&mut self, x: u64, y: u64) -> Result<(), AllocError> {
         self.put_pair("M", x, y)
     }
 
-    /// Draws a line to a place.
-    pub fn line_to(&mut self, x: u64, y: u64) -> Result<(), AllocError> {
-        self.put_pair("L", x, y)
-    }
-
     /// Draws a line so far to the right.
-    pub fn right(&mut self, length: u64) -> Result<(), AllocError> {
+    pub(crate) fn right(&mut self, length: u64) -> Result<(), AllocError> {
         self.put_one("h", length)
     }
 
     /// Draws a line so far to the left.
-    pub fn left(&mut self, length: u64) -> Result<(), AllocError> {
+    pub(crate) fn left(&mut self, length: u64) -> Result<(), AllocError> {
         self.put_one("h-", length)
     }
 
     /// Draws a line so far down.
-    pub fn down(&mut self, length: u64) -> Result<(), AllocError> {
+    pub(crate) fn down(&mut self, length: u64) -> Result<(), AllocError> {
         self.put_one("v", length)
     }
 
     /// Draws a line so far up.
-    pub fn up(&mut self, length: u64) -> Result<(), AllocError> {
+    pub(crate) fn up(&mut self, length: u64) -> Result<(), AllocError> {
         self.put_one("v-", length)
     }
 
     /// Draws a line down to that height.
-    pub fn down_to(&mut self, y: u64) -> Result<(), AllocError> {
+    pub(crate) fn down_to(&mut self, y: u64) -> Result<(), AllocError> {
         self.put_one("V", y)
     }
 
     /// Adds points as they stand, and the end of an outline.
-    pub fn put(&mut self, points: &str) -> Result<(), AllocError> {
+    pub(crate) fn put(&mut self, points: &str) -> Result<(), AllocError> {
         self.points.put(points)
     }
 

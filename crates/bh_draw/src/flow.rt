@@ -1,22 +1,26 @@
 //! Words from left to right, in lines that end where the picture does.
 
+ghost use Rattle.std.specs.Prelude.{◌≡◌, ◌-◌, ◌*◌, ◌^◌, length, min};
+
 use crate::canvas::{Canvas, PIXEL};
 use std::alloc::{AllocError, Global};
 
 /// A line of words is so wide at most.
-pub const LINE_WIDTH: u64 = 964 * PIXEL;
+pub(crate) const LINE_WIDTH: u64 = 964 * PIXEL;
 
 /// Lines lie so far apart.
-pub const LINE_HEIGHT: u64 = 22 * PIXEL;
+const LINE_HEIGHT: u64 = 22 * PIXEL;
 
 /// How wide words are, at so many tenths of a pixel a letter. They have one byte a letter.
-pub fn width_of(words: &str, letter: u64) -> u64 {
+pub(crate) fn width_of(words: &str, letter: u64) -> u64
+    ensures { result ≡ min (length words.now * letter) (2 ^ 64 - 1) }
+{
     (words.len() as u64).saturating_mul(letter)
 }
 
 /// Words that grow, line below line.
 #[derive(Drop)]
-pub struct Flow {
+pub(crate) struct Flow {
     line: Canvas,
     class: &'static str,
     letter: u64,
@@ -27,7 +31,7 @@ pub struct Flow {
 
 impl Flow {
     /// No words, in a class whose letters are so wide, below that base line.
-    pub fn new(alloc: Global, class: &'static str, letter: u64, y: u64) -> Flow {
+    pub(crate) fn new(alloc: Global, class: &'static str, letter: u64, y: u64) -> Flow {
         Flow {
             line: Canvas::new(alloc),
             class,
@@ -38,7 +42,7 @@ impl Flow {
     }
 
     /// Adds words that stay together, a space behind those that are there where the line has room, and else on a line below.
-    pub fn add(
+    pub(crate) fn add(
         &mut self,
         alloc: Global,
         canvas: &mut Canvas,
@@ -60,7 +64,7 @@ impl Flow {
     }
 
     /// Writes the line at hand, if it has words. What comes behind it is no part of it.
-    pub fn end(&mut self, alloc: Global, canvas: &mut Canvas) -> Result<(), AllocError> {
+    pub(crate) fn end(&mut self, alloc: Global, canvas: &mut Canvas) -> Result<(), AllocError> {
         if self.line.is_empty() {
             return Ok(());
         }

@@ -39,7 +39,7 @@ pub struct Course {
 
 /// What a head tells of.
 #[derive(Clone, Copy)]
-pub struct HeadOf<'a> {
+pub(crate) struct HeadOf<'a> {
     pub chart: &'a Chart,
     pub ranking: &'a [Ranked],
     /// The columns, where there are any.
@@ -48,7 +48,11 @@ pub struct HeadOf<'a> {
 }
 
 /// Draws the head, and tells its last base line.
-pub fn draw_head(alloc: Global, canvas: &mut Canvas, of: HeadOf<'_>) -> Result<u64, AllocError> {
+pub(crate) fn draw_head(
+    alloc: Global,
+    canvas: &mut Canvas,
+    of: HeadOf<'_>,
+) -> Result<u64, AllocError> {
     let mut y = draw_title(alloc, canvas, of)?;
     y = draw_fault(alloc, canvas, of, y)?;
     y = draw_tripped(alloc, canvas, of, y)?;
@@ -57,7 +61,7 @@ pub fn draw_head(alloc: Global, canvas: &mut Canvas, of: HeadOf<'_>) -> Result<u
 }
 
 /// Adds what the picture is of.
-pub fn put_title(canvas: &mut Canvas, of: HeadOf<'_>) -> Result<(), AllocError> {
+pub(crate) fn put_title(canvas: &mut Canvas, of: HeadOf<'_>) -> Result<(), AllocError> {
     put_groups(canvas, of.chart.panels.as_slice())?;
     let Some(axis) = of.axis else {
         return Ok(());

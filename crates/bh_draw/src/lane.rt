@@ -21,7 +21,7 @@ const ROOM: u64 = 960 * PIXEL;
 
 /// A lane that is drawn: its command, where it stands, and how its columns lie.
 #[derive(Clone, Copy)]
-pub struct LaneAt<'a> {
+pub(crate) struct LaneAt<'a> {
     pub axis: Axis,
     pub panel: &'a Panel,
     pub lane: &'a Lane,
@@ -31,13 +31,17 @@ pub struct LaneAt<'a> {
 
 /// From which height to which the grid goes, and where the lane ends.
 #[derive(Clone, Copy)]
-pub struct Extent {
+pub(crate) struct Extent {
     pub grid_top: u64,
     pub bottom: u64,
 }
 
 /// Draws a lane, and tells how far it goes.
-pub fn draw_lane(alloc: Global, canvas: &mut Canvas, at: LaneAt<'_>) -> Result<Extent, AllocError> {
+pub(crate) fn draw_lane(
+    alloc: Global,
+    canvas: &mut Canvas,
+    at: LaneAt<'_>,
+) -> Result<Extent, AllocError> {
     let mut name = Canvas::new(alloc);
     put_name(&mut name, at.panel, at.lane)?;
     let line = draw_lane_words(alloc, canvas, at, name.as_str())?;

@@ -113,7 +113,7 @@ const LIVES: [Sign; 2] = [
 ];
 
 /// Draws the legend below that height, with the marks of lives where the picture has any, and tells its last base line.
-pub fn draw_legend(
+pub(crate) fn draw_legend(
     alloc: Global,
     canvas: &mut Canvas,
     top: u64,

@@ -1,21 +1,21 @@
 //! The picture of a run, as the text of an SVG.
 #![tactic(auto)]
 
-pub mod axis;
-pub mod band;
-pub mod bar;
+mod axis;
+mod band;
+mod bar;
 pub mod canvas;
-pub mod flow;
+mod flow;
 pub mod head;
-pub mod lane;
-pub mod legend;
-pub mod lives;
-pub mod looks;
-pub mod order;
-pub mod panel;
+mod lane;
+mod legend;
+mod lives;
+mod looks;
+mod order;
+mod panel;
 pub mod picture;
-pub mod scale;
-pub mod strip;
+mod scale;
+mod strip;
 pub mod time;
-pub mod titles;
-pub mod words;
+mod titles;
+mod words;

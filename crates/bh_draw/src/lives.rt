@@ -11,7 +11,7 @@ const FOOT: u64 = 5 * PIXEL;
 
 /// Draws a mark where each life begins and ends, from one height to the other. Of those that would lie in one column, the
 /// first alone is drawn.
-pub fn draw_lives(
+pub(crate) fn draw_lives(
     alloc: Global,
     canvas: &mut Canvas,
     at: PanelAt<'_>,
@@ -38,7 +38,7 @@ pub fn draw_lives(
 }
 
 /// Whether the lives of a panel are marked: not the one of a group of the settings that was never retired.
-pub fn is_marked(panel: &Panel, is_listed: bool) -> bool {
+pub(crate) fn is_marked(panel: &Panel, is_listed: bool) -> bool {
     match panel.lives.as_slice() {
         [] => false,
         [only] => only.retired || !is_listed,

@@ -143,7 +143,7 @@ const SHAPES: &str =
 .hit path:hover{stroke-opacity:.3}";
 
 /// Adds the style sheet, and the patterns. Nothing in it is a variable, which some readers of SVG do not know.
-pub fn put_looks(canvas: &mut Canvas) -> Result<(), AllocError> {
+pub(crate) fn put_looks(canvas: &mut Canvas) -> Result<(), AllocError> {
     canvas.put("<style>")?;
     canvas.put(SHAPES)?;
     put_ground(canvas, &LIGHT)?;

@@ -1,28 +1,30 @@
 //! Which commands are drawn, and in which order they are told of.
 
-ghost use Rattle.std.specs.Prelude.{◌≡◌};
+ghost use Rattle.std.specs.Prelude.{◌≡◌, ◌==◌, ◌&&◌, take, IfOk};
+ghost use Rattle.std.specs.List.{list_any};
+ghost use Rattle.std.specs.List.Sorted.{IsNonDecreasingBy};
 ghost use Rattle.bh_draw.specs.Bars.{without_value};
 
 use bh_columns::chart::{Chart, Lane, Panel};
 use std::alloc::{AllocError, Global};
 
 /// So many commands are drawn at most.
-pub const MOST_DRAWN: usize = 20;
+pub(crate) const MOST_DRAWN: usize = 20;
 
 /// A command by its place, in the order of what was no value: the greatest number first, and of equal ones that of the
 /// fewest requests.
 #[derive(Clone, Copy, PartialEq, Eq, PartialOrd, Ord)]
-pub struct Ranked {
+pub(crate) struct Ranked {
     /// 2^64 - 1 less the requests without a value.
-    rank: u64,
-    requests: u64,
+    pub rank: u64,
+    pub requests: u64,
     /// The place of its panel, and its place there.
     pub panel: usize,
     pub lane: usize,
 }
 
 /// How many requests of the command were answered by no value.
-pub fn without_value(lane: &Lane) -> u64
+pub(crate) fn without_value(lane: &Lane) -> u64
     ensures { result ≡ without_value lane.now.total.tally }
 {
     let tally = &lane.total.tally;
@@ -30,7 +32,9 @@ pub fn without_value(lane: &Lane) -> u64
 }
 
 /// All commands of groups that made a step, those with most that was no value first. It fails only for want of memory.
-pub fn ranking(alloc: Global, chart: &Chart) -> Result<Vec<Ranked>, AllocError> {
+pub(crate) fn ranking(alloc: Global, chart: &Chart) -> Result<Vec<Ranked>, AllocError>
+    ensures { IfOk result (λ ranking. IsNonDecreasingBy (λ ranked. ranked.rank) ranking.items) }
+{
     let mut ranking = Vec::new(alloc);
     for (panel, found) in chart.panels.iter().enumerate() {
         if !found.lives.is_empty() {
@@ -56,41 +60,39 @@ fn rank_panel(ranking: &mut Vec<Ranked>, panel: usize, found: &Panel) -> Result<
 
 /// The commands that are drawn.
 #[derive(Clone, Copy)]
-pub struct Drawn<'a> {
-    ranking: &'a [Ranked],
+pub(crate) struct Drawn<'a> {
+    pub ranking: &'a [Ranked],
 }
 
 impl<'a> Drawn<'a> {
     /// The first of the ranking.
-    pub fn of(ranking: &'a [Ranked]) -> Drawn<'a> {
+    pub(crate) fn of(ranking: &'a [Ranked]) -> Drawn<'a>
+        ensures { result.ranking.now ≡ take MOST_DRAWN ranking.now }
+    {
         Drawn {
             ranking: ranking.get(..MOST_DRAWN).unwrap_or(ranking),
         }
     }
 
     /// Whether the command at the place in the panel at the place is one of them.
-    pub fn has(self, panel: usize, lane: usize) -> bool {
-        for ranked in self.ranking {
-            if ranked.panel == panel && ranked.lane == lane {
-                return true;
-            }
-        }
-        false
+    pub(crate) fn has(self, panel: usize, lane: usize) -> bool
+        ensures { result ≡ list_any (λ ranked. ranked.panel == panel && ranked.lane == lane) self.entry.ranking.now }
+    {
+        self.ranking
+            .iter()
+            .any(|ranked| ranked.panel == panel && ranked.lane == lane)
     }
 
     /// Whether a command of the panel at the place is.
-    pub fn has_panel(self, panel: usize) -> bool {
-        for ranked in self.ranking {
-            if ranked.panel == panel {
-                return true;
-            }
-        }
-        false
+    pub(crate) fn has_panel(self, panel: usize) -> bool
+        ensures { result ≡ list_any (λ ranked. ranked.panel == panel) self.entry.ranking.now }
+    {
+        self.ranking.iter().any(|ranked| ranked.panel == panel)
     }
 }
 
 /// The command of the ranking.
-pub fn lane_of(chart: &Chart, ranked: Ranked) -> Option<(&Panel, &Lane)> {
+pub(crate) fn lane_of(chart: &Chart, ranked: Ranked) -> Option<(&Panel, &Lane)> {
     let panel = chart.panels.get(ranked.panel)?;
     let lane = panel.lanes.get(ranked.lane)?;
     Some((panel, lane))

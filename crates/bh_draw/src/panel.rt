@@ -20,7 +20,7 @@ const MOST_NAMES: usize = 3;
 
 /// A panel that is drawn: its place among all, its settings, and where it begins.
 #[derive(Clone, Copy)]
-pub struct PanelAt<'a> {
+pub(crate) struct PanelAt<'a> {
     pub axis: Axis,
     pub marks: &'a Marks,
     pub drawn: Drawn<'a>,
@@ -33,7 +33,11 @@ pub struct PanelAt<'a> {
 }
 
 /// Draws a panel of which a command is drawn, and tells where the next one begins.
-pub fn draw_panel(alloc: Global, canvas: &mut Canvas, at: PanelAt<'_>) -> Result<u64, AllocError> {
+pub(crate) fn draw_panel(
+    alloc: Global,
+    canvas: &mut Canvas,
+    at: PanelAt<'_>,
+) -> Result<u64, AllocError> {
     let mut inner = Inner {
         canvas: Canvas::new(alloc),
         grid: Path::new(alloc),

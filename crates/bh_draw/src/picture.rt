@@ -19,7 +19,7 @@ use bh_props::Settings;
 use std::alloc::{AllocError, Global};
 
 /// A picture has at most so many bytes, as long as two columns suffice for that.
-pub const MOST_BYTES: usize = 300_000;
+const MOST_BYTES: usize = 300_000;
 
 /// The fewest columns, and so often the most that may be asked for are halved until there are so few.
 const FEWEST: u64 = 2;

@@ -18,7 +18,7 @@ const FAR: u64 = 10;
 
 /// What a strip shows.
 #[derive(Clone, Copy)]
-pub struct StripAt<'a> {
+pub(crate) struct StripAt<'a> {
     pub axis: Axis,
     pub usages: &'a [Usage],
     /// Whose it is, and with that how many may run and wait.
@@ -30,7 +30,7 @@ pub struct StripAt<'a> {
 }
 
 /// Draws a strip, and tells how far it goes.
-pub fn draw_strip(
+pub(crate) fn draw_strip(
     alloc: Global,
     canvas: &mut Canvas,
     at: StripAt<'_>,

@@ -1,5 +1,7 @@
 //! Moments and spans of time in words.
 
+ghost use Rattle.std.specs.Prelude.{◌≡◌, ◌+◌, ◌-◌, ◌*◌, ◌/◌, ◌%◌, ◌^◌, ◌<◌, ◌≤◌, ◌≢◌, min};
+
 use crate::canvas::Canvas;
 use std::alloc::AllocError;
 
@@ -15,7 +17,12 @@ pub enum Clock {
 impl Clock {
     /// That of a picture over so many milliseconds, in columns of so many: seconds tell the columns apart, and have a
     /// decimal at least where they want one.
-    pub fn of(span: u64, width: u64) -> Clock {
+    pub(crate) fn of(span: u64, width: u64) -> Clock
+        ensures short { span < 1000 → result ≡ Clock.Milliseconds }
+        ensures tenths { 1000 ≤ span → width % 100 ≡ 0 → result ≡ Clock.Seconds 100 }
+        ensures hundredths { 1000 ≤ span → width % 100 ≢ 0 → width % 10 ≡ 0 → result ≡ Clock.Seconds 10 }
+        ensures thousandths { 1000 ≤ span → width % 10 ≢ 0 → result ≡ Clock.Seconds 1 }
+    {
         if span < 1000 {
             Clock::Milliseconds
         } else if width % 100 == 0 {
@@ -37,7 +44,9 @@ impl Clock {
 }
 
 /// The moment, rounded to a whole number of steps.
-fn rounded(moment: u64, step: u64) -> u64 {
+fn rounded(moment: u64, step: u64) -> u64
+    ensures { 0 < step → result ≡ min (min (moment + step / 2) (2 ^ 64 - 1) / step * step) (2 ^ 64 - 1) }
+{
     if step == 0 {
         return moment;
     }
@@ -46,7 +55,7 @@ fn rounded(moment: u64, step: u64) -> u64 {
 }
 
 /// Adds a span of time: in milliseconds below a second, and else in seconds.
-pub fn put_span(canvas: &mut Canvas, milliseconds: u64) -> Result<(), AllocError> {
+pub(crate) fn put_span(canvas: &mut Canvas, milliseconds: u64) -> Result<(), AllocError> {
     if milliseconds < 1000 {
         put_milliseconds(canvas, milliseconds)
     } else {
@@ -68,7 +77,7 @@ fn put_seconds(canvas: &mut Canvas, milliseconds: u64) -> Result<(), AllocError>
 }
 
 /// Adds thousandths behind a point, without zeros at their end; nothing where there are none.
-pub fn put_thousandths(canvas: &mut Canvas, thousandths: u64) -> Result<(), AllocError> {
+pub(crate) fn put_thousandths(canvas: &mut Canvas, thousandths: u64) -> Result<(), AllocError> {
     if thousandths == 0 {
         return Ok(());
     }

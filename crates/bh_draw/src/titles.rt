@@ -5,14 +5,14 @@ use crate::canvas::{Canvas, Path};
 use std::alloc::{AllocError, Global};
 
 /// Begins a row of titles, each over one column.
-pub fn open_titles(canvas: &mut Canvas, axis: Axis) -> Result<(), AllocError> {
+pub(crate) fn open_titles(canvas: &mut Canvas, axis: Axis) -> Result<(), AllocError> {
     canvas.put("<g class=\"hit\" stroke-width=\"")?;
     canvas.put_tenths(axis.step())?;
     canvas.put("\">\n")
 }
 
 /// Begins the element of a title: a stroke that is not seen, from one height to the other.
-pub fn open_title(
+pub(crate) fn open_title(
     alloc: Global,
     canvas: &mut Canvas,
     middle: u64,

@@ -11,7 +11,7 @@ use bh_look::tally::Tally;
 use std::alloc::AllocError;
 
 /// Adds the name of a command: that of its group, and behind a stroke that of a further command.
-pub fn put_name(canvas: &mut Canvas, panel: &Panel, lane: &Lane) -> Result<(), AllocError> {
+pub(crate) fn put_name(canvas: &mut Canvas, panel: &Panel, lane: &Lane) -> Result<(), AllocError> {
     canvas.put(panel.group.as_str())?;
     if lane.command == panel.group {
         return Ok(());
@@ -21,7 +21,7 @@ pub fn put_name(canvas: &mut Canvas, panel: &Panel, lane: &Lane) -> Result<(), A
 }
 
 /// Adds what callers got.
-pub fn put_got(canvas: &mut Canvas, tally: &Tally) -> Result<(), AllocError> {
+pub(crate) fn put_got(canvas: &mut Canvas, tally: &Tally) -> Result<(), AllocError> {
     canvas.put_counted(tally.values, "value")?;
     canvas.put(", ")?;
     canvas.put_counted(tally.fallback_values, "fallback")?;
@@ -35,7 +35,7 @@ pub fn put_got(canvas: &mut Canvas, tally: &Tally) -> Result<(), AllocError> {
 }
 
 /// Adds the totals of a command.
-pub fn put_totals(canvas: &mut Canvas, tally: &Tally) -> Result<(), AllocError> {
+pub(crate) fn put_totals(canvas: &mut Canvas, tally: &Tally) -> Result<(), AllocError> {
     canvas.put_grouped(tally.requests())?;
     canvas.put(" asked")?;
     put_asides(canvas, tally)?;
@@ -71,7 +71,7 @@ fn asides(tally: &Tally) -> [(u64, &'static str); 3] {
 }
 
 /// Adds when a command times out, and when its circuit breaker opens and for how long.
-pub fn put_settings(canvas: &mut Canvas, props: &CommandProps) -> Result<(), AllocError> {
+pub(crate) fn put_settings(canvas: &mut Canvas, props: &CommandProps) -> Result<(), AllocError> {
     if props.timeout_on {
         canvas.put("timeout ")?;
         put_span(canvas, props.timeout_ms)?;
@@ -102,7 +102,7 @@ fn put_circuit(canvas: &mut Canvas, props: &CommandProps) -> Result<(), AllocErr
 }
 
 /// Adds the title of a column: whose it is, when it begins, and all counts that are not 0.
-pub fn put_title(
+pub(crate) fn put_title(
     canvas: &mut Canvas,
     name: &str,
     axis: Axis,
@@ -159,7 +159,7 @@ fn put_milliseconds(canvas: &mut Canvas, word: &str, number: u64) -> Result<(), 
 }
 
 /// Adds a number in at most four letters: in thousands, millions and so on where it is long.
-pub fn put_short(canvas: &mut Canvas, number: u64) -> Result<(), AllocError> {
+pub(crate) fn put_short(canvas: &mut Canvas, number: u64) -> Result<(), AllocError> {
     let mut rest = number;
     for unit in ["", "k", "M", "G", "T", "P"] {
         if rest < 1000 {
@@ -173,7 +173,7 @@ pub fn put_short(canvas: &mut Canvas, number: u64) -> Result<(), AllocError> {
 }
 
 /// Whether there is nothing to tell of a column.
-pub fn is_silent(tally: &Tally) -> bool {
+pub(crate) fn is_silent(tally: &Tally) -> bool {
     let told = tally
         .requests()
         .saturating_add(tally.trips)
