@@ -1,3 +1,4 @@
 pub mod RunStatus
 pub mod Files
 pub mod CutStatus
+pub mod Whole

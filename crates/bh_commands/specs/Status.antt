@@ -1,7 +1,8 @@
 -- What the exit status of the program says.
-use Rattle.std.specs.Prelude.{◌≡◌, ◌≢◌, ℕ, false, List, Option}
+use Rattle.std.specs.Prelude.{◌≡◌, ◌≢◌, ℕ, false, List, Option, IfSome, codes}
 use Rattle.std.specs.Io.KnownBytes.{Appends}
 use Rattle.bh_cut.specs.Kept.{kept}
+use Rattle.bh_draw.specs.Texts.{EndsIn}
 use Rattle.bh_lines.specs.Lines.{Cut, cut, stops}
 use Rattle.bh_streams.specs.Watched.{WritesFront}
 use Rattle.bh_port.specs.Course.{new_course}
@@ -34,3 +35,15 @@ pub record CutStatus (names : List (List ℕ)) (input : List ℕ) (w0 w1 : Optio
   pub whole : status ≡ 0 → Appends w0 w1 (kept names input) × (stops (cut input) ≡ false)
   pub front : status ≡ 3 → WritesFront w0 w1 (kept names input)
   pub not_refused : status ≢ 1
+
+-- no line of the input, where it is known, is too long or not UTF-8
+abbrev pub IsWhole : Option (List ℕ) → Type 0
+IsWhole input = IfSome input (λ bytes. stops (cut bytes) ≡ false)
+
+-- a whole picture was written, and nothing else
+abbrev pub WritesPicture : Option (List ℕ) → Option (List ℕ) → Type 0
+WritesPicture w0 w1 = (picture : List ℕ) × EndsIn (codes "</svg>\n") picture × Appends w0 w1 picture
+
+-- a text was written behind what was there
+abbrev pub WritesText : Option (List ℕ) → Option (List ℕ) → Type 0
+WritesText w0 w1 = (text : List ℕ) × Appends w0 w1 text

@@ -1,7 +1,8 @@
 //! The picture of a script.
 
-ghost use Rattle.std.specs.Prelude.{◌≡◌, ◌⊎◌, IsErr};
+ghost use Rattle.std.specs.Prelude.{◌≡◌, ◌⊎◌, IsErr, OnOk};
 ghost use Rattle.bh_props.specs.SettingsFile.{settings_in};
+ghost use Rattle.bh_commands.specs.Status.{IsWhole, WritesPicture};
 
 use crate::report;
 use bh_base::{Moment, Text};
@@ -48,6 +49,8 @@ pub fn draw_file<R: Read, W: Write, E: Write>(
     ensures refused_only { result ≡ 1 → IsErr (settings_in settings.now) }
     ensures refused { IsErr (settings_in settings.now) → ((result ≡ 1) ⊎ (result ≡ 3)) × (reader.new ≡ reader.old) × (writer.new ≡ writer.old) }
     ensures quiet { result ≡ 0 → errors.new ≡ errors.old }
+    ensures drawn { result ≡ 0 → WritesPicture (W.contents writer.old) (W.contents writer.new) }
+    ensures whole { result ≡ 0 → IsWhole (R.remaining reader.old) }
 {
     match settings_in(alloc, settings) {
         Ok(settings) => draw_script(alloc, &settings, drawing, reader, writer, errors),
@@ -66,6 +69,8 @@ fn draw_script<R: Read, W: Write, E: Write>(
 ) -> u8
     ensures status { (result ≡ 0) ⊎ (result ≡ 3) }
     ensures quiet { result ≡ 0 → errors.new ≡ errors.old }
+    ensures drawn { result ≡ 0 → WritesPicture (W.contents writer.old) (W.contents writer.new) }
+    ensures whole { result ≡ 0 → IsWhole (R.remaining reader.old) }
 {
     match write_picture(alloc, settings, drawing, reader, writer) {
         Ok(()) => 0,
@@ -108,7 +113,10 @@ fn write_picture<R: Read, W: Write>(
     drawing: Drawing<'_>,
     reader: &mut R,
     writer: &mut W,
-) -> Result<(), DrawError> {
+) -> Result<(), DrawError>
+    ensures drawn { OnOk result (WritesPicture (W.contents writer.old) (W.contents writer.new)) }
+    ensures whole { OnOk result (IsWhole (R.remaining reader.old)) }
+{
     let selection = selection_of(alloc, drawing)?;
     let mut recording = Recording::new(alloc, settings, selection)?;
     let mut reader = WatchedReader::new(reader);

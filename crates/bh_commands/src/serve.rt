@@ -37,7 +37,8 @@ pub enum Service<W> {
     Shared { sharing: Sharing, record: Option<W> },
 }
 
-/// Serves connections to a place under the settings, as many as the limits say, and answers the exit status. Where an input is given, its end tells the service to stop, whatever went before; what it gives does not matter.
+/// Serves connections to a place under the settings, as many as the limits say, and answers the exit status. Where an input
+/// is given, its end tells the service to stop, whatever went before; what it gives does not matter.
 ///
 /// - 0: the connections were served, or the input ended.
 /// - 1: the settings are refused, and nothing listened.
@@ -74,7 +75,15 @@ where
     ensures refused { IsErr (settings_in settings.now) → (result ≡ 1) ⊎ (result ≡ 3) }
 {
     match settings_in(alloc, settings) {
-        Ok(settings) => serve_place(rt, alloc, &settings, serving, service, input, errors),
+        Ok(settings) => {
+            let server = Server {
+                rt,
+                alloc,
+                settings: &settings,
+                serving,
+            };
+            server.serve_place(service, input, errors)
+        }
         Err(error) => {
             let status = report::settings(&mut errors, error);
             if serving.explains {
@@ -85,20 +94,17 @@ where
     }
 }
 
-/// Listens at the place, and serves the connections to it.
-fn serve_place<R, I, E, W>(
-    rt: &R,
+/// A service under settings that are in force: what each step of its start has at hand.
+#[derive(Drop)]
+struct Server<'a, R> {
+    rt: &'a R,
     alloc: Global,
-    settings: &Settings,
-    serving: Serving<'_>,
-    service: Service<W>,
-    input: Option<I>,
-    mut errors: E,
-) -> u8
+    settings: &'a Settings,
+    serving: Serving<'a>,
+}
+
+impl<R> Server<'_, R>
 where
-    I: Read + Send + Drop + 'static,
-    E: Write + Send + Drop + 'static,
-    W: Write + Send + Drop,
     R: Net<Listener = TcpListener, Stream = TcpStream>
         + Files
         + Threads
@@ -109,167 +115,171 @@ where
         + Send
         + Sync
         + 'static,
-    ensures { (result ≡ 0) ⊎ (result ≡ 3) }
 {
-    let Some((listener, door)) = listen(rt, alloc, serving.place, serving.explains, &mut errors)
-    else {
-        return report::FAULT;
-    };
-    let status = serve_listener(
-        rt, alloc, settings, serving, service, &listener, door, input, errors,
-    );
-    leave(rt, serving.place);
-    status
-}
-
-/// Serves the connections to the listener, with a thread that waits for the end of the input.
-fn serve_listener<R, I, E, W>(
-    rt: &R,
-    alloc: Global,
-    settings: &Settings,
-    serving: Serving<'_>,
-    service: Service<W>,
-    listener: &PlaceListener,
-    door: Door,
-    input: Option<I>,
-    mut errors: E,
-) -> u8
-where
-    I: Read + Send + Drop + 'static,
-    E: Write + Send + Drop + 'static,
-    W: Write + Send + Drop,
-    R: Net<Listener = TcpListener, Stream = TcpStream>
-        + Files
-        + Threads
-        + Wait
-        + Clock
-        + Print
-        + Copy
-        + Send
-        + Sync
-        + 'static,
-    ensures { (result ≡ 0) ⊎ (result ≡ 3) }
-{
-    let Ok(acceptor) = shared_acceptor(alloc, serving.limits) else {
-        return report::settings(&mut errors, SettingsError::Memory);
-    };
-    let watcher = match input {
-        Some(input) => match start_watcher(rt, input, &acceptor, door) {
-            Some(watcher) => Some(watcher),
-            None => return report::thread(&mut errors),
-        },
-        None => None,
-    };
-    let status = serve_reported(
-        rt, alloc, settings, service, &acceptor, listener, &door, errors,
-    );
-    join_if_told(rt, &acceptor, watcher);
-    status
-}
-
-/// Serves the connections of the listener, with a thread that writes what is said of them.
-fn serve_reported<R, E, W>(
-    rt: &R,
-    alloc: Global,
-    settings: &Settings,
-    service: Service<W>,
-    acceptor: &Acceptor,
-    listener: &PlaceListener,
-    door: &Door,
-    errors: E,
-) -> u8
-where
-    E: Write + Send + Drop + 'static,
-    W: Write + Send + Drop,
-    R: Threads + Wait + Clock + Print + Copy + Send + Sync + 'static,
-    ensures { (result ≡ 0) ⊎ (result ≡ 3) }
-{
-    let errors = match Arc::new(alloc, Mutex::new(errors)) {
-        Ok(errors) => errors,
-        Err(refused) => {
-            let mut errors = refused.value.into_inner();
-            return report::settings(&mut errors, SettingsError::Memory);
-        }
-    };
-    let Ok(reports) = Arc::new(alloc, Reports::new()) else {
-        return report::settings(&mut *errors.lock(rt), SettingsError::Memory);
-    };
-    let Some(writer) = start_writer(rt, &reports, &errors) else {
-        return report::thread(&mut *errors.lock(rt));
-    };
-    let mut output = io::writer(rt);
-    let status = match service {
-        Service::Echo => serve_through(
-            rt,
-            alloc,
-            acceptor,
-            listener,
-            door,
-            settings,
-            &mut output,
-            &reports,
-        ),
-        Service::Shared { sharing, record } => share_through(
-            rt,
-            alloc,
-            acceptor,
-            listener,
-            door,
-            settings,
-            sharing,
-            record,
-            &mut output,
-            &reports,
-        ),
-    };
-    // One that is still held up by a reader is cut off by the end of the program.
-    if reports.finish(rt) {
-        writer.join(rt);
+    /// Listens at the place, and serves the connections to it.
+    fn serve_place<I, E, W>(&self, service: Service<W>, input: Option<I>, mut errors: E) -> u8
+    where
+        I: Read + Send + Drop + 'static,
+        E: Write + Send + Drop + 'static,
+        W: Write + Send + Drop,
+        ensures { (result ≡ 0) ⊎ (result ≡ 3) }
+    {
+        let place = self.serving.place;
+        let explains = self.serving.explains;
+        let Some((listener, door)) = listen(self.rt, self.alloc, place, explains, &mut errors)
+        else {
+            return report::FAULT;
+        };
+        let status = self.serve_listener(&listener, door, service, input, errors);
+        leave(self.rt, place);
+        status
     }
-    status
+
+    /// Serves the connections to the listener, with a thread that waits for the end of the input.
+    fn serve_listener<I, E, W>(
+        &self,
+        listener: &PlaceListener,
+        door: Door,
+        service: Service<W>,
+        input: Option<I>,
+        mut errors: E,
+    ) -> u8
+    where
+        I: Read + Send + Drop + 'static,
+        E: Write + Send + Drop + 'static,
+        W: Write + Send + Drop,
+        ensures { (result ≡ 0) ⊎ (result ≡ 3) }
+    {
+        let Ok(acceptor) = shared_acceptor(self.alloc, self.serving.limits) else {
+            return report::settings(&mut errors, SettingsError::Memory);
+        };
+        let watcher = match input {
+            Some(input) => match self.start_watcher(input, &acceptor, door) {
+                Some(watcher) => Some(watcher),
+                None => return report::thread(&mut errors),
+            },
+            None => None,
+        };
+        let status = self.serve_reported(&acceptor, listener, &door, service, errors);
+        self.join_if_told(&acceptor, watcher);
+        status
+    }
+
+    /// Serves the connections of the listener, with a thread that writes what is said of them.
+    fn serve_reported<E, W>(
+        &self,
+        acceptor: &Acceptor,
+        listener: &PlaceListener,
+        door: &Door,
+        service: Service<W>,
+        errors: E,
+    ) -> u8
+    where
+        E: Write + Send + Drop + 'static,
+        W: Write + Send + Drop,
+        ensures { (result ≡ 0) ⊎ (result ≡ 3) }
+    {
+        let errors = match Arc::new(self.alloc, Mutex::new(errors)) {
+            Ok(errors) => errors,
+            Err(refused) => {
+                let mut errors = refused.value.into_inner();
+                return report::settings(&mut errors, SettingsError::Memory);
+            }
+        };
+        let Ok(reports) = Arc::new(self.alloc, Reports::new()) else {
+            return report::settings(&mut *errors.lock(self.rt), SettingsError::Memory);
+        };
+        let Some(writer) = self.start_writer(&reports, &errors) else {
+            return report::thread(&mut *errors.lock(self.rt));
+        };
+        let status = self.serve_connections(acceptor, listener, door, service, &reports);
+        // One that is still held up by a reader is cut off by the end of the program.
+        if reports.finish(self.rt) {
+            writer.join(self.rt);
+        }
+        status
+    }
+
+    /// Serves the connections of the listener, and says what is amiss to the reports.
+    fn serve_connections<W: Write + Send + Drop>(
+        &self,
+        acceptor: &Acceptor,
+        listener: &PlaceListener,
+        door: &Door,
+        service: Service<W>,
+        reports: &Reports,
+    ) -> u8
+        ensures { (result ≡ 0) ⊎ (result ≡ 3) }
+    {
+        let mut output = io::writer(self.rt);
+        match service {
+            Service::Echo => serve_through(
+                self.rt,
+                self.alloc,
+                acceptor,
+                listener,
+                door,
+                self.settings,
+                &mut output,
+                reports,
+            ),
+            Service::Shared { sharing, record } => share_through(
+                self.rt,
+                self.alloc,
+                acceptor,
+                listener,
+                door,
+                self.settings,
+                sharing,
+                record,
+                &mut output,
+                reports,
+            ),
+        }
+    }
+
+    /// Starts the thread that writes what the service says.
+    fn start_writer<E: Write + Send + Drop + 'static>(
+        &self,
+        reports: &Arc<Reports, Global>,
+        errors: &Arc<Mutex<E>, Global>,
+    ) -> Option<JoinHandle<()>> {
+        let reports = Arc::try_clone(reports).ok()?;
+        let errors = Arc::try_clone(errors).ok()?;
+        let handles = *self.rt;
+        thread::spawn(self.rt, move || reports.write_to(&handles, &errors)).ok()
+    }
+
+    /// Starts the thread that tells the service to stop at the end of the input.
+    fn start_watcher<I: Read + Send + Drop + 'static>(
+        &self,
+        input: I,
+        acceptor: &Arc<Acceptor, Global>,
+        door: Door,
+    ) -> Option<JoinHandle<()>> {
+        let acceptor = Arc::try_clone(acceptor).ok()?;
+        let handles = *self.rt;
+        thread::spawn(
+            self.rt,
+            move || watch_all(&handles, input, &acceptor, &door),
+        )
+        .ok()
+    }
+
+    /// Waits for the watcher, where the input has ended. Where a fault ended the service, it may still wait for that end, and
+    /// the end of the program cuts it off.
+    fn join_if_told(&self, acceptor: &Acceptor, watcher: Option<JoinHandle<()>>) {
+        if let Some(watcher) = watcher
+            && acceptor.was_told(self.rt)
+        {
+            watcher.join(self.rt);
+        }
+    }
 }
 
-/// Starts the thread that writes what the service says.
-fn start_writer<R, E>(
-    rt: &R,
-    reports: &Arc<Reports, Global>,
-    errors: &Arc<Mutex<E>, Global>,
-) -> Option<JoinHandle<()>>
-where
-    R: Threads + Wait + Copy + Send + 'static,
-    E: Write + Send + Drop + 'static,
-{
-    let reports = Arc::try_clone(reports).ok()?;
-    let errors = Arc::try_clone(errors).ok()?;
-    let handles = *rt;
-    thread::spawn(rt, move || reports.write_to(&handles, &errors)).ok()
-}
-
-/// The acceptor of the service, which the watcher of standard input shares.
+/// The acceptor of the service, which the watcher of the input shares.
 fn shared_acceptor(alloc: Global, limits: Limits) -> Result<Arc<Acceptor, Global>, AllocError> {
     Ok(Arc::new(alloc, Acceptor::new(alloc, limits)?)?)
-}
-
-/// Starts the thread that tells the service to stop at the end of standard input.
-fn start_watcher<R, I>(
-    rt: &R,
-    input: I,
-    acceptor: &Arc<Acceptor, Global>,
-    door: Door,
-) -> Option<JoinHandle<()>>
-where
-    R: Net<Listener = TcpListener, Stream = TcpStream>
-        + Threads
-        + Wait
-        + Clock
-        + Copy
-        + Send
-        + 'static,
-    I: Read + Send + Drop + 'static,
-{
-    let acceptor = Arc::try_clone(acceptor).ok()?;
-    let handles = *rt;
-    thread::spawn(rt, move || watch_all(&handles, input, &acceptor, &door)).ok()
 }
 
 /// What the watcher does with its input.
@@ -280,16 +290,6 @@ fn watch_all<R: Net + Wait + Clock, I: Read + Drop>(
     door: &Door,
 ) {
     watch(rt, &mut input, acceptor, door);
-}
-
-/// Waits for the watcher, where standard input has ended. Where a fault ended the service, it may still wait for that
-/// end, and the end of the program cuts it off.
-fn join_if_told<R: Threads + Wait>(rt: &R, acceptor: &Acceptor, watcher: Option<JoinHandle<()>>) {
-    if let Some(watcher) = watcher
-        && acceptor.was_told(rt)
-    {
-        watcher.join(rt);
-    }
 }
 
 /// Reads the input to its end, and tells the service to stop then. An input that fails has ended.

@@ -1,7 +1,8 @@
 //! What a script came to, command by command.
 
-ghost use Rattle.std.specs.Prelude.{◌≡◌, ◌⊎◌, IsErr};
+ghost use Rattle.std.specs.Prelude.{◌≡◌, ◌⊎◌, IsErr, OnOk};
 ghost use Rattle.bh_props.specs.SettingsFile.{settings_in};
+ghost use Rattle.bh_commands.specs.Status.{IsWhole, WritesText};
 
 use crate::report;
 use bh_lines::PortError;
@@ -44,6 +45,8 @@ pub fn summary_file<R: Read, W: Write, E: Write>(
     ensures refused_only { result ≡ 1 → IsErr (settings_in settings.now) }
     ensures refused { IsErr (settings_in settings.now) → ((result ≡ 1) ⊎ (result ≡ 3)) × (reader.new ≡ reader.old) × (writer.new ≡ writer.old) }
     ensures quiet { result ≡ 0 → errors.new ≡ errors.old }
+    ensures written { result ≡ 0 → WritesText (W.contents writer.old) (W.contents writer.new) }
+    ensures whole { result ≡ 0 → IsWhole (R.remaining reader.old) }
 {
     match settings_in(alloc, settings) {
         Ok(settings) => summarize(alloc, &settings, form, reader, writer, errors),
@@ -62,6 +65,8 @@ fn summarize<R: Read, W: Write, E: Write>(
 ) -> u8
     ensures status { (result ≡ 0) ⊎ (result ≡ 3) }
     ensures quiet { result ≡ 0 → errors.new ≡ errors.old }
+    ensures written { result ≡ 0 → WritesText (W.contents writer.old) (W.contents writer.new) }
+    ensures whole { result ≡ 0 → IsWhole (R.remaining reader.old) }
 {
     match write_summary(alloc, settings, form, reader, writer) {
         Ok(()) => 0,
@@ -76,7 +81,10 @@ fn write_summary<R: Read, W: Write>(
     form: SummaryForm,
     reader: &mut R,
     writer: &mut W,
-) -> Result<(), PortError> {
+) -> Result<(), PortError>
+    ensures written { OnOk result (WritesText (W.contents writer.old) (W.contents writer.new)) }
+    ensures whole { OnOk result (IsWhole (R.remaining reader.old)) }
+{
     let mut watch = Watch::open(alloc, settings)?;
     let mut reader = WatchedReader::new(reader);
     let ended = watch_script(alloc, &mut reader, settings, &mut watch);
