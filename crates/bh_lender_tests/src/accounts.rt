@@ -186,6 +186,11 @@ fn fail(serial: u64) -> Op {
     Op::Fail { serial, bad: false }
 }
 
+/// A holder of the ticket asks for its answer.
+fn collect(serial: u64) -> Op {
+    Op::Collect { serial }
+}
+
 /// The fallback of the ticket ends so.
 fn fall_back(serial: u64, end: FallbackEnd) -> Op {
     Op::FallbackDone { serial, end }
@@ -196,27 +201,23 @@ fn an_account_has_what_was_given_back(rt: HostRuntime) {
     let mut lender = lender_of_two(&rt, true);
     come_and_go(&rt, &mut lender);
     let (journals, made) = account_of(&rt, lender);
-    let collect = Op::Collect { serial: 1 };
-    let collect_other = Op::Collect { serial: 2 };
-    let due = Reply::RunFallback(Cause::Failure);
-    let missing = failed(FallbackFault::Missing);
     let first = journals.get(0).expect(&rt, "a journal");
     let by_workers = [
         (5, fail(1), Reply::Done),
-        (6, collect, due),
+        (6, collect(1), Reply::RunFallback(Cause::Failure)),
         (6, fall_back(1, FallbackEnd::Missing), Reply::Done),
-        (6, collect, missing),
+        (6, collect(1), failed(FallbackFault::Missing)),
     ];
     assert_end(&rt, first, 0, &by_workers);
     let second = journals.get(1).expect(&rt, "a journal");
     let by_callers = [
         (4, fail(2), Reply::Done),
         (4, fall_back(1, FallbackEnd::Failure), Reply::Done),
-        (4, collect, failed(FallbackFault::Failed)),
-        (4, collect_other, due),
+        (4, collect(1), failed(FallbackFault::Failed)),
+        (4, collect(2), Reply::RunFallback(Cause::Failure)),
         (4, fall_back(2, FallbackEnd::Missing), Reply::Done),
-        (4, collect_other, missing),
-        (5, collect_other, missing),
+        (4, collect(2), failed(FallbackFault::Missing)),
+        (5, collect(2), failed(FallbackFault::Missing)),
     ];
     assert_end(&rt, second, 1, &by_callers);
     assert!(&rt; (first.len(), second.len(), made) == (6, 12, 20), "{made}");
