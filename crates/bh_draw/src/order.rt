@@ -1,6 +1,6 @@
 //! Which commands are drawn, and in which order they are told of.
 
-ghost use Rattle.std.specs.Prelude.{◌≡◌, ◌==◌, ◌&&◌, take, IfOk};
+ghost use Rattle.std.specs.Prelude.{◌≡◌, ◌==◌, ◌&&◌, take, IfOk, ◌-◌, ◌^◌};
 ghost use Rattle.std.specs.List.{list_any};
 ghost use Rattle.std.specs.List.Sorted.{IsNonDecreasingBy};
 ghost use Rattle.bh_draw.specs.Bars.{without_value};
@@ -48,14 +48,22 @@ pub(crate) fn ranking(alloc: Global, chart: &Chart) -> Result<Vec<Ranked>, Alloc
 /// Adds the commands of a panel.
 fn rank_panel(ranking: &mut Vec<Ranked>, panel: usize, found: &Panel) -> Result<(), AllocError> {
     for (lane, command) in found.lanes.iter().enumerate() {
-        ranking.push(Ranked {
-            rank: u64::MAX - without_value(command),
-            requests: command.total.tally.requests(),
-            panel,
-            lane,
-        })?;
+        ranking.push(rank_command(panel, lane, command))?;
     }
     Ok(())
+}
+
+/// The command at the place, as it is ranked.
+fn rank_command(panel: usize, lane: usize, command: &Lane) -> Ranked
+    ensures rank { result.rank ≡ 2 ^ 64 - 1 - without_value command.now.total.tally }
+    ensures place { (result.panel ≡ panel) × (result.lane ≡ lane) }
+{
+    Ranked {
+        rank: u64::MAX - without_value(command),
+        requests: command.total.tally.requests(),
+        panel,
+        lane,
+    }
 }
 
 /// The commands that are drawn.
