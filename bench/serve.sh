@@ -18,8 +18,9 @@ cc -O2 -pthread -o "$work/client" "$here/serve_client.c"
 
 # Prints the figures of one run of a program over so many connections.
 run_once() {
-    start "$1" --connections "$2"
+    start_with_input "$1" --connections "$2"
     "$work/client" "$port" "$2" "$calls" "$groups" "$service"
+    end_input
     await_end
 }
 

@@ -56,6 +56,10 @@ print_table "$port"
 echo "by a socket"
 address=(--socket "$work/socket")
 print_table "$work/socket"
+
+# Whose client is killed has failed, so that a circuit breaker would open.
+list_settings 1 'hystrix.command.default.execution.isolation.strategy = "SEMAPHORE"
+hystrix.command.default.circuitBreaker.enabled = false' >"$work/settings.toml"
 verb=share
 start_with_input "$program" --connections 2
 python3 "$here/killed.py" "$work/socket" g0 "$times"
