@@ -24,25 +24,23 @@ run_once() {
     await_end
 }
 
-# Prints a line of figures for each number of connections and each program.
-print_table() {
-    echo "$1"
+run_this() {
+    run_once "$program" "$1"
+}
+
+run_other() {
+    run_once "$other" "$1"
+}
+
+# Prints the table of the settings, which are lines of a settings file for all groups.
+print_settings() {
     list_settings "$groups" "$2" >"$work/settings.toml"
-    for connections in 1 8 64; do
-        : >"$work/this"
-        : >"$work/other"
-        for _ in $(seq "$runs"); do
-            run_once "$program" "$connections" >>"$work/this"
-            [ -z "$other" ] || run_once "$other" "$connections" >>"$work/other"
-        done
-        print_median "$connections" this calls
-        [ -z "$other" ] || print_median "$connections" other calls
-    done
+    print_table "$1" calls
 }
 
 if [ -n "$settings" ]; then
-    print_table "given settings" "$settings"
+    print_settings "given settings" "$settings"
 else
-    print_table "built-in settings" ""
-    print_table "SEMAPHORE" 'hystrix.command.default.execution.isolation.strategy = "SEMAPHORE"'
+    print_settings "built-in settings" ""
+    print_settings "SEMAPHORE" 'hystrix.command.default.execution.isolation.strategy = "SEMAPHORE"'
 fi

@@ -71,3 +71,20 @@ print_median() {
             "$1" "$2" "$rate" "$3" "$p50" "$p99" "$switches" "$busy"
     }
 }
+
+# Prints a heading, and below it a line of figures for each number of connections and each program, by what it does a second:
+# those of the middle run of `run_this` and, where `other` is named, of `run_other`, in turn. Each runs its program once over so
+# many connections.
+print_table() {
+    echo "$1"
+    for connections in 1 8 64; do
+        : >"$work/this"
+        : >"$work/other"
+        for _ in $(seq "$runs"); do
+            run_this "$connections" >>"$work/this"
+            [ -z "$other" ] || run_other "$connections" >>"$work/other"
+        done
+        print_median "$connections" this "$2"
+        [ -z "$other" ] || print_median "$connections" other "$2"
+    done
+}

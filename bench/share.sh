@@ -19,43 +19,28 @@ cc -O2 -pthread -o "$work/client" "$here/serve_client.c"
 list_settings "$groups" 'hystrix.command.default.execution.isolation.strategy = "SEMAPHORE"
 hystrix.command.default.execution.isolation.semaphore.maxConcurrentRequests = 64' >"$work/settings.toml"
 
-# Prints the figures of one run over so many connections at the address.
-run_once() {
+# Prints the figures of one run over so many connections to `place`, a port or a socket.
+run_this() {
     verb=share
     start_with_input "$program" --connections "$1"
-    "$work/client" "$2" "$1" "$calls" "$groups" "$service" shared
+    "$work/client" "$place" "$1" "$calls" "$groups" "$service" shared
     end_input
     await_end
 }
 
 # The same of the echo, which ends with its connections.
-echo_once() {
+run_other() {
     verb=serve
     start "$other" --connections "$1"
-    "$work/client" "$2" "$1" "$calls" "$groups" "$service" echoed
+    "$work/client" "$place" "$1" "$calls" "$groups" "$service" echoed
     await_end
     rm -f "$work/socket"
 }
 
-# Prints a line of figures for each number of connections and each program, at the address.
-print_table() {
-    for connections in 1 8 64; do
-        : >"$work/this"
-        : >"$work/other"
-        for _ in $(seq "$runs"); do
-            run_once "$connections" "$1" >>"$work/this"
-            [ -z "$other" ] || echo_once "$connections" "$1" >>"$work/other"
-        done
-        print_median "$connections" this requests
-        [ -z "$other" ] || print_median "$connections" other requests
-    done
-}
-
-echo "by a port"
-print_table "$port"
-echo "by a socket"
-address=(--socket "$work/socket")
-print_table "$work/socket"
+place=$port
+print_table "by a port" requests
+place=$work/socket address=(--socket "$work/socket")
+print_table "by a socket" requests
 
 # Whose client is killed has failed, so that a circuit breaker would open.
 list_settings 1 'hystrix.command.default.execution.isolation.strategy = "SEMAPHORE"
