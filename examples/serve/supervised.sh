@@ -12,8 +12,8 @@ mkfifo "$folder/input"
 "$program" serve "$settings" --port "$port" --keep-serving "$@" <"$folder/input" &
 service=$!
 exec 3>"$folder/input"
-rm -r "$folder"
 trap 'exec 3>&-' TERM INT
+rm -r "$folder"
 
 # A signal that is taken ends a wait before the service has ended.
 status=0
