@@ -20,6 +20,9 @@ use bh_look::lane::Lane;
 use bh_look::tally::Tally;
 use std::alloc::{AllocError, Global};
 
+/// The longest window that metrics may have, in milliseconds.
+const LONGEST_WINDOW: u64 = 3_600_000;
+
 /// What is kept of a command.
 #[derive(Drop)]
 pub struct KeptLane {
@@ -94,7 +97,9 @@ impl KeptLane {
         if !is_touched(touched, command) {
             return;
         }
-        if let Some(metrics) = core.metrics(group, command, now) {
+        // How many runs there are is the same at each moment, and a window later there are no events to be added up.
+        let later = now.saturating_add(LONGEST_WINDOW);
+        if let Some(metrics) = core.metrics(group, command, later) {
             self.busy = metrics.busy;
             self.queued = metrics.queued;
         }
