@@ -42,6 +42,9 @@ pub enum RecordEnd {
     /// Memory was refused.
     #[error("record: it ends here, since memory was refused")]
     Memory,
+    /// The line of a step would be longer than a script's may be.
+    #[error("record: it ends here, since the line of the next step is too long for a script")]
+    Long,
 }
 
 impl From<AllocError> for RecordEnd {

@@ -4,7 +4,7 @@ use crate::names::Names;
 use bh_lender::StepLog;
 use bh_serve::Reports;
 use bh_serve::report::{RecordEnd, Report};
-use bh_sharing::{SharedGroups, put_end, put_step};
+use bh_sharing::{SharedGroups, StepLineError, put_end, put_step};
 use std::alloc::Global;
 use std::io::Write;
 use std::rt::Clock;
@@ -69,7 +69,7 @@ impl<R: Wait + Clock> Recorder<'_, R> {
         write_out(&mut out, writer)
     }
 
-    /// Writes the steps of the log. Nothing is held then.
+    /// Writes the steps of the log, or those before the first whose line could not be put. Nothing is held then.
     fn write_steps<W: Write>(
         &self,
         log: &StepLog,
@@ -77,12 +77,23 @@ impl<R: Wait + Clock> Recorder<'_, R> {
         writer: &mut W,
     ) -> Result<(), RecordEnd> {
         for step in log.as_slice() {
-            put_step(self.alloc, self.names, out, step)?;
+            if let Err(error) = put_step(self.alloc, self.names, out, step) {
+                write_out(out, writer)?;
+                return Err(ended_by(error));
+            }
             if out.len() >= MOST_HELD {
                 write_out(out, writer)?;
             }
         }
         write_out(out, writer)
+    }
+}
+
+/// Why a record ends where a step's line is not put.
+fn ended_by(error: StepLineError) -> RecordEnd {
+    match error {
+        StepLineError::Memory => RecordEnd::Memory,
+        StepLineError::Long => RecordEnd::Long,
     }
 }
 

@@ -20,6 +20,10 @@ const LINES: [&str; 8] = [
     r#"{"op":"metrics","group":"pool"}"#,
 ];
 
+/// What a service says of a record that ends before it does, since no script has the next line.
+pub(crate) const TOO_LONG: &str =
+    "record: it ends here, since the line of the next step is too long for a script\n";
+
 impl<
     'e,
     R: Net<Listener = TcpListener, Stream = TcpStream> + Wait + Clock + Abort + AllocGlobal,
@@ -37,6 +41,23 @@ impl<
                 .expect(self.rt, "memory");
             heard.push(b'\n').expect(self.rt, "memory");
         }
+    }
+
+    /// A client says a line of 1,022 bytes, which is longer with its moment, and goes on.
+    pub(crate) fn say_too_much(&self) {
+        let mut finish = String::new(self.rt.alloc());
+        finish
+            .push_str(r#"{"op":"finish","group":"web","ticket":1,"body":""#)
+            .expect(self.rt, "memory");
+        for _ in 0..162 {
+            finish.push_str("\\u0001").expect(self.rt, "memory");
+        }
+        finish.push_str("\"}").expect(self.rt, "memory");
+        let submit = r#"{"op":"submit","group":"web","arg":"x"}"#;
+        let stream = self.connect();
+        self.assert_answer(&stream, submit, r#"{"reply":"inline","ticket":1}"#);
+        self.assert_answer(&stream, finish.as_str(), r#"{"reply":"done"}"#);
+        self.assert_answer(&stream, submit, r#"{"reply":"inline","ticket":2}"#);
     }
 }
 
@@ -62,4 +83,14 @@ fn a_record_is_answered_as_its_clients_were(rt: HostRuntime) {
         last.starts_with("{\"end\":true,\"group\":\"pool\","),
         "{last}"
     );
+}
+
+#[test]
+fn a_record_ends_before_a_step_that_no_script_can_say(rt: HostRuntime) {
+    let heard = Mutex::new(Vec::new(rt.alloc()));
+    let record = visit_service(&rt, 256, Visit::SayTooMuch, &heard);
+    let record = str::from_utf8(record.as_slice()).expect(&rt, "a text");
+    assert!(&rt; record.starts_with("{\"arg\":\"x\","), "{record}");
+    assert!(&rt; record.ends_with(",\"op\":\"submit\"}\n"), "{record}");
+    assert_eq!(&rt; record.lines().count(), 1);
 }

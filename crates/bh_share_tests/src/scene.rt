@@ -1,5 +1,6 @@
 //! A service, and clients beside it.
 
+use crate::records::TOO_LONG;
 use bh_props::settings_in;
 use bh_serve::{Acceptor, Door, Limits, Reports};
 use bh_share_serve::{Sharing, share_through};
@@ -10,7 +11,7 @@ use std::rt::Clock;
 use std::sync::{Mutex, Wait};
 use std::thread::Threads;
 use std::time::Duration;
-use std::{io, thread};
+use std::{io, str, thread};
 
 /// A group whose callers run its dependency, with 10 permits, and one with a pool and a queue. Neither times out.
 pub(crate) const TWO_GROUPS: &str = r#"
@@ -42,6 +43,7 @@ pub(crate) enum Visit {
     FillTickets,
     ManyClients,
     Record,
+    SayTooMuch,
 }
 
 /// A service that runs, as its clients see it.
@@ -195,19 +197,21 @@ pub(crate) fn visit_service<
         },
     );
     assert_eq!(rt; status, 0);
-    if visit == Visit::DieWaiting {
-        assert_silent(rt, &reports);
+    match visit {
+        Visit::DieWaiting => assert_said(rt, &reports, ""),
+        Visit::SayTooMuch => assert_said(rt, &reports, TOO_LONG),
+        _ => {}
     }
     recorded.into_inner()
 }
 
-/// Asserts that the service said nothing on standard error.
-fn assert_silent<R: Wait + Abort + AllocGlobal>(rt: &R, reports: &Reports) {
+/// Asserts that the service said this on standard error: a client that is gone is no fault.
+fn assert_said<R: Wait + Abort + AllocGlobal>(rt: &R, reports: &Reports, text: &str) {
     let errors = Mutex::new(Vec::new(rt.alloc()));
     reports.close(rt);
     reports.write_to(rt, &errors);
     let said = errors.into_inner();
-    assert!(rt; said.is_empty(), "a client that is gone is no fault");
+    assert_eq!(rt; str::from_utf8(said.as_slice()), Ok(text));
 }
 
 impl<
@@ -236,6 +240,7 @@ impl<
             Visit::FillTickets => self.fill_tickets(),
             Visit::ManyClients => self.many_clients(),
             Visit::Record => self.record(),
+            Visit::SayTooMuch => self.say_too_much(),
         }
     }
 }

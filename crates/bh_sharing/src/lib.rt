@@ -10,4 +10,4 @@ pub mod waiters;
 
 pub use client::{Client, Presence, attend};
 pub use shared::SharedGroups;
-pub use step_line::{put_end, put_step};
+pub use step_line::{StepLineError, put_end, put_step};

@@ -1,24 +1,52 @@
 //! The line of a script that says a step.
 
-ghost use Rattle.std.specs.Prelude.{◌≡◌, ◌≤◌, ◌++◌, false, IfOk, IfSome, OnErr, OnOk, Some, option_copied, slice_get, true};
+ghost use Rattle.std.specs.Prelude.{◌≡◌, ◌≤◌, ◌<◌, ◌++◌, ◌+◌, false, Err, IfOk, IfSome, OnErr, OnOk, Some, length, option_copied, slice_get, true};
 ghost use Rattle.serde_json.specs.Data.{depth};
 ghost use Rattle.serde_json.specs.Read.{max_depth, read};
 ghost use Rattle.serde_json.specs.View.{view};
 ghost use Rattle.serde_json.specs.Written.{compact_text, has_float};
 ghost use Rattle.bh_base.specs.declared.step.FallbackEnd.TheVariants as ends;
 ghost use Rattle.bh_base.specs.declared.step.Op.TheVariants as op;
+ghost use Rattle.bh_lines.specs.Lines.{line_limit};
 ghost use Rattle.bh_lines.specs.StepLine.{is_short, is_short_end};
 ghost use Rattle.bh_replies.specs.ReplyLine.{json_line};
+ghost use Rattle.bh_sharing.specs.declared.step_line.StepLineError.TheVariants as errors;
 ghost use Rattle.bh_sharing.specs.StepText.{SaysEnd, SaysStep, close_data, collect_data, end_line, fail_data, fallback_data, finish_data, name_of_command, no_value_data, read_data, step_data, step_line, submit_data, word_data};
 
 use crate::line_object::{Member, object_of};
 use bh_base::{FallbackEnd, GroupId, Moment, Op, Request, Step};
+use bh_lines::lines::LINE_LIMIT;
 use bh_share::Directory;
 use serde_json::Value;
 use std::alloc::{AllocError, Global};
+use std::string::String;
+use thiserror::Error;
+
+/// Why the line of a step was not put.
+#[derive(Clone, Copy, Debug, PartialEq, Eq, Error)]
+pub enum StepLineError {
+    /// Memory was refused.
+    #[error("memory was refused")]
+    Memory,
+    /// It would be of more bytes than a line of a script may have, 1,024 without its line feed.
+    #[error("the line of a step is longer than a script's may be")]
+    Long,
+}
+
+impl From<AllocError> for StepLineError {
+    ghost use Rattle.std.specs.Prelude.{◌≡◌};
+    ghost use Rattle.bh_sharing.specs.declared.step_line.StepLineError.TheVariants.{Memory};
+
+    ghost from_gives = { λ _ error. error ≡ Memory };
+
+    fn from(_refused: AllocError) -> StepLineError {
+        StepLineError::Memory
+    }
+}
 
 /// Puts the line of a script that says the step behind the bytes. Nothing is put for a step of a group that the directory
-/// does not have. It fails only for want of memory, and leaves the bytes as they were then.
+/// does not have. It fails for want of memory, or where the line is longer than a script's may be, and leaves the bytes as they
+/// were then.
 ///
 /// The line, read, is the step: a script that has it is asked for this operation at this moment, of the group and the command
 /// by their names.
@@ -27,16 +55,23 @@ pub fn put_step<D: Directory>(
     directory: &D,
     out: &mut Vec<u8>,
     step: &Step,
-) -> Result<(), AllocError>
+) -> Result<(), StepLineError>
     ensures ok { OnOk result (out.new.items ≡ out.old.items ++ step_line (D.names directory.now) step.entry.now) }
     ensures says { OnOk result (IfSome (slice_get (D.names directory.now).groups step.entry.now.group.0) (SaysStep (D.names directory.now) step.entry.now)) }
+    ensures fits { OnOk result (length (step_line (D.names directory.now) step.entry.now) ≤ line_limit + 1) }
+    ensures long { result ≡ Err errors.Long → line_limit + 1 < length (step_line (D.names directory.now) step.entry.now) }
     ensures err { OnErr result (out.new.items ≡ out.old.items) }
 {
     let Some(group) = group_name(directory, step.group) else {
         return Ok(());
     };
     let value = step_value(alloc, directory, group, step)?;
-    put_value(alloc, out, &value)
+    let line = line_of(alloc, &value)?;
+    if line.len() > LINE_LIMIT + 1 {
+        return Err(StepLineError::Long);
+    }
+    out.extend_from_slice(line.as_str().as_bytes())?;
+    Ok(())
 }
 
 /// Puts the line behind the bytes that ends a whole record: a read of the first group, with a member that a script ignores.
@@ -63,20 +98,20 @@ pub fn put_end<D: Directory>(
             Member::Text("op", "read"),
         ],
     )?;
-    put_value(alloc, out, &value)
+    let line = line_of(alloc, &value)?;
+    out.extend_from_slice(line.as_str().as_bytes())
 }
 
-/// Puts the line of the value, which has no float, behind the bytes. Its text, read, is the value.
-fn put_value(alloc: Global, out: &mut Vec<u8>, value: &Value) -> Result<(), AllocError>
+/// The line of the value, which has no float. Its text, read, is the value.
+fn line_of(alloc: Global, value: &Value) -> Result<String, AllocError>
     requires floatless { has_float (view value.now) ≡ false }
     requires nests { depth (view value.now) ≤ max_depth }
-    ensures ok { OnOk result (out.new.items ≡ out.old.items ++ json_line (view value.now)) }
+    ensures line { IfOk result (λ line. line.bytes.items ≡ json_line (view value.now)) }
     ensures reads { OnOk result (read (compact_text (view value.now)) ≡ Some (view value.now)) }
-    ensures err { OnErr result (out.new.items ≡ out.old.items) }
 {
     let mut line = value.to_string(alloc)?;
     line.push('\n')?;
-    out.extend_from_slice(line.as_str().as_bytes())
+    Ok(line)
 }
 
 /// The name of the group of the number.

@@ -3,4 +3,4 @@ use Rattle.bh_sharing.proofs.step_line.put_step.Goals as goal
 
 pub returns-clause-says : goal.returns-clause-says
 returns-clause-says g c =
-    put-says c.put_value.result (g.D.Directory.names c.args.directory.now) c.args.step.now _ c.in-Some.group.now _ c.in-Some.ensures c.in_ok-value.ensures.data c.in_ok-value.ensures.short c.put_value.ensures.reads
+    put-says (g.D.Directory.names c.args.directory.now) c.args.step.now _ c.in-Some.group.now _ c.in-Some.ensures c.in_ok-value.ensures.data c.in_ok-value.ensures.short c.in_ok-line.ensures.reads
