@@ -1,0 +1,5 @@
+pub mod Rising
+pub mod Alive
+pub mod Searched
+pub mod Left
+pub mod Looked

@@ -1,0 +1,3 @@
+pub mod TableView
+pub mod Entries
+pub mod Fields
