@@ -18,12 +18,17 @@ use crate::waiting::Place;
 use bh_base::Reply;
 use bh_journal::AuditReport;
 use std::alloc::Global;
-use std::sync::{Mutex, Wait};
+use std::hint::spin_loop;
+use std::sync::{Mutex, MutexGuard, Wait};
+
+/// How often a thread tries to take the lock before it sleeps until the lock is free.
+const TRIES: u32 = 200;
 
 /// A book and its stop mark under a lock.
 ///
 /// No contract can name what lies under it, so none can say that `ask` does no more than to hand it to `Locked::answer`,
-/// nor that `finish` tells of what the lock gives up. These two are to be read; nothing else reaches a guard.
+/// nor that `finish` tells of what the lock gives up. These two are to be read, and `take`, by which the first gets the lock;
+/// nothing else reaches a guard.
 #[derive(Drop)]
 pub(crate) struct Guarded<const A: u32> {
     lock: Mutex<Locked<A>>,
@@ -42,6 +47,18 @@ impl<const A: u32> Guarded<A> {
         }
     }
 
+    /// Takes the lock. A turn is over soon, so a thread tries for a while before it sleeps until the lock is free: whoever
+    /// sleeps has to be woken, and meanwhile others sleep too.
+    fn take<R: Wait>(&self, rt: &R) -> MutexGuard<'_, Locked<A>> {
+        for _ in 0..TRIES {
+            if let Some(guard) = self.lock.try_lock() {
+                return guard;
+            }
+            spin_loop();
+        }
+        self.lock.lock(rt)
+    }
+
     /// Has done what is asked for, in one turn of the lock. Whoever has to wait gives up the lock, waits at the place,
     /// and asks again.
     #[inline(always)]
@@ -58,7 +75,7 @@ impl<const A: u32> Guarded<A> {
         requires allowed { IsAllowed ask.now }
         ensures { Did C.moments (A == 1) ask.now pass.old pass.new reply.new result.said result.freed }
     {
-        let mut guard = self.lock.lock(rt);
+        let mut guard = self.take(rt);
         for _ in rt.forever() {
             match guard.answer(ask, clock, pass, reply) {
                 Some(answer) => return answer,

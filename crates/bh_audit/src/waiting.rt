@@ -37,8 +37,12 @@ impl Place {
         guard
     }
 
-    /// Notifies so many of those that wait here.
+    /// Notifies so many of those that wait here. Whoever looked in vain before the step that lets it go on was counted by
+    /// then, so where nobody is counted nobody has to be told.
     fn notify(&self, notice: Notice) {
+        if self.count() == 0 {
+            return;
+        }
         match notice {
             Notice::Nobody => {}
             Notice::One => self.changed.notify_one(),
@@ -99,6 +103,9 @@ impl Waiting {
     /// Notifies so many idle workers, and those callers.
     pub(crate) fn notify(&self, workers: Notice, callers: FreedCallers) {
         self.workers.notify(workers);
+        if callers == FreedCallers::Nobody {
+            return;
+        }
         for (number, place) in self.callers.iter().enumerate() {
             place.notify(callers.at(number as u64));
         }
