@@ -15,8 +15,8 @@ use std::time::{Duration, Instant};
 use std::{io, thread};
 use thiserror::Error;
 
-/// How often a read looks whether something has come before it sleeps until something does.
-const LOOKS: u32 = 8;
+/// How long a write may take before it counts as one that waits for room, in milliseconds.
+const SOON: u64 = 1;
 
 /// How often a service that was told to stop looks whether its client had sent more, a millisecond apart.
 const LAST_LOOKS: u32 = 20;
@@ -65,6 +65,16 @@ fn fault_of_wait(in_vain: bool, told: bool) -> Option<ConnectionFault>
     }
 }
 
+/// Makes a connection ready for `Incoming` and `Outgoing`: it is read from by waiting, and a write of it ends soon where
+/// there is no room.
+pub fn ready(stream: &TcpStream) -> Result<(), ConnectionFault> {
+    let _ = stream.set_nodelay(true);
+    match stream.set_write_timeout(Some(Duration::from_millis(SOON))) {
+        Ok(()) => Ok(()),
+        Err(_) => Err(ConnectionFault::Port(PortError::Read)),
+    }
+}
+
 /// What a client sends. A read waits as long as the clock of the connection leaves, and notes why it ended where it waited in
 /// vain.
 #[derive(Drop)]
@@ -73,17 +83,20 @@ pub struct Incoming<'e, R> {
     stream: &'e TcpStream,
     acceptor: &'e Acceptor,
     clock: IdleClock,
+    /// How long a read of the stream may wait, in microseconds, where that was set.
+    limit: Option<u64>,
     fault: Option<ConnectionFault>,
 }
 
 impl<'e, R: Wait + Clock> Incoming<'e, R> {
-    /// What comes over a connection of the acceptor that does not wait, of which nothing was read yet.
+    /// What comes over a connection of the acceptor that was made `ready`, of which nothing was read yet.
     pub fn new(rt: &'e R, stream: &'e TcpStream, acceptor: &'e Acceptor) -> Incoming<'e, R> {
         Incoming {
             rt,
             stream,
             acceptor,
             clock: IdleClock::new(acceptor.idle()),
+            limit: None,
             fault: None,
         }
     }
@@ -97,8 +110,7 @@ impl<'e, R: Wait + Clock> Incoming<'e, R> {
     pub fn read_now(&mut self, buf: &mut [u8]) -> Option<io::Result<usize>>
         ensures { IfSome result (λ outcome. ReadsAtMost outcome buf.new) }
     {
-        let mut stream = self.stream;
-        match stream.read(buf) {
+        match look(self.stream, buf) {
             Err(error) if error.kind() == ErrorKind::WouldBlock => None,
             outcome => Some(self.note_at_once(outcome, buf)),
         }
@@ -108,16 +120,16 @@ impl<'e, R: Wait + Clock> Incoming<'e, R> {
     fn await_bytes(&mut self, buf: &mut [u8]) -> io::Result<usize>
         ensures { ReadsAtMost result buf.new }
     {
+        let mut stream = self.stream;
         let Some(left) = self.clock.left() else {
-            return wait_and_read(self.stream, buf);
+            return stream.read(buf);
         };
         if left == 0 {
             return self.give_up();
         }
-        self.stream
-            .set_read_timeout(Some(Duration::from_micros(left)))?;
+        self.limit_wait(left)?;
         let begun = Instant::now(self.rt)?;
-        let outcome = wait_and_read(self.stream, buf);
+        let outcome = stream.read(buf);
         let waited = begun.elapsed(self.rt)?;
         match outcome {
             Ok(count) => {
@@ -127,6 +139,17 @@ impl<'e, R: Wait + Clock> Incoming<'e, R> {
             Err(error) if is_in_vain(&error) => self.give_up(),
             Err(error) => Err(error),
         }
+    }
+
+    /// Lets a read of the stream wait so many microseconds, and no longer.
+    fn limit_wait(&mut self, left: u64) -> io::Result<()> {
+        if self.limit == Some(left) {
+            return Ok(());
+        }
+        self.stream
+            .set_read_timeout(Some(Duration::from_micros(left)))?;
+        self.limit = Some(left);
+        Ok(())
     }
 
     /// Reads what a client had sent before the service was told to stop, where no more seems to come. A connection that is
@@ -140,9 +163,9 @@ impl<'e, R: Wait + Clock> Incoming<'e, R> {
         }
         for _ in 0..LAST_LOOKS {
             thread::sleep(self.rt, Duration::from_millis(1));
-            match look(self.stream, buf) {
+            match self.read_now(buf) {
                 Some(Ok(0)) | None => {}
-                Some(outcome) => return self.note_at_once(outcome, buf),
+                Some(outcome) => return outcome,
             }
         }
         Ok(0)
@@ -169,22 +192,16 @@ impl<'e, R: Wait + Clock> Incoming<'e, R> {
 }
 
 impl<R: Wait + Clock> Read for Incoming<'_, R> {
-    /// A client that goes on at once is read from with no sleep: a thread that sleeps has to be woken, which takes longer
-    /// than some looks, between which other threads run.
     fn read(&mut self, buf: &mut [u8]) -> io::Result<usize> {
-        let outcome = match look(self.stream, buf) {
-            Some(outcome) => self.note_at_once(outcome, buf),
-            None => self.await_bytes(buf),
-        };
-        match outcome {
+        match self.await_bytes(buf) {
             Ok(0) => self.read_last(buf),
             outcome => outcome,
         }
     }
 }
 
-/// What is sent to a client. A write that finds no room waits for it as long as the stream lets it, and notes what that tells
-/// of the client.
+/// What is sent to a client. A write that finds no room soon waits for it as long as a connection may, and notes what that
+/// tells of the client.
 #[derive(Drop)]
 pub struct Outgoing<'e, R> {
     rt: &'e R,
@@ -194,7 +211,7 @@ pub struct Outgoing<'e, R> {
 }
 
 impl<'e, R: Wait> Outgoing<'e, R> {
-    /// What goes over a connection of the acceptor that does not wait, of which nothing was written yet.
+    /// What goes over a connection of the acceptor that was made `ready`, of which nothing was written yet.
     pub fn new(rt: &'e R, stream: &'e TcpStream, acceptor: &'e Acceptor) -> Outgoing<'e, R> {
         Outgoing {
             rt,
@@ -214,9 +231,9 @@ impl<'e, R: Wait> Outgoing<'e, R> {
         ensures { WritesAtMost result buf.now }
     {
         let mut stream = self.stream;
-        stream.set_nonblocking(false)?;
+        stream.set_write_timeout(self.acceptor.idle().map(Duration::from_micros))?;
         let outcome = stream.write(buf);
-        stream.set_nonblocking(true)?;
+        stream.set_write_timeout(Some(Duration::from_millis(SOON)))?;
         let in_vain = matches!(&outcome, Err(error) if is_in_vain(error));
         if let Some(fault) = fault_of_wait(in_vain, self.acceptor.was_told(self.rt)) {
             self.fault = Some(fault);
@@ -249,25 +266,12 @@ fn micros(time: Duration) -> u64 {
     u64::try_from(time.as_micros()).unwrap_or(u64::MAX)
 }
 
-/// Reads once something has come, or ends as the time-out of the connection says.
-fn wait_and_read(mut stream: &TcpStream, buf: &mut [u8]) -> io::Result<usize>
+/// Reads what has come, without a wait.
+fn look(mut stream: &TcpStream, buf: &mut [u8]) -> io::Result<usize>
     ensures { ReadsAtMost result buf.new }
 {
-    stream.set_nonblocking(false)?;
-    let outcome = stream.read(buf);
     stream.set_nonblocking(true)?;
+    let outcome = stream.read(buf);
+    stream.set_nonblocking(false)?;
     outcome
-}
-
-/// Reads what has come, or comes while other threads run for a moment; None where nothing comes.
-fn look(mut stream: &TcpStream, buf: &mut [u8]) -> Option<io::Result<usize>>
-    ensures { IfSome result (λ outcome. ReadsAtMost outcome buf.new) }
-{
-    for _ in 0..LOOKS {
-        match stream.read(buf) {
-            Err(error) if error.kind() == ErrorKind::WouldBlock => thread::yield_now(),
-            outcome => return Some(outcome),
-        }
-    }
-    None
 }

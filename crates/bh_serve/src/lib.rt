@@ -5,6 +5,7 @@ pub mod accepting;
 pub mod acceptor;
 pub mod clock;
 pub mod connection;
+pub mod connections;
 pub mod control;
 pub mod door;
 pub mod echo;

@@ -4,6 +4,7 @@ ghost use Rattle.std.specs.Prelude.{◌≡◌, ◌⊎◌, IfOk, false};
 
 use crate::acceptor::{Acceptor, Limits};
 use crate::clock::MachineClock;
+use crate::connections::Connections;
 use crate::door::Door;
 use crate::echo::Echo;
 use crate::ending::Ending;
@@ -195,10 +196,14 @@ fn serve<R: Threads + Wait + Clock + Sync, L: OpenListener<Stream = TcpStream> +
         names: &names,
         echo: &echo,
         clock: &clock,
-        acceptor,
-        listener,
-        door,
-        reports,
+        connections: Connections {
+            rt,
+            alloc,
+            acceptor,
+            listener,
+            door,
+            reports,
+        },
     };
     Ok(server.run(output))
 }

@@ -10,6 +10,7 @@ use bh_lender::StepLog;
 use bh_port::script::open;
 use bh_props::Settings;
 use bh_serve::clock::MachineClock;
+use bh_serve::connections::Connections;
 use bh_serve::ending::Ending;
 use bh_serve::report::Report;
 use bh_serve::serve::ServeError;
@@ -126,10 +127,14 @@ fn share<
         names: &names,
         clock: &clock,
         sharing,
-        acceptor,
-        listener,
-        door,
-        reports,
+        connections: Connections {
+            rt,
+            alloc,
+            acceptor,
+            listener,
+            door,
+            reports,
+        },
     };
     Ok(server.run(record, output))
 }

@@ -1,4 +1,4 @@
-//! The threads of a service that is shared: a timer, and one for each connection that may be open at a time.
+//! The threads of a service that is shared: a timer, one that writes a record, and those of its connections.
 
 ghost use Rattle.std.specs.Prelude.{◌≡◌};
 ghost use Rattle.bh_share_serve.specs.Ending.{end_unless_gone};
@@ -11,18 +11,17 @@ use bh_lease::Leases;
 use bh_lender::StepLog;
 use bh_lines::PortError;
 use bh_serve::clock::MachineClock;
-use bh_serve::connection::{ConnectionFault, Incoming, Outgoing, end_of};
-use bh_serve::ending::{Due, Ending};
-use bh_serve::report::Report;
+use bh_serve::connection::{ConnectionFault, Incoming, Outgoing, end_of, ready};
+use bh_serve::connections::{Answering, Connections};
+use bh_serve::ending::Ending;
 use bh_serve::serve::ServeError;
-use bh_serve::{Acceptor, Door, Reports};
 use bh_sharing::{Client, SharedGroups, attend};
 use bh_streams::{WatchedReader, WatchedWriter};
 use std::alloc::Global;
 use std::io::Write;
 use std::net::{OpenListener, TcpStream};
 use std::rt::Clock;
-use std::sync::{Arc, Wait};
+use std::sync::Wait;
 use std::thread;
 use std::thread::{JoinHandle, Scope, Threads};
 use std::time::Duration;
@@ -57,10 +56,7 @@ pub struct Server<'e, R, L> {
     pub names: &'e Names<'e>,
     pub clock: &'e MachineClock<'e, R>,
     pub sharing: Sharing,
-    pub acceptor: &'e Acceptor,
-    pub listener: &'e L,
-    pub door: &'e Door,
-    pub reports: &'e Reports,
+    pub connections: Connections<'e, R, L>,
 }
 
 impl<'e, R: Threads + Wait + Clock + Sync, L: OpenListener<Stream = TcpStream> + Sync> Server<
@@ -78,47 +74,13 @@ impl<'e, R: Threads + Wait + Clock + Sync, L: OpenListener<Stream = TcpStream> +
         thread::scope(thread::scope_env(), self.rt, |scope| {
             let mut threads = Vec::new(self.alloc);
             self.open(scope, &mut threads, record, output);
-            let ending = self.see_to_ending();
+            let ending = self.connections.see_to_ending(self);
             self.shared.end(self.rt);
             for thread in threads {
                 thread.join(self.rt);
             }
             ending
         })
-    }
-
-    /// Does what is to be done because the service ends, until the threads of all connections have ended, and answers what
-    /// ended it.
-    fn see_to_ending(&self) -> Ending {
-        let mut seen = Ending::new();
-        for _ in self.rt.forever() {
-            let Some(due) = self.acceptor.next_due(self.rt, &seen) else {
-                break;
-            };
-            self.shared.stop(self.rt);
-            match due {
-                Due::Fault(error) => {
-                    self.reports.put(self.rt, Report::Service(error));
-                    seen.fail(error);
-                }
-                Due::Close => {
-                    self.await_quiet();
-                    self.acceptor.close(self.rt);
-                    seen.tell();
-                }
-            }
-        }
-        seen
-    }
-
-    /// Waits until the lines that waited are answered, so that none of them finds its connection closed.
-    fn await_quiet(&self) {
-        for _ in 0..QUIET_LOOKS {
-            if self.shared.is_quiet(self.rt) {
-                return;
-            }
-            thread::sleep(self.rt, Duration::from_millis(1));
-        }
     }
 
     /// Starts the threads and says so; no connection is accepted meanwhile.
@@ -129,9 +91,10 @@ impl<'e, R: Threads + Wait + Clock + Sync, L: OpenListener<Stream = TcpStream> +
         record: Option<(StepLog, W)>,
         output: &mut O,
     ) {
-        let _held = self.acceptor.hold(self.rt);
+        let acceptor = self.connections.acceptor;
+        let _held = acceptor.hold(self.rt);
         if let Err(error) = self.start(scope, threads, record, output) {
-            self.acceptor.fail(self.rt, error);
+            acceptor.fail(self.rt, error);
         }
     }
 
@@ -153,8 +116,8 @@ impl<'e, R: Threads + Wait + Clock + Sync, L: OpenListener<Stream = TcpStream> +
             };
             threads.push(recorder)?;
         }
-        self.start_connection_threads(scope, threads)?;
-        self.announce(output)
+        self.connections.start(scope, threads, self)?;
+        self.connections.announce(output)
     }
 
     /// What the timer does, until the service has ended.
@@ -176,95 +139,39 @@ impl<'e, R: Threads + Wait + Clock + Sync, L: OpenListener<Stream = TcpStream> +
             alloc: self.alloc,
             shared: self.shared,
             names: self.names,
-            reports: self.reports,
+            reports: self.connections.reports,
         };
         recorder.write_to(log, &mut writer);
     }
+}
 
-    /// Starts a thread for each connection that may be open at a time.
-    fn start_connection_threads<'s>(
-        &'e self,
-        scope: &'s Scope<'s, &'e ()>,
-        threads: &mut Vec<JoinHandle<()>>,
-    ) -> Result<(), ServeError> {
-        for number in 0..self.acceptor.threads() as usize {
-            self.acceptor.thread_begins(self.rt);
-            let Ok(thread) = scope.spawn(move || self.serve_connections(number)) else {
-                self.acceptor.thread_ends(self.rt);
-                return Err(ServeError::Thread);
-            };
-            threads.push(thread)?;
-        }
-        Ok(())
-    }
-
-    /// Writes the line that says that connections are accepted.
-    fn announce<O: Write>(&self, output: &mut O) -> Result<(), ServeError> {
-        let door = self.door;
-        match writeln!(output, "listening {door}") {
-            Ok(()) => Ok(()),
-            Err(_) => Err(ServeError::Write),
-        }
-    }
-
-    /// What the thread of that number does: it serves one connection after the other, as long as the acceptor lets one in.
-    fn serve_connections(&self, number: usize) {
-        for _ in self.rt.forever() {
-            let Some(stream) = self.next_connection() else {
-                break;
-            };
-            if let Err(fault) = self.serve_connection(number, stream) {
-                self.reports.put(self.rt, Report::Connection(fault));
-            }
-        }
-        self.acceptor.thread_ends(self.rt);
-    }
-
-    /// The next connection that the acceptor lets in.
-    fn next_connection(&self) -> Option<TcpStream> {
-        match self.acceptor.let_in(self.rt, self.listener) {
-            Ok(stream) => stream,
-            Err(_) => {
-                self.acceptor.fail(self.rt, ServeError::Network);
-                None
-            }
-        }
-    }
-
-    /// Answers a connection of the thread until it ends.
-    fn serve_connection(&self, number: usize, stream: TcpStream) -> Result<(), ConnectionFault> {
-        let Ok(stream) = Arc::new(self.alloc, stream) else {
-            return Err(ConnectionFault::Port(PortError::Memory));
-        };
-        match self.acceptor.enter(self.rt, number, &stream) {
-            Ok(true) => {}
-            Ok(false) => return Ok(()),
-            Err(_) => return Err(ConnectionFault::Port(PortError::Memory)),
-        }
-        let served = self.answer_lines(number, &stream);
-        self.acceptor.leave(self.rt, number);
-        served
-    }
-
-    /// Answers the lines of a connection.
+impl<'e, R: Wait + Clock, L> Answering for Server<'e, R, L> {
     fn answer_lines(&self, number: usize, stream: &TcpStream) -> Result<(), ConnectionFault> {
-        let _ = stream.set_nodelay(true);
-        let idle = self.acceptor.idle();
-        if stream
-            .set_write_timeout(idle.map(Duration::from_micros))
-            .is_err()
-            || stream.set_nonblocking(true).is_err()
-        {
-            return Err(ConnectionFault::Port(PortError::Read));
-        }
-        let incoming = Incoming::new(self.rt, stream, self.acceptor);
+        ready(stream)?;
+        let acceptor = self.connections.acceptor;
+        let incoming = Incoming::new(self.rt, stream, acceptor);
         let ahead = Ahead::new(self.rt, self.alloc, incoming);
-        let mut output = Outgoing::new(self.rt, stream, self.acceptor);
+        let mut output = Outgoing::new(self.rt, stream, acceptor);
         let outcome = self.attend(number, &ahead, &mut output);
         let noted = ahead.fault().or(output.fault());
         end_unless_gone(outcome, noted, ahead.was_gone())
     }
 
+    fn stop(&self) {
+        self.shared.stop(self.rt);
+    }
+
+    fn settle(&self) {
+        for _ in 0..QUIET_LOOKS {
+            if self.shared.is_quiet(self.rt) {
+                return;
+            }
+            thread::sleep(self.rt, Duration::from_millis(1));
+        }
+    }
+}
+
+impl<'e, R: Wait + Clock, L> Server<'e, R, L> {
     /// Answers the lines of the input to the output, and gives back what the connection has then.
     fn attend(
         &self,
