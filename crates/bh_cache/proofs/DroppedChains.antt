@@ -20,9 +20,9 @@ use Rattle.bh_cache.specs.Notes.{AreNoted, is_noted}
 use Rattle.bh_cache.proofs.Noting.{noted_both, noted_none}
 
 -- a slot on a chain has a ticket
-pub live_on_chain : (a : Slots) (g : GroupLists) → IsChained a g → IsArena a 2 → (l x : ℕ) → g.names ≤ l → l < g.unnamed → is_on a 2 l x ≡ true → is_live a g x ≡ true
+pub live_on_chain : (a : Slots) (g : GroupLists) → IsChained a g → IsArena a 1 → (l x : ℕ) → g.names ≤ l → l < g.unnamed → is_on a 1 l x ≡ true → is_live a g x ≡ true
 live_on_chain a g chained arena l x from to on =
-    live_on a g 2 g.names g.unnamed (list_by_name g) chained.names arena l x from (omega (arith, to, chained.lists.unnamed)) (λ q. absurd (omega (arith, to, q, chained.lists.unnamed))) on
+    live_on a g 1 g.names g.unnamed (list_by_name g) chained.names arena l x from (omega (arith, to, chained.lists.unnamed)) (λ q. absurd (omega (arith, to, q, chained.lists.unnamed))) on
 
 -- ---- one chain of a context after another
 
@@ -50,20 +50,20 @@ along_none context g a notes chained = record {
 not_both : (b : Bool) → b ≡ true → b ≡ false → ⊥
 not_both b e f = let k : true ≡ false = sym e ∙ f in cc
 
-module _ (context : ℕ) (g : GroupLists) (n : ℕ) (a b c : Slots) (number more : ℕ) (old now new : Noted) (before : IsDroppedAlong context g n a b number old now) (arena : IsArena b 2) (to : context_chain g context n < g.unnamed)
-    (second : IsDroppedFrom context g (slots_on b 2 (context_chain g context n)) b c more) (second_noted : AreNoted context (λ x. has x (slots_on b 2 (context_chain g context n))) b now new) where
+module _ (context : ℕ) (g : GroupLists) (n : ℕ) (a b c : Slots) (number more : ℕ) (old now new : Noted) (before : IsDroppedAlong context g n a b number old now) (arena : IsArena b 1) (to : context_chain g context n < g.unnamed)
+    (second : IsDroppedFrom context g (slots_on b 1 (context_chain g context n)) b c more) (second_noted : AreNoted context (λ x. has x (slots_on b 1 (context_chain g context n))) b now new) where
   abbrev chain : ℕ
   chain = context_chain g context n
 
-  within_more : (x : ℕ) → has x (before.slots ++ slots_on b 2 chain) ≡ true → is_live a g x ≡ true
-  within_more x e = by (has x before.slots) refl (sym (has_append x before.slots (slots_on b 2 chain)) ∙ e)
+  within_more : (x : ℕ) → has x (before.slots ++ slots_on b 1 chain) ≡ true → is_live a g x ≡ true
+  within_more x e = by (has x before.slots) refl (sym (has_append x before.slots (slots_on b 1 chain)) ∙ e)
     where
-      by : (d : Bool) → has x before.slots ≡ d → (d || is_on b 2 chain x) ≡ true → is_live a g x ≡ true
+      by : (d : Bool) → has x before.slots ≡ d → (d || is_on b 1 chain x) ≡ true → is_live a g x ≡ true
       by true is h = before.within x is
       by false is h = sym (live_same a b g before.dropped.first x) ∙ live_on_chain b g before.dropped.chained arena chain x (omega arith) to h
 
   clean_more : (step x : ℕ) (t : Ticket) → step < n + 1 → is_live c g x ≡ true → slice_get c.payloads x ≡ Some t → is_cached_in context t ≡ true → list_by_name g (Some t) ≡ context_chain g context step → ⊥
-  clean_more step x t lt live is cached on = by (is_on b 2 chain x) refl (slice_get b.payloads x) refl (sym (second.payloads x) ∙ is)
+  clean_more step x t lt live is cached on = by (is_on b 1 chain x) refl (slice_get b.payloads x) refl (sym (second.payloads x) ∙ is)
     where
       live_before : is_live b g x ≡ true
       live_before = sym (live_same b c g second.first x) ∙ live
@@ -72,12 +72,12 @@ module _ (context : ℕ) (g : GroupLists) (n : ℕ) (a b c : Slots) (number more
       gone None e = cc
       gone (Some u) e = let k : uncached_in context u ≡ t = cc in not_both (is_cached_in context t) cached (sym (ap (is_cached_in context) k) ∙ uncached_not context u)
 
-      by : (d : Bool) → is_on b 2 chain x ≡ d → (o : Option Ticket) → slice_get b.payloads x ≡ o → (if d then option_map (uncached_in context) (slice_get b.payloads x) else slice_get b.payloads x) ≡ Some t → ⊥
+      by : (d : Bool) → is_on b 1 chain x ≡ d → (o : Option Ticket) → slice_get b.payloads x ≡ o → (if d then option_map (uncached_in context) (slice_get b.payloads x) else slice_get b.payloads x) ≡ Some t → ⊥
       by true there o was e = gone (slice_get b.payloads x) e
       by false there o was e = elim (cases_eq step n) [
         | inl same ↦
-            not_both (is_on b 2 chain x)
-            (ap (λ l. is_on b 2 l x) (sym (on ∙ ap (context_chain g context) same)) ∙ on_live b g 2 g.names g.unnamed (list_by_name g) before.dropped.chained.names x t live_before e)
+            not_both (is_on b 1 chain x)
+            (ap (λ l. is_on b 1 l x) (sym (on ∙ ap (context_chain g context) same)) ∙ on_live b g 1 g.names g.unnamed (list_by_name g) before.dropped.chained.names x t live_before e)
             there
         | inr other ↦ before.clean step x t (omega (arith, lt, other)) live_before e cached on
       ]
@@ -85,9 +85,9 @@ module _ (context : ℕ) (g : GroupLists) (n : ℕ) (a b c : Slots) (number more
   -- and with the next chain more
   pub along_more : IsDroppedAlong context g (n + 1) a c (number + more) old new
   along_more = record {
-    slots = before.slots ++ slots_on b 2 chain;
-    dropped = dropped_both context g before.slots (slots_on b 2 chain) a b c number more before.dropped second;
-    noted = noted_both context g before.slots (slots_on b 2 chain) a b number old now new before.dropped before.noted second_noted;
+    slots = before.slots ++ slots_on b 1 chain;
+    dropped = dropped_both context g before.slots (slots_on b 1 chain) a b c number more before.dropped second;
+    noted = noted_both context g before.slots (slots_on b 1 chain) a b number old now new before.dropped before.noted second_noted;
     within = within_more;
     clean = clean_more;
   }

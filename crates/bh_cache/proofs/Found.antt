@@ -1,7 +1,6 @@
 -- What is found along a chain is what is found among all of the group's tickets.
 use Rattle.std.proofs.Common.{◌≡◌, ℕ, ◌≤◌, inl, inr, Bool, true, false, List, [], ◌∷◌, Option, Some, None, refl, ◌∙◌, sym, ap, ap₂, subst, arith}
-use Rattle.std.specs.List.{Contains}
-use Rattle.std.specs.Prelude.{◌||◌, ◌&&◌, ◌==◌, nat_eq, reverse, slice_get, IfSome, if◌then◌else◌}
+use Rattle.std.specs.Prelude.{◌||◌, ◌&&◌, ◌==◌, nat_eq, slice_get, if◌then◌else◌}
 use Rattle.std.specs.Cmp.Lexicographic.{pointwise}
 use Rattle.std.proofs.lemmas.Bool.{cases_eq, eq-eqb, ne_eqb}
 use Rattle.bh_base.specs.declared.ticket.Ticket.{Ticket}
@@ -9,12 +8,10 @@ use Rattle.bh_base.specs.Tickets.{is_cached_as}
 use Rattle.bh_slot_arena.specs.Slots.{slots_on}
 use Rattle.bh_cache.specs.declared.lists.GroupLists.{GroupLists}
 use Rattle.bh_cache.specs.Cache.{earliest}
-use Rattle.bh_cache.specs.Chains.{AreOn, IsChained, list_by_name, list_by_serial, list_of_name, name_chain, serial_chain}
-use Rattle.bh_cache.specs.Slots.{Slots, IsArena, has_one, has_serial_in, is_on, is_live, serial_on, ticket_at}
+use Rattle.bh_cache.specs.Chains.{AreOn, IsChained, list_by_name, list_of_name, name_chain}
+use Rattle.bh_cache.specs.Slots.{Slots, IsArena, has_one, is_on, is_live, ticket_at}
 use Rattle.bh_cache.proofs.Earliest.{IsBest, best_among, earliest_best}
-use Rattle.bh_cache.proofs.Placed.{name_chain_not_unnamed, serial_chain_not_free}
-use Rattle.bh_cache.proofs.Members.{has_contained, has_reverse}
-use Rattle.bh_cache.proofs.Walks.{find_off, find_on}
+use Rattle.bh_cache.proofs.Placed.{name_chain_not_unnamed}
 
 module _ (a : Slots) (g : GroupLists) (f first last : ℕ) (to : Option Ticket → ℕ) (are : AreOn f first last to a g) where
   -- a slot of the group that lies on another list than those without a ticket has one
@@ -36,47 +33,6 @@ module _ (a : Slots) (g : GroupLists) (f first last : ℕ) (to : Option Ticket �
       or_true : (b : Bool) → (b || true) ≡ true
       or_true true = refl
       or_true false = refl
-
--- ---- by serial
-
-module _ (a : Slots) (g : GroupLists) (serial : ℕ) (chained : IsChained a g) (arena : IsArena a 1) where
-  abbrev has_it : ℕ → Bool
-  has_it x = has_serial_in serial (slice_get a.payloads x)
-
-  on_chain : (x : ℕ) (o : Option Ticket) → is_live a g x ≡ true → slice_get a.payloads x ≡ o → has_serial_in serial o ≡ true → is_on a 1 (serial_chain g serial) x ≡ true
-  on_chain x None live is e = absurd cc
-  on_chain x (Some t) live is e = elim (cases_eq t.serial serial) [
-    | inl same ↦ ap (λ s. is_on a 1 (serial_chain g s) x) (sym same) ∙ on_live a g 1 g.serials g.free1 (list_by_serial g) chained.serials x t live is
-    | inr ne ↦ let k : false ≡ true = sym (ne_eqb t.serial serial ne) ∙ e in absurd cc
-  ]
-
-  -- a slot that the chain of a serial has for it has a ticket of that serial
-  pub serial_found_on : (r : Option ℕ) → r ≡ serial_on a 1 (serial_chain g serial) serial → IfSome r (λ x. has_serial_in serial (ticket_at a g x) ≡ true)
-  serial_found_on None e = tt
-  serial_found_on (Some x) e =
-      let r = find_on has_it (reverse (slots_on a 1 (serial_chain g serial))) x (sym e) in
-      let k = serial_chain_not_free a g chained.lists serial in
-      let live = live_on a g 1 g.serials g.free1 (list_by_serial g) chained.serials arena (serial_chain g serial) x (omega arith) (omega (arith, k)) (λ q. absurd (omega (arith, k, q))) (sym (has_reverse x (slots_on a 1 (serial_chain g serial))) ∙ r.0) in
-      ap (λ d. has_serial_in serial (if d then slice_get a.payloads x else None)) live ∙ r.1
-
-  -- a slot on the chain of a serial that has a ticket of that serial has it of the group
-  pub serial_at : (x : ℕ) (t : Ticket) → Contains (slots_on a 1 (serial_chain g serial)) x → slice_get a.payloads x ≡ Some t → t.serial ≡ serial → has_serial_in serial (ticket_at a g x) ≡ true
-  serial_at x t on is e =
-      let k = serial_chain_not_free a g chained.lists serial in
-      let live = live_on a g 1 g.serials g.free1 (list_by_serial g) chained.serials arena (serial_chain g serial) x (omega arith) (omega (arith, k)) (λ q. absurd (omega (arith, k, q))) (has_contained (slots_on a 1 (serial_chain g serial)) x on) in
-      ap (λ d. has_serial_in serial (if d then slice_get a.payloads x else None)) live ∙ ap (has_serial_in serial) is ∙ eq-eqb t.serial serial e
-
-  -- where it has none, no ticket of the group has the serial
-  pub serial_none_on : None ≡ serial_on a 1 (serial_chain g serial) serial → (x : ℕ) → has_serial_in serial (ticket_at a g x) ≡ false
-  serial_none_on e x = by (is_live a g x) refl
-    where
-      off : is_live a g x ≡ true → (b : Bool) → has_it x ≡ b → b ≡ false
-      off live false is = refl
-      off live true is = sym is ∙ find_off has_it (reverse (slots_on a 1 (serial_chain g serial))) x (sym e) (has_reverse x (slots_on a 1 (serial_chain g serial)) ∙ on_chain x (slice_get a.payloads x) live refl is)
-
-      by : (b : Bool) → is_live a g x ≡ b → has_serial_in serial (if b then slice_get a.payloads x else None) ≡ false
-      by true live = off live (has_it x) refl
-      by false live = refl
 
 -- ---- by cache name
 
@@ -113,18 +69,18 @@ module _ (g : GroupLists) (name : ℕ × List ℕ) where
       of true e = by t.cached t.cache e
 
 -- the best along the chain of a name is the best of all slots of the group that have a ticket
-pub name_best : (a : Slots) (g : GroupLists) (command : ℕ) (name : ℕ × List ℕ) → IsChained a g → IsArena a 2 → (r : Option ℕ) → r ≡ earliest (is_cached_as command name) a.payloads None (slots_on a 2 (name_chain g name))
+pub name_best : (a : Slots) (g : GroupLists) (command : ℕ) (name : ℕ × List ℕ) → IsChained a g → IsArena a 1 → (r : Option ℕ) → r ≡ earliest (is_cached_as command name) a.payloads None (slots_on a 1 (name_chain g name))
     → IsBest (is_cached_as command name) a.payloads (is_live a g) r
 name_best a g command name chained arena r is =
     let p : Ticket → Bool = is_cached_as command name in
     let k = name_chain_not_unnamed a g chained.lists name in
     let nothing : IsBest p a.payloads (λ y. false) None = λ y e. absurd cc in
-    let along : IsBest p a.payloads (λ y. is_on a 2 (name_chain g name) y) r = subst (IsBest p a.payloads (λ y. is_on a 2 (name_chain g name) y)) (sym is) (earliest_best p a.payloads (slots_on a 2 (name_chain g name)) (λ y. false) None nothing) in
-    best_among p a.payloads (λ y. is_on a 2 (name_chain g name) y) (is_live a g)
-    (λ x on. live_on a g 2 g.names g.unnamed (list_by_name g) chained.names arena (name_chain g name) x (omega arith) (omega (arith, k, chained.lists.unnamed)) (λ q. absurd (omega (arith, k, q, chained.lists.unnamed))) on)
+    let along : IsBest p a.payloads (λ y. is_on a 1 (name_chain g name) y) r = subst (IsBest p a.payloads (λ y. is_on a 1 (name_chain g name) y)) (sym is) (earliest_best p a.payloads (slots_on a 1 (name_chain g name)) (λ y. false) None nothing) in
+    best_among p a.payloads (λ y. is_on a 1 (name_chain g name) y) (is_live a g)
+    (λ x on. live_on a g 1 g.names g.unnamed (list_by_name g) chained.names arena (name_chain g name) x (omega arith) (omega (arith, k, chained.lists.unnamed)) (λ q. absurd (omega (arith, k, q, chained.lists.unnamed))) on)
     (λ x live q. back x (slice_get a.payloads x) live refl q)
     r along
   where
-    back : (x : ℕ) (o : Option Ticket) → is_live a g x ≡ true → slice_get a.payloads x ≡ o → has_one (is_cached_as command name) o ≡ true → is_on a 2 (name_chain g name) x ≡ true
+    back : (x : ℕ) (o : Option Ticket) → is_live a g x ≡ true → slice_get a.payloads x ≡ o → has_one (is_cached_as command name) o ≡ true → is_on a 1 (name_chain g name) x ≡ true
     back x None live is e = absurd cc
-    back x (Some t) live is e = ap (λ l. is_on a 2 l x) (sym (on_name g name command t e)) ∙ on_live a g 2 g.names g.unnamed (list_by_name g) chained.names x t live is
+    back x (Some t) live is e = ap (λ l. is_on a 1 l x) (sym (on_name g name command t e)) ∙ on_live a g 1 g.names g.unnamed (list_by_name g) chained.names x t live is

@@ -7,17 +7,13 @@ use Rattle.bh_base.specs.declared.ticket.Ticket.{Ticket}
 use Rattle.bh_index_lists.specs.Lists.{without}
 use Rattle.bh_slot_arena.specs.Slots.{lists_in, slots_on, with_moved}
 use Rattle.bh_cache.specs.declared.lists.GroupLists.{GroupLists}
-use Rattle.bh_cache.specs.Chains.{AreOn, HasChains, IsChained, IsChainFrame, KeepsLists, is_named, list_by_name, list_by_serial, list_of_name, name_chain, serial_chain, with_placed, with_placed_where}
-use Rattle.bh_cache.specs.Names.{mixed, place_of_name, place_of_serial, top_bits}
+use Rattle.bh_cache.specs.Chains.{AreOn, HasChains, IsChained, IsChainFrame, KeepsLists, is_named, list_by_name, list_of_name, name_chain, with_placed, with_placed_where}
+use Rattle.bh_cache.specs.Names.{mixed, place_of_name, top_bits}
 use Rattle.bh_cache.specs.Places.{home_of, place_among, place_at}
 use Rattle.bh_cache.specs.Slots.{Slots, IsArena, has, is_on, is_live, is_owned, ticket_at}
 use Rattle.bh_cache.proofs.Moves.{families_count, family_stays, list_not_to, lists_count, on_moved, without_absent}
 
--- ---- the places of serials and of names
-
-pub serial_place_within : (serial : ℕ) → place_of_serial serial < 16
-unfolding place_of_serial
-serial_place_within serial = omega arith
+-- ---- the places of names
 
 top_bits_within : (h : ℕ) → top_bits h < 16
 top_bits_within h = omega arith
@@ -37,19 +33,10 @@ place_within n name some = place_at_within n name.0 _ some
 -- ---- the lists on which slots are placed
 
 module _ (a : Slots) (g : GroupLists) (chains : HasChains a g) where
-  -- a slot is placed on one of the group's lists of the second family
-  pub serial_list_within : (o : Option Ticket) → (g.serials ≤ list_by_serial g o) × (list_by_serial g o ≤ g.free1)
-  serial_list_within None = (omega (arith, chains.free1), omega arith)
-  serial_list_within (Some t) = let k = serial_place_within t.serial in (omega (arith, k), omega (arith, k, chains.free1))
-
-  -- and, where it has a ticket, not on the list of those that have none
-  pub serial_chain_not_free : (serial : ℕ) → serial_chain g serial < g.free1
-  serial_chain_not_free serial = let k = serial_place_within serial in omega (arith, k, chains.free1)
-
   pub name_chain_not_unnamed : (name : ℕ × List ℕ) → name_chain g name < g.unnamed
   name_chain_not_unnamed name = let k = place_within (g.unnamed - g.names) name (omega (arith, chains.unnamed)) in omega (arith, k, chains.unnamed)
 
-  -- a slot is placed on one of the group's lists of the third family
+  -- a slot is placed on one of the group's lists of the second family
   pub name_list_within : (o : Option Ticket) → (g.names ≤ list_by_name g o) × (list_by_name g o ≤ g.unnamed)
   name_list_within None = (omega (arith, chains.unnamed), omega arith)
   name_list_within (Some t) = by t.cached t.cache
@@ -129,70 +116,40 @@ keeps_moved f first last to a b g x l was arena wide same low high here from til
 -- the group's slots are the same, and the tickets of all but one; that one has still to be placed for what it has now
 pub record IsUnplaced (g : GroupLists) (x : ℕ) (a b : Slots) : Type 0 where
   pub wide : length b.families ≡ length a.families
-  pub serials : lists_in b 1 ≡ lists_in a 1
-  pub names : lists_in b 2 ≡ lists_in a 2
+  pub names : lists_in b 1 ≡ lists_in a 1
   pub owned : (y : ℕ) → is_owned b g y ≡ is_owned a g y
   pub others : (y : ℕ) → (y ≡ x → ⊥) → ticket_at b g y ≡ ticket_at a g y
   pub here : is_owned a g x ≡ true
 
 module _ (a : Slots) (g : GroupLists) (x : ℕ) (o : Option Ticket) where
-  serials_placed : lists_in (with_placed g x o a) 1 ≡ lists_in (with_moved 1 x (list_by_serial g o) a) 1
-  serials_placed = family_stays (with_moved 1 x (list_by_serial g o) a) 2 1 x (list_by_name g o) (λ e. absurd (omega (arith, e)))
-
   -- the first family stays
   pub first_placed : lists_in (with_placed g x o a) 0 ≡ lists_in a 0
-  first_placed = family_stays (with_moved 1 x (list_by_serial g o) a) 2 0 x (list_by_name g o) (λ e. absurd (omega (arith, e))) ∙ family_stays a 1 0 x (list_by_serial g o) (λ e. absurd (omega (arith, e)))
-
-  -- the third family is as it was before the slot moves in it
-  pub names_before : lists_in (with_moved 1 x (list_by_serial g o) a) 2 ≡ lists_in a 2
-  names_before = family_stays a 1 2 x (list_by_serial g o) (λ e. absurd (omega (arith, e)))
+  first_placed = family_stays a 1 0 x (list_by_name g o) (λ e. absurd (omega (arith, e)))
 
   -- there are as many families as before
   pub families_placed : length (with_placed g x o a).families ≡ length a.families
-  families_placed = families_count (with_moved 1 x (list_by_serial g o) a) 2 x (list_by_name g o) ∙ families_count a 1 x (list_by_serial g o)
+  families_placed = families_count a 1 x (list_by_name g o)
 
   -- in the second family the slot lies on its list and on no other, and all others lie as they did
-  pub on_serials : 2 < length a.families → HasChains a g → (l y : ℕ) → is_on (with_placed g x o a) 1 l y ≡ (if eqb y x then eqb l (list_by_serial g o) else is_on a 1 l y)
-  on_serials wide chains l y =
-      ap (λ (ls : List (List ℕ)). has y (get_or ls l [])) serials_placed
-      ∙ on_moved a 1 x (list_by_serial g o) (omega (arith, wide)) (let k = serial_list_within a g chains o in omega (arith, k.1, chains.serials_there)) l y
+  pub on_names : 1 < length a.families → HasChains a g → (l y : ℕ) → is_on (with_placed g x o a) 1 l y ≡ (if eqb y x then eqb l (list_by_name g o) else is_on a 1 l y)
+  on_names wide chains l y = on_moved a 1 x (list_by_name g o) wide (let k = name_list_within a g chains o in omega (arith, k.1, chains.names_there)) l y
 
-  -- and so in the third
-  pub on_names : 2 < length a.families → HasChains a g → (l y : ℕ) → is_on (with_placed g x o a) 2 l y ≡ (if eqb y x then eqb l (list_by_name g o) else is_on a 2 l y)
-  on_names wide chains l y =
-      let m : Slots = with_moved 1 x (list_by_serial g o) a in
-      on_moved m 2 x (list_by_name g o) (omega (arith, wide, families_count a 1 x (list_by_serial g o))) (let k = name_list_within a g chains o in omega (arith, k.1, chains.names_there, ap (λ (ls : List (List ℕ)). length ls) names_before)) l y
-      ∙ ap (λ (ls : List (List ℕ)). if eqb y x then eqb l (list_by_name g o) else has y (get_or ls l [])) names_before
-
-module _ (a b : Slots) (g : GroupLists) (x : ℕ) (o : Option Ticket) (was : IsChained a g) (first : IsArena a 1) (second : IsArena a 2) (unplaced : IsUnplaced g x a b) where
-  wide : 2 < length b.families
-  wide = omega (arith, second.wide, unplaced.wide)
+module _ (a b : Slots) (g : GroupLists) (x : ℕ) (o : Option Ticket) (was : IsChained a g) (names : IsArena a 1) (unplaced : IsUnplaced g x a b) where
+  wide : 1 < length b.families
+  wide = omega (arith, names.wide, unplaced.wide)
 
   chains : HasChains b g
   chains = record {
-    free1 = was.lists.free1;
     unnamed = was.lists.unnamed;
-    serials_there = omega (arith, was.lists.serials_there, ap (λ (ls : List (List ℕ)). length ls) unplaced.serials);
     names_there = omega (arith, was.lists.names_there, ap (λ (ls : List (List ℕ)). length ls) unplaced.names);
   }
 
   -- the chains of other groups are as before
   pub frame_placed : IsChainFrame g a (with_placed g x o b)
   frame_placed =
-      let m : Slots = with_moved 1 x (list_by_serial g o) b in
-      let s = serial_list_within a g was.lists (ticket_at a g x) in
-      let t = serial_list_within a g was.lists o in
       let n = name_list_within a g was.lists (ticket_at a g x) in
       let p = name_list_within a g was.lists o in
-      let by_serial = keeps_moved 1 g.serials g.free1 (list_by_serial g) a b g x (list_by_serial g o) was.serials first (omega (arith, wide)) unplaced.serials s.0 s.1 unplaced.here t.0 t.1 in
-      let by_name = keeps_moved 2 g.names g.unnamed (list_by_name g) a m g x (list_by_name g o) was.names second (omega (arith, wide, families_count b 1 x (list_by_serial g o))) (names_before b g x o ∙ unplaced.names) n.0 n.1 unplaced.here p.0 p.1 in
-      record {
-        serials = record {
-          count = ap (λ (ls : List (List ℕ)). length ls) (serials_placed b g x o) ∙ by_serial.count;
-          lists = λ l out. ap (λ (ls : List (List ℕ)). get_or ls l []) (serials_placed b g x o) ∙ by_serial.lists l out;
-        };
-        names = by_name;
-      }
+      record { names = keeps_moved 1 g.names g.unnamed (list_by_name g) a b g x (list_by_name g o) was.names names wide unplaced.names n.0 n.1 unplaced.here p.0 p.1 }
 
   -- the slots of the group are those before it was placed
   owned_placed : (y : ℕ) → is_owned (with_placed g x o b) g y ≡ is_owned a g y
@@ -205,20 +162,15 @@ module _ (a b : Slots) (g : GroupLists) (x : ℕ) (o : Option Ticket) (was : IsC
   pub chained_placed : o ≡ ticket_at b g x → IsChained (with_placed g x o b) g
   chained_placed is = record {
     lists = record {
-      free1 = was.lists.free1;
       unnamed = was.lists.unnamed;
-      serials_there = omega (arith, was.lists.serials_there, frame_placed.serials.count);
       names_there = omega (arith, was.lists.names_there, frame_placed.names.count);
     };
-    serials = rechained 1 g.serials g.free1 (list_by_serial g) a (with_placed g x o b) g was.serials owned_placed x unplaced.here (λ y ne. ticket_placed y ∙ unplaced.others y ne)
-        (λ l y ne. on_serials b g x o wide chains l y ∙ ap (λ c. if c then eqb l (list_by_serial g o) else is_on b 1 l y) (ne_eqb y x ne) ∙ ap (λ (ls : List (List ℕ)). has y (get_or ls l [])) unplaced.serials)
-        (ap (λ q. is_on (with_placed g x o b) 1 (list_by_serial g q) x) (ticket_placed x ∙ sym is) ∙ on_serials b g x o wide chains (list_by_serial g o) x ∙ ap (λ c. if c then eqb (list_by_serial g o) (list_by_serial g o) else is_on b 1 (list_by_serial g o) x) (eq-eqb x x refl) ∙ eq-eqb (list_by_serial g o) (list_by_serial g o) refl);
-    names = rechained 2 g.names g.unnamed (list_by_name g) a (with_placed g x o b) g was.names owned_placed x unplaced.here (λ y ne. ticket_placed y ∙ unplaced.others y ne)
-        (λ l y ne. on_names b g x o wide chains l y ∙ ap (λ c. if c then eqb l (list_by_name g o) else is_on b 2 l y) (ne_eqb y x ne) ∙ ap (λ (ls : List (List ℕ)). has y (get_or ls l [])) unplaced.names)
-        (ap (λ q. is_on (with_placed g x o b) 2 (list_by_name g q) x) (ticket_placed x ∙ sym is) ∙ on_names b g x o wide chains (list_by_name g o) x ∙ ap (λ c. if c then eqb (list_by_name g o) (list_by_name g o) else is_on b 2 (list_by_name g o) x) (eq-eqb x x refl) ∙ eq-eqb (list_by_name g o) (list_by_name g o) refl);
+    names = rechained 1 g.names g.unnamed (list_by_name g) a (with_placed g x o b) g was.names owned_placed x unplaced.here (λ y ne. ticket_placed y ∙ unplaced.others y ne)
+        (λ l y ne. on_names b g x o wide chains l y ∙ ap (λ c. if c then eqb l (list_by_name g o) else is_on b 1 l y) (ne_eqb y x ne) ∙ ap (λ (ls : List (List ℕ)). has y (get_or ls l [])) unplaced.names)
+        (ap (λ q. is_on (with_placed g x o b) 1 (list_by_name g q) x) (ticket_placed x ∙ sym is) ∙ on_names b g x o wide chains (list_by_name g o) x ∙ ap (λ c. if c then eqb (list_by_name g o) (list_by_name g o) else is_on b 1 (list_by_name g o) x) (eq-eqb x x refl) ∙ eq-eqb (list_by_name g o) (list_by_name g o) refl);
   }
 
--- ---- a slot is placed, in the third family only where that is told
+-- ---- a slot is placed only where that is told
 
 module _ (named : Bool) (a : Slots) (g : GroupLists) (x : ℕ) (o : Option Ticket) where
   -- the first family stays
@@ -227,7 +179,7 @@ module _ (named : Bool) (a : Slots) (g : GroupLists) (x : ℕ) (o : Option Ticke
     where
       by : (n : Bool) → lists_in (with_placed_where n g x o a) 0 ≡ lists_in a 0
       by true = first_placed a g x o
-      by false = family_stays a 1 0 x (list_by_serial g o) (λ e. absurd (omega (arith, e)))
+      by false = refl
 
   -- there are as many families as before
   pub families_where : length (with_placed_where named g x o a).families ≡ length a.families
@@ -235,87 +187,50 @@ module _ (named : Bool) (a : Slots) (g : GroupLists) (x : ℕ) (o : Option Ticke
     where
       by : (n : Bool) → length (with_placed_where n g x o a).families ≡ length a.families
       by true = families_placed a g x o
-      by false = families_count a 1 x (list_by_serial g o)
+      by false = refl
 
-module _ (a b : Slots) (g : GroupLists) (x : ℕ) (o : Option Ticket) (was : IsChained a g) (first : IsArena a 1) (second : IsArena a 2) (unplaced : IsUnplaced g x a b) where
-  -- the slot moved in the second family alone
-  abbrev moved : Slots
-  moved = with_moved 1 x (list_by_serial g o) b
-
-  wide_moved : 1 < length b.families
-  wide_moved = let k = wide a b g x o was first second unplaced in omega (arith, k)
-
-  names_moved : lists_in moved 2 ≡ lists_in a 2
-  names_moved = names_before b g x o ∙ unplaced.names
-
-  owned_moved : (y : ℕ) → is_owned moved g y ≡ is_owned a g y
-  owned_moved y = owned_same b moved g (first_where false b g x o) y ∙ unplaced.owned y
-
-  ticket_moved : (y : ℕ) → ticket_at moved g y ≡ ticket_at b g y
-  ticket_moved y = ticket_same b moved g (first_where false b g x o) y refl
-
-  frame_moved : IsChainFrame g a moved
-  frame_moved =
-      let s = serial_list_within a g was.lists (ticket_at a g x) in
-      let t = serial_list_within a g was.lists o in
-      record {
-        serials = keeps_moved 1 g.serials g.free1 (list_by_serial g) a b g x (list_by_serial g o) was.serials first wide_moved unplaced.serials s.0 s.1 unplaced.here t.0 t.1;
-        names = record {
-          count = ap (λ (ls : List (List ℕ)). length ls) names_moved;
-          lists = λ l out. ap (λ (ls : List (List ℕ)). get_or ls l []) names_moved;
-        };
-      }
-
-  on_moved_there : (l y : ℕ) → is_on moved 1 l y ≡ (if eqb y x then eqb l (list_by_serial g o) else is_on b 1 l y)
-  on_moved_there l y =
-      let k = serial_list_within a g was.lists o in
-      let n = ap (λ (ls : List (List ℕ)). length ls) unplaced.serials in
-      on_moved b 1 x (list_by_serial g o) wide_moved (omega (arith, k.1, was.lists.serials_there, n)) l y
-
-  same_name : list_by_name g o ≡ list_by_name g (ticket_at a g x) → o ≡ ticket_at b g x → (y : ℕ) → list_by_name g (ticket_at moved g y) ≡ list_by_name g (ticket_at a g y)
+module _ (a b : Slots) (g : GroupLists) (x : ℕ) (o : Option Ticket) (was : IsChained a g) (names : IsArena a 1) (unplaced : IsUnplaced g x a b) where
+  same_name : list_by_name g o ≡ list_by_name g (ticket_at a g x) → o ≡ ticket_at b g x → (y : ℕ) → list_by_name g (ticket_at b g y) ≡ list_by_name g (ticket_at a g y)
   same_name lies is y = elim (cases_eq y x) [
-    | inl e ↦ ap (λ z. list_by_name g (ticket_at moved g z)) e ∙ ap (list_by_name g) (ticket_moved x ∙ sym is) ∙ lies ∙ ap (λ z. list_by_name g (ticket_at a g z)) (sym e)
-    | inr ne ↦ ap (list_by_name g) (ticket_moved y ∙ unplaced.others y ne)
+    | inl e ↦ ap (λ z. list_by_name g (ticket_at b g z)) e ∙ ap (list_by_name g) (sym is) ∙ lies ∙ ap (λ z. list_by_name g (ticket_at a g z)) (sym e)
+    | inr ne ↦ ap (list_by_name g) (unplaced.others y ne)
   ]
 
-  chained_moved : list_by_name g o ≡ list_by_name g (ticket_at a g x) → o ≡ ticket_at b g x → IsChained moved g
-  chained_moved lies is = record {
+  chained_left : list_by_name g o ≡ list_by_name g (ticket_at a g x) → o ≡ ticket_at b g x → IsChained b g
+  chained_left lies is = record {
     lists = record {
-      free1 = was.lists.free1;
       unnamed = was.lists.unnamed;
-      serials_there = omega (arith, was.lists.serials_there, frame_moved.serials.count);
-      names_there = omega (arith, was.lists.names_there, frame_moved.names.count);
+      names_there = omega (arith, was.lists.names_there, ap (λ (ls : List (List ℕ)). length ls) unplaced.names);
     };
-    serials = rechained 1 g.serials g.free1 (list_by_serial g) a moved g was.serials owned_moved x unplaced.here (λ y ne. ticket_moved y ∙ unplaced.others y ne)
-        (λ l y ne. on_moved_there l y ∙ ap (λ c. if c then eqb l (list_by_serial g o) else is_on b 1 l y) (ne_eqb y x ne) ∙ ap (λ (ls : List (List ℕ)). has y (get_or ls l [])) unplaced.serials)
-        (ap (λ q. is_on moved 1 (list_by_serial g q) x) (ticket_moved x ∙ sym is) ∙ on_moved_there (list_by_serial g o) x ∙ ap (λ c. if c then eqb (list_by_serial g o) (list_by_serial g o) else is_on b 1 (list_by_serial g o) x) (eq-eqb x x refl) ∙ eq-eqb (list_by_serial g o) (list_by_serial g o) refl);
-    names = chained_still 2 g.names g.unnamed (list_by_name g) a moved g was.names owned_moved names_moved (same_name lies is);
+    names = chained_still 1 g.names g.unnamed (list_by_name g) a b g was.names unplaced.owned unplaced.names (same_name lies is);
   }
 
   -- the chains of other groups are as before
   pub frame_where : (named : Bool) → IsChainFrame g a (with_placed_where named g x o b)
-  frame_where true = frame_placed a b g x o was first second unplaced
-  frame_where false = frame_moved
+  frame_where true = frame_placed a b g x o was names unplaced
+  frame_where false = record {
+    names = record {
+      count = ap (λ (ls : List (List ℕ)). length ls) unplaced.names;
+      lists = λ l out. ap (λ (ls : List (List ℕ)). get_or ls l []) unplaced.names;
+    };
+  }
 
   -- where the slot is placed for what it has, and stays on a list only where it belongs there as before, each slot of the group lies where it is placed
   pub chained_where : (named : Bool) → (named ≡ false → list_by_name g o ≡ list_by_name g (ticket_at a g x)) → o ≡ ticket_at b g x → IsChained (with_placed_where named g x o b) g
-  chained_where true lies is = chained_placed a b g x o was first second unplaced is
-  chained_where false lies is = chained_moved (lies refl) is
+  chained_where true lies is = chained_placed a b g x o was names unplaced is
+  chained_where false lies is = chained_left (lies refl) is
 
 -- ---- chains that stay
 
 -- where no slot's list changes, each slot still lies where it is placed
-pub chained_same : (a b : Slots) (g : GroupLists) → IsChained a g → lists_in b 1 ≡ lists_in a 1 → lists_in b 2 ≡ lists_in a 2 → ((y : ℕ) → is_owned b g y ≡ is_owned a g y)
-    → ((y : ℕ) → list_by_serial g (ticket_at b g y) ≡ list_by_serial g (ticket_at a g y)) → ((y : ℕ) → list_by_name g (ticket_at b g y) ≡ list_by_name g (ticket_at a g y)) → IsChained b g
-chained_same a b g was serials names owned by_serial by_name = record {
+pub chained_same : (a b : Slots) (g : GroupLists) → IsChained a g → lists_in b 1 ≡ lists_in a 1 → ((y : ℕ) → is_owned b g y ≡ is_owned a g y)
+    → ((y : ℕ) → list_by_name g (ticket_at b g y) ≡ list_by_name g (ticket_at a g y)) → IsChained b g
+chained_same a b g was names owned by_name = record {
   lists = record {
-    free1 = was.lists.free1;
     unnamed = was.lists.unnamed;
-    serials_there = omega (arith, was.lists.serials_there, ap (λ (ls : List (List ℕ)). length ls) serials);
     names_there = omega (arith, was.lists.names_there, ap (λ (ls : List (List ℕ)). length ls) names);
   };
-  serials = chained_still 1 g.serials g.free1 (list_by_serial g) a b g was.serials owned serials by_serial;
-  names = chained_still 2 g.names g.unnamed (list_by_name g) a b g was.names owned names by_name;
+  names = chained_still 1 g.names g.unnamed (list_by_name g) a b g was.names owned names by_name;
 }
 
 keeps_same : (f first last : ℕ) (a b : Slots) → lists_in b f ≡ lists_in a f → KeepsLists f first last a b
@@ -330,19 +245,17 @@ keeps_both f first last a b c p q = record {
   lists = λ l out. q.lists l out ∙ p.lists l out;
 }
 
--- where the second and the third family stay, so do the chains of other groups
-pub frame_same : (g : GroupLists) (a b : Slots) → lists_in b 1 ≡ lists_in a 1 → lists_in b 2 ≡ lists_in a 2 → IsChainFrame g a b
-frame_same g a b serials names = record {
-  serials = keeps_same 1 g.serials g.free1 a b serials;
-  names = keeps_same 2 g.names g.unnamed a b names;
+-- where the second family stays, so do the chains of other groups
+pub frame_same : (g : GroupLists) (a b : Slots) → lists_in b 1 ≡ lists_in a 1 → IsChainFrame g a b
+frame_same g a b names = record {
+  names = keeps_same 1 g.names g.unnamed a b names;
 }
 
 pub frame_refl : (g : GroupLists) (a : Slots) → IsChainFrame g a a
-frame_refl g a = frame_same g a a refl refl
+frame_refl g a = frame_same g a a refl
 
 -- what stays twice stays
 pub frame_trans : (g : GroupLists) (a b c : Slots) → IsChainFrame g a b → IsChainFrame g b c → IsChainFrame g a c
 frame_trans g a b c p q = record {
-  serials = keeps_both 1 g.serials g.free1 a b c p.serials q.serials;
-  names = keeps_both 2 g.names g.unnamed a b c p.names q.names;
+  names = keeps_both 1 g.names g.unnamed a b c p.names q.names;
 }

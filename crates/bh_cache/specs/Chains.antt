@@ -1,17 +1,12 @@
--- The chains on which a group's tickets are found: sixteen by serial, and as many as the group has by cache name.
+-- The chains on which a group's cached tickets are found, by their names.
 use Rattle.std.specs.Prelude.{◌≡◌, ℕ, ◌+◌, ◌-◌, ◌<◌, ◌≤◌, ◌&&◌, if◌then◌else◌, Bool, true, false, List, length, Option, Some, None, is_some}
 use Rattle.bh_base.specs.declared.ticket.Ticket.{Ticket}
 use Rattle.bh_slot_arena.specs.Slots.{lists_in, slots_on, with_moved}
 use Rattle.bh_cache.specs.declared.lists.GroupLists.{GroupLists}
-use Rattle.bh_cache.specs.Names.{place_of_serial}
 use Rattle.bh_cache.specs.Places.{place_among, place_at}
 use Rattle.bh_cache.specs.Slots.{Slots, is_on, is_owned, ticket_at}
 
 -- ---- the list of a ticket
-
--- the chain of a serial
-abbrev pub serial_chain : GroupLists → ℕ → ℕ
-serial_chain g serial = g.serials + place_of_serial serial
 
 -- one of the sixteen chains of a request context
 abbrev pub context_chain : GroupLists → ℕ → ℕ → ℕ
@@ -21,29 +16,22 @@ context_chain g context step = g.names + place_at (g.unnamed - g.names) context 
 abbrev pub name_chain : GroupLists → ℕ × List ℕ → ℕ
 name_chain g name = g.names + place_among (g.unnamed - g.names) name
 
--- the list of the second family for a slot that has this ticket, or none
-abbrev pub list_by_serial : GroupLists → Option Ticket → ℕ
-list_by_serial g None = g.free1
-list_by_serial g (Some t) = serial_chain g t.serial
-
--- the list of the third family for a ticket that is cached and was given this name, or none
+-- the list of the second family for a ticket that is cached and was given this name, or none
 abbrev pub list_of_name : GroupLists → Option (ℕ × List ℕ) → ℕ
 list_of_name g None = g.unnamed
 list_of_name g (Some name) = name_chain g name
 
--- the list of the third family for a slot that has this ticket, or none
+-- the list of the second family for a slot that has this ticket, or none
 abbrev pub list_by_name : GroupLists → Option Ticket → ℕ
 list_by_name g None = g.unnamed
 list_by_name g (Some t) = if t.cached then list_of_name g t.cache else g.unnamed
 
 -- ---- the slots of a group on their lists
 
--- the lists of the second and the third family are there, and follow on one another, and there is a chain by cache name
+-- the lists of the second family are there, and there is a chain by cache name
 pub record HasChains (a : Slots) (g : GroupLists) : Type 0 where
-  pub free1 : g.free1 ≡ g.serials + 16
   pub unnamed : g.names < g.unnamed
-  pub serials_there : g.free1 < length (lists_in a 1)
-  pub names_there : g.unnamed < length (lists_in a 2)
+  pub names_there : g.unnamed < length (lists_in a 1)
 
 -- each of the group's slots lies on the family's list for what it has, and only the group's slots lie on the group's lists
 pub record AreOn (family first last : ℕ) (to : Option Ticket → ℕ) (a : Slots) (g : GroupLists) : Type 0 where
@@ -53,8 +41,7 @@ pub record AreOn (family first last : ℕ) (to : Option Ticket → ℕ) (a : Slo
 -- each slot of the group lies where `place` puts it, and a free one where `place_free` does
 pub record IsChained (a : Slots) (g : GroupLists) : Type 0 where
   pub lists : HasChains a g
-  pub serials : AreOn 1 g.serials g.free1 (list_by_serial g) a g
-  pub names : AreOn 2 g.names g.unnamed (list_by_name g) a g
+  pub names : AreOn 1 g.names g.unnamed (list_by_name g) a g
 
 -- the family has as many lists as before, and all but those from the first to the last are as before
 pub record KeepsLists (family first last : ℕ) (a b : Slots) : Type 0 where
@@ -63,20 +50,19 @@ pub record KeepsLists (family first last : ℕ) (a b : Slots) : Type 0 where
 
 -- the chains of other groups are as before
 pub record IsChainFrame (g : GroupLists) (a b : Slots) : Type 0 where
-  pub serials : KeepsLists 1 g.serials g.free1 a b
-  pub names : KeepsLists 2 g.names g.unnamed a b
+  pub names : KeepsLists 1 g.names g.unnamed a b
 
 -- ---- a slot is placed
 
--- the slot, which has this ticket or none, put last on its lists of the second and the third family
+-- the slot, which has this ticket or none, put last on its list of the second family
 abbrev pub with_placed : GroupLists → ℕ → Option Ticket → Slots → Slots
-with_placed g x o a = with_moved 2 x (list_by_name g o) (with_moved 1 x (list_by_serial g o) a)
+with_placed g x o a = with_moved 1 x (list_by_name g o) a
 
 -- a slot that has this ticket, or none, lies on a chain by cache name
 abbrev pub is_named : Option Ticket → Bool
 is_named None = false
 is_named (Some t) = t.cached && is_some t.cache
 
--- the slot put last on its list of the second family, and in the third only where that is told
+-- the slot put last on its list of the second family where that is told, and left where it is else
 abbrev pub with_placed_where : Bool → GroupLists → ℕ → Option Ticket → Slots → Slots
-with_placed_where named g x o a = if named then with_placed g x o a else with_moved 1 x (list_by_serial g o) a
+with_placed_where named g x o a = if named then with_placed g x o a else a

@@ -1,9 +1,5 @@
--- How serials are spread over sixteen chains, and cache names over the sixteen of their request context.
+-- How cache names are spread over the sixteen chains of their request context.
 use Rattle.std.specs.Prelude.{ℕ, ◌+◌, ◌*◌, ◌^◌, ◌/◌, ◌%◌, List, [], ◌∷◌}
-
--- neighbours fall on different chains
-unfoldable pub place_of_serial : ℕ → ℕ
-place_of_serial serial = serial % 16
 
 -- each byte of a text is mixed into what came before
 abbrev pub mixed : ℕ → List ℕ → ℕ

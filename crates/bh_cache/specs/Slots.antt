@@ -1,5 +1,5 @@
 -- What lies on the lists of an arena of tickets.
-use Rattle.std.specs.Prelude.{◌≡◌, ℕ, zero, suc, ◌+◌, ◌<◌, ◌≤◌, Bool, true, false, ◌||◌, ◌==◌, eqb, find, List, [], ◌∷◌, length, reverse, Option, Some, None, slice_get, if◌then◌else◌}
+use Rattle.std.specs.Prelude.{◌≡◌, ℕ, zero, suc, ◌+◌, ◌<◌, ◌≤◌, Bool, true, false, ◌||◌, ◌==◌, eqb, List, [], ◌∷◌, length, Option, Some, None, slice_get, if◌then◌else◌}
 use Rattle.bh_base.specs.declared.ticket.Ticket.{Ticket}
 use Rattle.bh_base.specs.declared.ticket.TicketState.{TicketState}
 use Rattle.bh_base.specs.declared.ticket.TicketState.TheVariants as ticket
@@ -71,10 +71,6 @@ abbrev pub has_serial_in : ℕ → Option Ticket → Bool
 has_serial_in serial None = false
 has_serial_in serial (Some t) = t.serial == serial
 
--- the last slot of the family's list whose ticket has the serial
-abbrev pub serial_on : Slots → ℕ → ℕ → ℕ → Option ℕ
-serial_on a family l serial = find (λ x. has_serial_in serial (slice_get a.payloads x)) (reverse (slots_on a family l))
-
 -- ---- by serials
 
 abbrev pub serial_in : Option Ticket → ℕ
@@ -120,5 +116,4 @@ pub record IsFrame (g : GroupLists) (a b : Slots) : Type 0 where
 -- the groups have no list in common, in any family
 pub record IsApart (g h : GroupLists) : Type 0 where
   pub apart : (l : ℕ) → IsOwn g l → IsOwn h l → ⊥
-  pub serials : (l : ℕ) → (g.serials ≤ l) × (l ≤ g.free1) → (h.serials ≤ l) × (l ≤ h.free1) → ⊥
   pub names : (l : ℕ) → (g.names ≤ l) × (l ≤ g.unnamed) → (h.names ≤ l) × (l ≤ h.unnamed) → ⊥

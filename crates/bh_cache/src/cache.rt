@@ -22,7 +22,7 @@ const FEW: usize = 8;
 /// The slot of the ticket of the group's command that is cached under the request context and the key, the one of the
 /// least serial where there are several; None only where there is none.
 pub fn find(
-    arena: &Arena<Ticket, 3>,
+    arena: &Arena<Ticket, 2>,
     lists: &GroupLists,
     command: u8,
     context: u64,
@@ -32,7 +32,7 @@ pub fn find(
     ensures found { IfSome result (λ slot. IsEarliest (is_cached_as command (context, key.now)) arena.now lists.now slot) }
     ensures none { result ≡ None → (slot : ℕ) → has_one (is_cached_as command (context, key.now)) (ticket_at arena.now lists.now slot) ≡ false }
 {
-    arena.partition(2);
+    arena.partition(1);
     let chain = name_chain(lists, context, key);
     find_on(arena, chain, command, context, key)
 }
@@ -41,7 +41,7 @@ pub fn find(
 /// it was, as do each other slot and the lists of the first family. Each slot lies where `place` puts it. The number
 /// of those that were cached, whose slots are noted.
 pub fn drop_context(
-    arena: &mut Arena<Ticket, 3>,
+    arena: &mut Arena<Ticket, 2>,
     lists: &GroupLists,
     context: u64,
     notes: &mut Noted,
@@ -59,7 +59,7 @@ pub fn drop_context(
 }
 
 /// Whether a walk over all of the group's tickets is short beside one over the chains of a context.
-fn has_few(arena: &Arena<Ticket, 3>, lists: &GroupLists) -> bool
+fn has_few(arena: &Arena<Ticket, 2>, lists: &GroupLists) -> bool
     requires { HasLists arena.now lists.now }
 {
     arena.partition(0);
@@ -71,7 +71,7 @@ fn has_few(arena: &Arena<Ticket, 3>, lists: &GroupLists) -> bool
 /// None of the group's tickets is cached in the context any more. The number of those that were. It looks at each of the
 /// group's tickets.
 fn drop_listed(
-    arena: &mut Arena<Ticket, 3>,
+    arena: &mut Arena<Ticket, 2>,
     lists: &GroupLists,
     context: u64,
     notes: &mut Noted,
@@ -90,32 +90,32 @@ fn drop_listed(
 
 /// The slot of the least serial among those of the chain that are cached of the command under the context and the key.
 fn find_on(
-    arena: &Arena<Ticket, 3>,
+    arena: &Arena<Ticket, 2>,
     chain: usize,
     command: u8,
     context: u64,
     key: &Text<32>,
 ) -> Option<u32>
-    requires { chain < length (lists_in arena.now 2) }
-    ensures { result ≡ earliest (is_cached_as command (context, key.now)) arena.now.payloads None (slots_on arena.now 2 chain) }
+    requires { chain < length (lists_in arena.now 1) }
+    ensures { result ≡ earliest (is_cached_as command (context, key.now)) arena.now.payloads None (slots_on arena.now 1 chain) }
 {
-    arena.partition(2);
+    arena.partition(1);
     let mut found = None;
-    let mut ahead = arena.front(2, chain);
-    for _ in 0..arena.len_of(2, chain) {
+    let mut ahead = arena.front(1, chain);
+    for _ in 0..arena.len_of(1, chain) {
         let Some(slot) = ahead else {
             return found;
         };
         if has_name(arena.get(slot), command, context, key) {
             found = Some(earlier(arena, found, slot));
         }
-        ahead = arena.next(2, slot);
+        ahead = arena.next(1, slot);
     }
     found
 }
 
 /// Of two slots that whose ticket has the lesser serial.
-fn earlier(arena: &Arena<Ticket, 3>, found: Option<u32>, slot: u32) -> u32
+fn earlier(arena: &Arena<Ticket, 2>, found: Option<u32>, slot: u32) -> u32
     requires slot { slot < length arena.now.payloads }
     requires found { IfSome found (λ other. other < length arena.now.payloads) }
     ensures earlier { result ≡ earlier arena.now.payloads found slot }
@@ -133,7 +133,7 @@ fn earlier(arena: &Arena<Ticket, 3>, found: Option<u32>, slot: u32) -> u32
 
 /// The tickets of one of the group's lists are cached in the context no more. The number of those that were.
 fn drop_on(
-    arena: &mut Arena<Ticket, 3>,
+    arena: &mut Arena<Ticket, 2>,
     lists: &GroupLists,
     list: usize,
     context: u64,
@@ -160,7 +160,7 @@ fn drop_on(
 
 /// The ticket of a slot is cached in the context no more. 1 where it was, and the slot is noted, else 0.
 pub(crate) fn drop_at(
-    arena: &mut Arena<Ticket, 3>,
+    arena: &mut Arena<Ticket, 2>,
     lists: &GroupLists,
     slot: u32,
     context: u64,
@@ -173,13 +173,12 @@ pub(crate) fn drop_at(
     ensures noted { AreNoted context (λ x. has x (slot ∷ [])) arena.old notes.old notes.new }
 
     // Each chain has lost the slot where its ticket was cached in the context, and is as it was else.
-    ensures walk { (l : ℕ) → l ≢ lists.now.unnamed → slots_on arena.new 2 l ≡ without_if (has_one (is_cached_in context) (slice_get arena.old.payloads slot)) slot (slots_on arena.old 2 l) }
+    ensures walk { (l : ℕ) → l ≢ lists.now.unnamed → slots_on arena.new 1 l ≡ without_if (has_one (is_cached_in context) (slice_get arena.old.payloads slot)) slot (slots_on arena.old 1 l) }
 {
     if !has_context(arena.get(slot), context) {
         return 0;
     }
     arena.partition(1);
-    arena.partition(2);
     arena.get_mut(slot).cached = false;
     place(arena, lists, slot);
     *notes = with_slot(*notes, slot);

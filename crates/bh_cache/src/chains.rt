@@ -1,65 +1,56 @@
-//! The chains on which a group's tickets are found: sixteen by serial, and as many as the group has by cache name.
+//! The chains on which a group's cached tickets are found, by their names.
 
-ghost use Rattle.std.specs.Prelude.{◌≡◌, ◌+◌, ◌<◌, ◌^◌, Some, None, length, slice_get};
-ghost use Rattle.bh_cache.specs.Chains.{HasChains, context_chain, is_named, list_by_name, name_chain, serial_chain, with_placed, with_placed_where};
+ghost use Rattle.std.specs.Prelude.{◌≡◌, ◌<◌, Some, None, length, slice_get};
+ghost use Rattle.bh_cache.specs.Chains.{HasChains, context_chain, is_named, list_by_name, name_chain, with_placed, with_placed_where};
 
 use crate::lists::GroupLists;
 use crate::places::{place_among, place_at};
-use bh_base::{Serial, Text, Ticket};
+use bh_base::{Text, Ticket};
 use bh_slot_arena::Arena;
 
-/// Moves the slot of a ticket to the ends of the chain of its serial and of the chain of its cache name, or, where it is
-/// not cached, of the list of slots without a cached ticket, and changes nothing else.
-pub fn place(arena: &mut Arena<Ticket, 3>, lists: &GroupLists, slot: u32)
+/// Moves the slot of a ticket to the end of the chain of its cache name, or, where it is not cached, of the list of slots
+/// without a cached ticket, and changes nothing else.
+pub fn place(arena: &mut Arena<Ticket, 2>, lists: &GroupLists, slot: u32)
     requires lists { HasChains arena.old lists.now }
     requires slot { slot < length arena.old.payloads }
     ensures { arena.new ≡ with_placed lists.now slot (slice_get arena.old.payloads slot) arena.old }
 {
-    let ticket = arena.get(slot);
-    let serials = serial_chain(lists, ticket.serial);
-    let names = list_by_name(lists, ticket);
-    arena.move_to_back(1, slot, serials);
-    arena.move_to_back(2, slot, names);
+    let names = list_by_name(lists, arena.get(slot));
+    arena.move_to_back(1, slot, names);
 }
 
-/// Moves a slot that has no ticket any more to the ends of the list of such slots in the second family, and of that of
-/// slots without a cached ticket in the third, and changes nothing else.
-pub fn place_free(arena: &mut Arena<Ticket, 3>, lists: &GroupLists, slot: u32)
+/// Moves a slot that has no ticket any more to the end of the list of slots without a cached ticket, and changes nothing
+/// else.
+pub fn place_free(arena: &mut Arena<Ticket, 2>, lists: &GroupLists, slot: u32)
     requires lists { HasChains arena.old lists.now }
     requires slot { slot < length arena.old.payloads }
     ensures { arena.new ≡ with_placed lists.now slot None arena.old }
 {
-    arena.move_to_back(1, slot, lists.free1);
-    arena.move_to_back(2, slot, lists.unnamed);
+    arena.move_to_back(1, slot, lists.unnamed);
 }
 
-/// Moves the slot of a ticket that had none before as `place` does. One that is not cached stays where it is in the third
-/// family: on the list of slots without a cached ticket it lies already.
-pub fn place_new(arena: &mut Arena<Ticket, 3>, lists: &GroupLists, slot: u32)
+/// Moves the slot of a ticket that had none before as `place` does. One that is not cached stays where it is: on the list
+/// of slots without a cached ticket it lies already.
+pub fn place_new(arena: &mut Arena<Ticket, 2>, lists: &GroupLists, slot: u32)
     requires lists { HasChains arena.old lists.now }
     requires slot { slot < length arena.old.payloads }
     ensures { arena.new ≡ with_placed_where (is_named (slice_get arena.old.payloads slot)) lists.now slot (slice_get arena.old.payloads slot) arena.old }
 {
     if is_named(arena.get(slot)) {
         place(arena, lists, slot);
-        return;
     }
-    let chain = serial_chain(lists, arena.get(slot).serial);
-    arena.move_to_back(1, slot, chain);
 }
 
-/// Moves the slot whose ticket has just gone as `place_free` does. One that was not cached stays where it is in the third
-/// family: on the list of slots without a cached ticket it lies already.
-pub fn place_gone(arena: &mut Arena<Ticket, 3>, lists: &GroupLists, slot: u32)
+/// Moves the slot whose ticket has just gone as `place_free` does. One that was not cached stays where it is: on the list
+/// of slots without a cached ticket it lies already.
+pub fn place_gone(arena: &mut Arena<Ticket, 2>, lists: &GroupLists, slot: u32)
     requires lists { HasChains arena.old lists.now }
     requires slot { slot < length arena.old.payloads }
     ensures { arena.new ≡ with_placed_where (is_named (slice_get arena.old.payloads slot)) lists.now slot None arena.old }
 {
     if is_named(arena.get(slot)) {
         place_free(arena, lists, slot);
-        return;
     }
-    arena.move_to_back(1, slot, lists.free1);
 }
 
 /// Whether the ticket lies on a chain by cache name.
@@ -67,15 +58,6 @@ fn is_named(ticket: &Ticket) -> bool
     ensures { result ≡ is_named (Some ticket.now) }
 {
     ticket.cached && ticket.cache.is_some()
-}
-
-/// The chain of a serial.
-pub(crate) fn serial_chain(lists: &GroupLists, serial: Serial) -> usize
-    requires { lists.now.free1 ≡ lists.now.serials + 16 }
-    ensures { result ≡ serial_chain lists.now serial }
-{
-    let lists = *lists;
-    lists.serials + (serial % 16) as usize
 }
 
 /// One of the sixteen chains of a request context.
@@ -98,7 +80,7 @@ pub(crate) fn name_chain(lists: &GroupLists, context: u64, key: &Text<32>) -> us
     lists.names + place_among(lists.unnamed - lists.names, context, key)
 }
 
-/// The list of the third family for a ticket.
+/// The list of the second family for a ticket.
 fn list_by_name(lists: &GroupLists, ticket: &Ticket) -> usize
     requires { lists.now.names < lists.now.unnamed }
     ensures { result ≡ list_by_name lists.now (Some ticket.now) }

@@ -17,7 +17,7 @@ use bh_slot_arena::Arena;
 /// None of the group's tickets is cached in the context any more. The number of those that were, whose slots are
 /// noted. It looks at the sixteen chains of the context alone, on which each ticket lies that is cached in it.
 pub(crate) fn drop_chained(
-    arena: &mut Arena<Ticket, 3>,
+    arena: &mut Arena<Ticket, 2>,
     lists: &GroupLists,
     context: u64,
     notes: &mut Noted,
@@ -29,7 +29,7 @@ pub(crate) fn drop_chained(
     let mut number = 0;
     for step in 0..16 {
         let chain = context_chain(lists, context, step);
-        arena.partition(2);
+        arena.partition(1);
         number += drop_chain(arena, lists, chain, context, notes);
     }
     number
@@ -38,7 +38,7 @@ pub(crate) fn drop_chained(
 /// The tickets of one of the group's chains of cached tickets are cached in the context no more. The number of those that
 /// were, whose slots are noted.
 fn drop_chain(
-    arena: &mut Arena<Ticket, 3>,
+    arena: &mut Arena<Ticket, 2>,
     lists: &GroupLists,
     chain: usize,
     context: u64,
@@ -47,18 +47,18 @@ fn drop_chain(
     requires from { lists.now.names ≤ chain }
     requires to { chain < lists.now.unnamed }
     requires chained { IsChained arena.old lists.now }
-    ensures dropped { IsDroppedFrom context lists.now (slots_on arena.old 2 chain) arena.old arena.new result }
-    ensures noted { AreNoted context (λ x. has x (slots_on arena.old 2 chain)) arena.old notes.old notes.new }
+    ensures dropped { IsDroppedFrom context lists.now (slots_on arena.old 1 chain) arena.old arena.new result }
+    ensures noted { AreNoted context (λ x. has x (slots_on arena.old 1 chain)) arena.old notes.old notes.new }
 {
     let mut number = 0;
-    let mut ahead = arena.front(2, chain);
-    for _ in 0..arena.len_of(2, chain) {
+    let mut ahead = arena.front(1, chain);
+    for _ in 0..arena.len_of(1, chain) {
         let Some(slot) = ahead else {
             return number;
         };
-        arena.partition(2);
+        arena.partition(1);
         // Before the slot leaves the chain.
-        ahead = arena.next(2, slot);
+        ahead = arena.next(1, slot);
         number += drop_at(arena, lists, slot, context, notes);
     }
     number

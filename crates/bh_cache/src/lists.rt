@@ -1,7 +1,7 @@
 //! The lists of a group in the arena that holds the tickets of all groups.
 
-/// The numbers of one group's lists in each family of the arena: the first has its tickets by state, the second by
-/// serial, and the third by cache name. Of chains it has the number of the first, on which the others follow.
+/// The numbers of one group's lists in each family of the arena: the first has its tickets by state, the second by cache
+/// name. Of chains it has the number of the first, on which the others follow.
 #[derive(Clone, Copy, Debug)]
 pub struct GroupLists {
     /// Slots that have no ticket.
@@ -12,12 +12,8 @@ pub struct GroupLists {
     pub running: usize,
     /// All other tickets.
     pub settled: usize,
-    /// Of the second family: sixteen chains of tickets, by serial.
-    pub serials: usize,
-    /// Of the second family: slots that have no ticket.
-    pub free1: usize,
-    /// Of the third family: chains of cached tickets, by request context and cache key: as many as go up to `unnamed`.
+    /// Of the second family: chains of cached tickets, by request context and cache key: as many as go up to `unnamed`.
     pub names: usize,
-    /// Of the third family: slots without a cached ticket, be it that they have none or that theirs is not cached.
+    /// Of the second family: slots without a cached ticket, be it that they have none or that theirs is not cached.
     pub unnamed: usize,
 }

@@ -37,15 +37,12 @@ map_same f g (y ∷ ys) same = λ i. same 0 y refl i ∷ map_same f g ys (λ j s
 
 -- ---- lists more
 
-module _ (n m k : ℕ) (a b : Slots) (ss : List GroupSlots) (whole : AreGroupSlots a ss) (more : HasNewLists n m k a b) where
+module _ (n k : ℕ) (a b : Slots) (ss : List GroupSlots) (whole : AreGroupSlots a ss) (more : HasNewLists n k a b) where
   on_first : (l : ℕ) → slots_on b 0 l ≡ slots_on a 0 l
   on_first l = ap (λ (ls : List (List ℕ)). get_or ls l []) more.first ∙ append_empty (lists_in a 0) n l
 
   on_second : (l : ℕ) → slots_on b 1 l ≡ slots_on a 1 l
-  on_second l = ap (λ (ls : List (List ℕ)). get_or ls l []) more.second ∙ append_empty (lists_in a 1) m l
-
-  on_third : (l : ℕ) → slots_on b 2 l ≡ slots_on a 2 l
-  on_third l = ap (λ (ls : List (List ℕ)). get_or ls l []) more.third ∙ append_empty (lists_in a 2) k l
+  on_second l = ap (λ (ls : List (List ℕ)). get_or ls l []) more.second ∙ append_empty (lists_in a 1) k l
 
   on_same : (l x : ℕ) → is_on b 0 l x ≡ is_on a 0 l x
   on_same l x = ap (has x) (on_first l)
@@ -66,13 +63,9 @@ module _ (n m k : ℕ) (a b : Slots) (ss : List GroupSlots) (whole : AreGroupSlo
     count = omega (arith, ap (λ (ls : List (List ℕ)). length ls) more.first, length-append (lists_in a 0) (replicate n []));
     lists = λ l own. on_first l;
     payloads = λ l x own on. ap (λ (ps : List Ticket). slice_get ps x) more.payloads;
-    serials = record {
-      count = omega (arith, ap (λ (ls : List (List ℕ)). length ls) more.second, length-append (lists_in a 1) (replicate m []));
-      lists = λ l from to. on_second l;
-    };
     names = record {
-      count = omega (arith, ap (λ (ls : List (List ℕ)). length ls) more.third, length-append (lists_in a 2) (replicate k []));
-      lists = λ l from to. on_third l;
+      count = omega (arith, ap (λ (ls : List (List ℕ)). length ls) more.second, length-append (lists_in a 1) (replicate k []));
+      lists = λ l from to. on_second l;
     };
   }
 
@@ -88,8 +81,8 @@ module _ (n m k : ℕ) (a b : Slots) (ss : List GroupSlots) (whole : AreGroupSlo
 
 -- with some empty lists more, the groups are as they should be
 pub whole_more : (a b : Slots) (ss : List GroupSlots) → AreGroupSlots a ss → HasMoreLists a b → AreGroupSlots b ss
-whole_more a b ss whole more = whole_new more.first more.second more.third a b ss whole more.lists
+whole_more a b ss whole more = whole_new more.first more.second a b ss whole more.lists
 
 -- with some empty lists more, contracts see of the groups what they saw before
 pub view_more : (a b : Slots) (ss : List GroupSlots) → AreGroupSlots a ss → HasMoreLists a b → view_of b ss ≡ view_of a ss
-view_more a b ss whole more = view_new more.first more.second more.third a b ss whole more.lists
+view_more a b ss whole more = view_new more.first more.second a b ss whole more.lists

@@ -23,27 +23,21 @@ family_there [] f lt = absurd (omega (arith, lt))
 family_there (x ∷ fs) zero lt = omega arith
 family_there (x ∷ fs) (suc f) lt = let k : f < length fs = family_there fs f lt in omega (arith, k)
 
--- ---- the slots of three families
+-- ---- the slots of two families
 
-module _ (n m k : ℕ) (xs : List ℕ) where
-  -- so many slots put last on one list of each of three families
+module _ (n k : ℕ) (xs : List ℕ) where
+  -- so many slots put last on one list of each of two families
   abbrev pub put_all : List (List (List ℕ)) → List (List (List ℕ))
-  put_all fs = map (λ p. put_last xs p.0 p.1) (zip (n ∷ m ∷ k ∷ []) fs)
+  put_all fs = map (λ p. put_last xs p.0 p.1) (zip (n ∷ k ∷ []) fs)
 
-  pub put_first : (fs : List (List (List ℕ))) → 2 < length fs → get_or (put_all fs) 0 [] ≡ put_last xs n (get_or fs 0 [])
+  pub put_first : (fs : List (List (List ℕ))) → 1 < length fs → get_or (put_all fs) 0 [] ≡ put_last xs n (get_or fs 0 [])
   put_first [] lt = absurd (omega (arith, lt))
   put_first (f ∷ fs) lt = refl
 
-  pub put_second : (fs : List (List (List ℕ))) → 2 < length fs → get_or (put_all fs) 1 [] ≡ put_last xs m (get_or fs 1 [])
+  pub put_second : (fs : List (List (List ℕ))) → 1 < length fs → get_or (put_all fs) 1 [] ≡ put_last xs k (get_or fs 1 [])
   put_second [] lt = absurd (omega (arith, lt))
   put_second (f ∷ []) lt = absurd (omega (arith, lt))
   put_second (f ∷ g ∷ fs) lt = refl
-
-  pub put_third : (fs : List (List (List ℕ))) → 2 < length fs → get_or (put_all fs) 2 [] ≡ put_last xs k (get_or fs 2 [])
-  put_third [] lt = absurd (omega (arith, lt))
-  put_third (f ∷ []) lt = absurd (omega (arith, lt))
-  put_third (f ∷ g ∷ []) lt = absurd (omega (arith, lt))
-  put_third (f ∷ g ∷ h ∷ fs) lt = refl
 
 -- ---- the lists of one family
 
@@ -92,38 +86,25 @@ module _ (f count to : ℕ) (xs : List ℕ) (a b : Slots) (grown : IsFamilyGrown
 -- ---- lists more, one family after the other
 
 -- no list more
-pub more_none : (a : Slots) → HasNewLists 0 0 0 a a
-more_none a = record { limit = refl; payloads = refl; families = refl; first = sym (append-nil (lists_in a 0)); second = sym (append-nil (lists_in a 1)); third = sym (append-nil (lists_in a 2)) }
+pub more_none : (a : Slots) → HasNewLists 0 0 a a
+more_none a = record { limit = refl; payloads = refl; families = refl; first = sym (append-nil (lists_in a 0)); second = sym (append-nil (lists_in a 1)) }
 
 -- more of the first family
-pub more_first : (n : ℕ) (a b : Slots) → 0 < length a.families → b ≡ with_new_lists 0 n a → HasNewLists n 0 0 a b
-more_first n a b there is = subst (HasNewLists n 0 0 a) (sym is) (record {
+pub more_first : (n : ℕ) (a b : Slots) → 0 < length a.families → b ≡ with_new_lists 0 n a → HasNewLists n 0 a b
+more_first n a b there is = subst (HasNewLists n 0 a) (sym is) (record {
   limit = refl;
   payloads = refl;
   families = length-set a.families 0 (lists_in a 0 ++ replicate n []);
   first = get_or-set_same a.families 0 (lists_in a 0 ++ replicate n []) [] there;
   second = get_or-set_other a.families 0 1 (lists_in a 0 ++ replicate n []) [] (λ e. absurd (omega (arith, e))) ∙ sym (append-nil (lists_in a 1));
-  third = get_or-set_other a.families 0 2 (lists_in a 0 ++ replicate n []) [] (λ e. absurd (omega (arith, e))) ∙ sym (append-nil (lists_in a 2));
 })
 
--- then of the second
-pub more_second : (n m : ℕ) (a b c : Slots) → 1 < length a.families → HasNewLists n 0 0 a b → c ≡ with_new_lists 1 m b → HasNewLists n m 0 a c
-more_second n m a b c there more is = subst (HasNewLists n m 0 a) (sym is) (record {
+-- and then of the second
+pub more_second : (n k : ℕ) (a b c : Slots) → 1 < length a.families → HasNewLists n 0 a b → c ≡ with_new_lists 1 k b → HasNewLists n k a c
+more_second n k a b c there more is = subst (HasNewLists n k a) (sym is) (record {
   limit = more.limit;
   payloads = more.payloads;
-  families = length-set b.families 1 (lists_in b 1 ++ replicate m []) ∙ more.families;
-  first = get_or-set_other b.families 1 0 (lists_in b 1 ++ replicate m []) [] (λ e. absurd (omega (arith, e))) ∙ more.first;
-  second = get_or-set_same b.families 1 (lists_in b 1 ++ replicate m []) [] (omega (arith, there, more.families)) ∙ ap (λ (ls : List (List ℕ)). ls ++ replicate m []) (more.second ∙ append-nil (lists_in a 1));
-  third = get_or-set_other b.families 1 2 (lists_in b 1 ++ replicate m []) [] (λ e. absurd (omega (arith, e))) ∙ more.third;
-})
-
--- and then of the third
-pub more_third : (n m k : ℕ) (a b c : Slots) → 2 < length a.families → HasNewLists n m 0 a b → c ≡ with_new_lists 2 k b → HasNewLists n m k a c
-more_third n m k a b c there more is = subst (HasNewLists n m k a) (sym is) (record {
-  limit = more.limit;
-  payloads = more.payloads;
-  families = length-set b.families 2 (lists_in b 2 ++ replicate k []) ∙ more.families;
-  first = get_or-set_other b.families 2 0 (lists_in b 2 ++ replicate k []) [] (λ e. absurd (omega (arith, e))) ∙ more.first;
-  second = get_or-set_other b.families 2 1 (lists_in b 2 ++ replicate k []) [] (λ e. absurd (omega (arith, e))) ∙ more.second;
-  third = get_or-set_same b.families 2 (lists_in b 2 ++ replicate k []) [] (omega (arith, there, more.families)) ∙ ap (λ (ls : List (List ℕ)). ls ++ replicate k []) (more.third ∙ append-nil (lists_in a 2));
+  families = length-set b.families 1 (lists_in b 1 ++ replicate k []) ∙ more.families;
+  first = get_or-set_other b.families 1 0 (lists_in b 1 ++ replicate k []) [] (λ e. absurd (omega (arith, e))) ∙ more.first;
+  second = get_or-set_same b.families 1 (lists_in b 1 ++ replicate k []) [] (omega (arith, there, more.families)) ∙ ap (λ (ls : List (List ℕ)). ls ++ replicate k []) (more.second ∙ append-nil (lists_in a 1));
 })

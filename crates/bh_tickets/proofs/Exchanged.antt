@@ -30,7 +30,7 @@ pub found_names : (chains number : ℕ) (a : Slots) (ns : List NameLists) → Ha
 found_names chains number a ns there = record { there = there; whole = λ p ss w. w; view = λ p ss w. refl }
 
 -- new ones, behind the others
-pub made_names : (c : ℕ) → 0 < c → (a b : Slots) (ns : List NameLists) (x : NameLists) → HasNewLists 0 0 (c + 1) a b → x.names ≡ length (lists_in a 2) → x.unnamed ≡ length (lists_in a 2) + c → GetsNames c (length ns) a ns b (ns ++ x ∷ [])
+pub made_names : (c : ℕ) → 0 < c → (a b : Slots) (ns : List NameLists) (x : NameLists) → HasNewLists 0 (c + 1) a b → x.names ≡ length (lists_in a 1) → x.unnamed ≡ length (lists_in a 1) + c → GetsNames c (length ns) a ns b (ns ++ x ∷ [])
 made_names c some a b ns x more names unnamed = record {
   there = record { entry = x; here = names_end ns x; many = omega (arith, names, unnamed) };
   whole = λ p ss w.
@@ -46,7 +46,7 @@ made_names c some a b ns x more names unnamed = record {
 }
   where
     grown : HasMoreLists a b
-    grown = record { first = 0; second = 0; third = c + 1; lists = more }
+    grown = record { first = 0; second = c + 1; lists = more }
 
 -- ---- an exchange
 
@@ -93,13 +93,10 @@ module _ (b : Slots) (p : GroupSlots) (ss : List GroupSlots) (ms : List NameList
     numbered = record { queued = was.numbered.queued; running = was.numbered.running; settled = was.numbered.settled };
     there = was.there;
     chains = record {
-      free1 = was.chains.free1;
       unnamed = lists.some;
-      serials_there = was.chains.serials_there;
       names_there = lists.there;
     };
     live = was.live;
-    serials = record { placed = was.serials.placed; owned = was.serials.owned };
     names = record {
       placed = λ x on. absurd (not_free x on);
       owned = λ l x low high on. absurd (not_true (ap (has x) (lists.empty l low high)) on);
@@ -123,14 +120,12 @@ module _ (b : Slots) (p : GroupSlots) (ss : List GroupSlots) (ms : List NameList
       let apart = w.all.apart i j s k is e (λ q. ne (sym q)) in
       record {
         apart = λ l own other. apart.apart l (record { from = own.from; to = own.to }) other;
-        serials = λ l own other. apart.serials l own other;
         names = λ l own other. w.names.beside number j n k found e l other own;
       }
 
   back : (k : GroupLists) → IsApart h k → IsApart k h
   back k apart = record {
     apart = λ l own other. apart.apart l other own;
-    serials = λ l own other. apart.serials l other own;
     names = λ l own other. apart.names l other own;
   }
 
@@ -158,10 +153,10 @@ module _ (b : Slots) (p : GroupSlots) (ss : List GroupSlots) (ms : List NameList
   given = record {
     some = was.chains.unnamed;
     there = was.chains.names_there;
-    empty = λ l low high. none_on (slots_on b 2 l) (λ x. off l x low high (is_on b 2 l x) refl);
+    empty = λ l low high. none_on (slots_on b 1 l) (λ x. off l x low high (is_on b 1 l x) refl);
   }
     where
-      off : (l x : ℕ) → g.names ≤ l → l ≤ g.unnamed → (c : Bool) → is_on b 2 l x ≡ c → c ≡ false
+      off : (l x : ℕ) → g.names ≤ l → l ≤ g.unnamed → (c : Bool) → is_on b 1 l x ≡ c → c ≡ false
       off l x low high false e = refl
       off l x low high true e = absurd (not_free x (was.names.owned l x low high e))
 

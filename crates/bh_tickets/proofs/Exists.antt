@@ -52,7 +52,7 @@ any_end f xs i e = ap (list_any f) (drop_end xs i e)
 
 -- ---- what a list of tickets has
 
-any_found : (p : Ticket → Bool) (ts : List Ticket) (t : Ticket) → find p ts ≡ Some t → list_any p ts ≡ true
+pub any_found : (p : Ticket → Bool) (ts : List Ticket) (t : Ticket) → find p ts ≡ Some t → list_any p ts ≡ true
 any_found p [] t e = absurd cc
 any_found p (u ∷ us) t e = by (p u) e (any_found p us t)
   where
@@ -60,7 +60,7 @@ any_found p (u ∷ us) t e = by (p u) e (any_found p us t)
     by true e rest = refl
     by false e rest = rest e
 
-any_none : (p : Ticket → Bool) (ts : List Ticket) → find p ts ≡ None → list_any p ts ≡ false
+pub any_none : (p : Ticket → Bool) (ts : List Ticket) → find p ts ≡ None → list_any p ts ≡ false
 any_none p [] e = refl
 any_none p (u ∷ us) e = by (p u) e (any_none p us)
   where
@@ -68,7 +68,7 @@ any_none p (u ∷ us) e = by (p u) e (any_none p us)
     by true e rest = absurd cc
     by false e rest = rest e
 
-any_filtered : (p q : Ticket → Bool) (ts : List Ticket) → list_any p (filter q ts) ≡ list_any (λ u. p u && q u) ts
+pub any_filtered : (p q : Ticket → Bool) (ts : List Ticket) → list_any p (filter q ts) ≡ list_any (λ u. p u && q u) ts
 any_filtered p q [] = refl
 any_filtered p q (u ∷ us) = by (q u) (any_filtered p q us)
   where

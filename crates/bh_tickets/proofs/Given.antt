@@ -5,10 +5,10 @@ use Rattle.std.proofs.lemmas.Bool.{cases_eq}
 use Rattle.bh_base.specs.declared.ticket.Ticket.{Ticket}
 use Rattle.bh_slot_arena.specs.Slots.{slots_on}
 use Rattle.bh_cache.specs.declared.lists.GroupLists.{GroupLists}
-use Rattle.bh_cache.specs.Chains.{list_by_serial, list_by_name}
+use Rattle.bh_cache.specs.Chains.{list_by_name}
 use Rattle.bh_cache.specs.Slots.{Slots, has, is_on, is_owned, ticket_at, count_below, one, IsApart, IsArena, IsOwn}
 use Rattle.bh_cache.proofs.Order.{count_same}
-use Rattle.bh_cache.proofs.Placed.{name_list_within, serial_list_within}
+use Rattle.bh_cache.proofs.Placed.{name_list_within}
 use Rattle.bh_tickets.specs.declared.group_slots.GroupSlots.{GroupSlots}
 use Rattle.bh_tickets.specs.GroupSlots.{IsGroupSlots}
 use Rattle.bh_tickets.specs.Same.{IsSame}
@@ -72,44 +72,35 @@ module _ (a : Slots) (s : GroupSlots) (group : IsGroupSlots a s) where
       by false false false true i j k l e = on_run_in a 0 s.lists.free 4 s.lists.settled x (omega (arith, group.numbered.settled)) (omega (arith, group.numbered.settled)) l
       by false false false false i j k l e = absurd cc
 
-  run_second : (x : ℕ) → on_run a 1 s.lists.serials 17 x ≡ is_owned a s.lists x
-  run_second x = both_ways (on_run a 1 s.lists.serials 17 x) (is_owned a s.lists x)
-      (λ e. let r = on_run_out a 1 s.lists.serials 17 x e in group.chained.serials.owned r.list x r.from (omega (arith, r.to, group.chained.lists.free1)) r.on)
-      (λ e. let k = serial_list_within a s.lists group.chained.lists (ticket_at a s.lists x) in
-      on_run_in a 1 s.lists.serials 17 (list_by_serial s.lists (ticket_at a s.lists x)) x k.0 (omega (arith, k.1, group.chained.lists.free1)) (group.chained.serials.placed x e))
-
-  -- so many lists of the third family
+  -- so many lists of the second family
   abbrev named : ℕ
   named = s.lists.unnamed - s.lists.names + 1
 
   named_to : s.lists.names + named ≡ s.lists.unnamed + 1
   named_to = omega (arith, group.chained.lists.unnamed)
 
-  run_third : (x : ℕ) → on_run a 2 s.lists.names named x ≡ is_owned a s.lists x
-  run_third x = both_ways (on_run a 2 s.lists.names named x) (is_owned a s.lists x)
-      (λ e. let r = on_run_out a 2 s.lists.names named x e in group.chained.names.owned r.list x r.from (omega (arith, r.to, named_to)) r.on)
+  run_second : (x : ℕ) → on_run a 1 s.lists.names named x ≡ is_owned a s.lists x
+  run_second x = both_ways (on_run a 1 s.lists.names named x) (is_owned a s.lists x)
+      (λ e. let r = on_run_out a 1 s.lists.names named x e in group.chained.names.owned r.list x r.from (omega (arith, r.to, named_to)) r.on)
       (λ e. let k = name_list_within a s.lists group.chained.lists (ticket_at a s.lists x) in
-      on_run_in a 2 s.lists.names named (list_by_name s.lists (ticket_at a s.lists x)) x k.0 (omega (arith, k.1, named_to)) (group.chained.names.placed x e))
+      on_run_in a 1 s.lists.names named (list_by_name s.lists (ticket_at a s.lists x)) x k.0 (omega (arith, k.1, named_to)) (group.chained.names.placed x e))
 
-module _ (a c d b : Slots) (s : GroupSlots) (to : GroupLists) (group : IsGroupSlots a s) (vacant : IsVacant a to) (apart : IsApart s.lists to) (arena : IsArena a 0) (after : IsArena b 0)
-    (one_ : IsGathered 0 s.lists.free 4 to.free a c) (two : IsGathered 1 s.lists.serials 17 to.free1 c d) (three : IsGathered 2 s.lists.names (named a s group) to.unnamed d b) where
+module _ (a c b : Slots) (s : GroupSlots) (to : GroupLists) (group : IsGroupSlots a s) (vacant : IsVacant a to) (apart : IsApart s.lists to) (arena : IsArena a 0) (after : IsArena b 0)
+    (one_ : IsGathered 0 s.lists.free 4 to.free a c) (two : IsGathered 1 s.lists.names (named a s group) to.unnamed c b) where
   first : IsEmptied 0 s.lists.free 4 to.free a b
-  first = emptied 0 s.lists.free 4 to.free a a c b refl one_ (three.others 0 (λ e. absurd (omega (arith, e))) ∙ two.others 0 (λ e. absurd (omega (arith, e))))
+  first = emptied 0 s.lists.free 4 to.free a a c b refl one_ (two.others 0 (λ e. absurd (omega (arith, e))))
 
-  second : IsEmptied 1 s.lists.serials 17 to.free1 a b
-  second = emptied 1 s.lists.serials 17 to.free1 a c d b (one_.others 1 (λ e. absurd (omega (arith, e)))) two (three.others 1 (λ e. absurd (omega (arith, e))))
-
-  third : IsEmptied 2 s.lists.names (named a s group) to.unnamed a b
-  third = emptied 2 s.lists.names (named a s group) to.unnamed a d b b (two.others 2 (λ e. absurd (omega (arith, e))) ∙ one_.others 2 (λ e. absurd (omega (arith, e)))) three refl
+  second : IsEmptied 1 s.lists.names (named a s group) to.unnamed a b
+  second = emptied 1 s.lists.names (named a s group) to.unnamed a c b b (one_.others 1 (λ e. absurd (omega (arith, e)))) two refl
 
   payloads : b.payloads ≡ a.payloads
-  payloads = three.payloads ∙ two.payloads ∙ one_.payloads
+  payloads = two.payloads ∙ one_.payloads
 
   size : length b.payloads ≡ length a.payloads
   size = ap (λ (ps : List Ticket). length ps) payloads
 
   there : HasLists a b
-  there = record { first = omega (arith, first.lists); second = omega (arith, second.lists); third = omega (arith, third.lists) }
+  there = record { first = omega (arith, first.lists); second = omega (arith, second.lists) }
 
   own : (l : ℕ) → s.lists.free ≤ l → l < s.lists.free + 4 → IsOwn s.lists l
   own l low high = record { from = low; to = omega (arith, high, group.numbered.settled) }
@@ -123,12 +114,8 @@ module _ (a c d b : Slots) (s : GroupSlots) (to : GroupLists) (group : IsGroupSl
         kept = λ l x mine ne e. sym (ap (has x) (first.kept l (λ low high. apart.apart l (own l low high) mine) ne)) ∙ e;
       })
       (record {
-        on = λ x. second.on x ∙ ap (λ z. is_on a 1 to.free1 x || z) (run_second a s group x);
-        kept = λ l x low high ne e. sym (ap (has x) (second.kept l (λ from til. apart.serials l (from, omega (arith, til, group.chained.lists.free1)) (low, high)) ne)) ∙ e;
-      })
-      (record {
-        on = λ x. third.on x ∙ ap (λ z. is_on a 2 to.unnamed x || z) (run_third a s group x);
-        kept = λ l x low high ne e. sym (ap (has x) (third.kept l (λ from til. apart.names l (from, omega (arith, til, named_to a s group)) (low, high)) ne)) ∙ e;
+        on = λ x. second.on x ∙ ap (λ z. is_on a 1 to.unnamed x || z) (run_second a s group x);
+        kept = λ l x low high ne e. sym (ap (has x) (second.kept l (λ from til. apart.names l (from, omega (arith, til, named_to a s group)) (low, high)) ne)) ∙ e;
       })
 
   -- ---- the group that gives
@@ -141,22 +128,16 @@ module _ (a c d b : Slots) (s : GroupSlots) (to : GroupLists) (group : IsGroupSl
     numbered = group.numbered;
     there = omega (arith, group.there, there.first);
     chains = record {
-      free1 = group.chained.lists.free1;
       unnamed = group.chained.lists.unnamed;
-      serials_there = omega (arith, group.chained.lists.serials_there, there.second);
-      names_there = omega (arith, group.chained.lists.names_there, there.third);
+      names_there = omega (arith, group.chained.lists.names_there, there.second);
     };
     live = λ x. live_none b s.lists x
         (not_true (empty_first s.lists.queued x (own_queued s.lists group.numbered)))
         (not_true (empty_first s.lists.running x (own_running s.lists group.numbered)))
         (not_true (empty_first s.lists.settled x (own_settled s.lists group.numbered)));
-    serials = record {
-      placed = λ x on. absurd (not_true (empty_first s.lists.free x (own_free s.lists group.numbered)) on);
-      owned = λ l x low high on. absurd (not_true (ap (has x) (second.gone l low (omega (arith, high, group.chained.lists.free1)))) on);
-    };
     names = record {
       placed = λ x on. absurd (not_true (empty_first s.lists.free x (own_free s.lists group.numbered)) on);
-      owned = λ l x low high on. absurd (not_true (ap (has x) (third.gone l low (omega (arith, high, named_to a s group)))) on);
+      owned = λ l x low high on. absurd (not_true (ap (has x) (second.gone l low (omega (arith, high, named_to a s group)))) on);
     };
   }
 
@@ -186,16 +167,12 @@ module _ (a c d b : Slots) (s : GroupSlots) (to : GroupLists) (group : IsGroupSl
     count = omega (arith, first.lists);
     lists = λ l mine. first.kept l (λ low high. p.apart l (own l low high) mine) (λ e. q.apart l (subst (IsOwn to) (sym e) (own_free to vacant.numbered)) mine);
     payloads = λ l x mine on. ap (λ (ps : List Ticket). slice_get ps x) payloads;
-    serials = record {
-      count = omega (arith, second.lists);
-      lists = λ l low high. second.kept l (λ from til. p.serials l (from, omega (arith, til, group.chained.lists.free1)) (low, high)) (λ e. q.serials l (omega (arith, e, vacant.chains.free1), omega (arith, e)) (low, high));
-    };
     names = record {
-      count = omega (arith, third.lists);
-      lists = λ l low high. third.kept l (λ from til. p.names l (from, omega (arith, til, named_to a s group)) (low, high)) (λ e. q.names l (omega (arith, e, vacant.chains.unnamed), omega (arith, e)) (low, high));
+      count = omega (arith, second.lists);
+      lists = λ l low high. second.kept l (λ from til. p.names l (from, omega (arith, til, named_to a s group)) (low, high)) (λ e. q.names l (omega (arith, e, vacant.chains.unnamed), omega (arith, e)) (low, high));
     };
   }
 
   -- all slots of the one group have gone to the other
   pub given_all : IsGiven s to a b
-  given_all = record { giver = giver_now; taker = taker_now; none = none_left; got = got_now; same = same_now; slots = size; limit = three.limit ∙ two.limit ∙ one_.limit }
+  given_all = record { giver = giver_now; taker = taker_now; none = none_left; got = got_now; same = same_now; slots = size; limit = two.limit ∙ one_.limit }

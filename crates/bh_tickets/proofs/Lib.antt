@@ -17,6 +17,7 @@ pub mod InPlace  -- a ticket is changed in place
 pub mod Times  -- a ticket times out, where it is due
 -- All groups, of which one changes:
 pub mod Whole  -- one group of many changes, and what is read of its tickets
+pub mod Tables  -- the tables by serial as one group changes
 -- Searches:
 pub mod Finds  -- which ticket a search finds
 pub mod Exists  -- the ticket of a name, and whether a group has a ticket of a kind

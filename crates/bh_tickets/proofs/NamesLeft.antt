@@ -52,15 +52,13 @@ names_end (y ∷ ys) x = names_end ys x
 
 -- ---- chains as the lists of a group
 
--- lists of the third family alone: what is known of those of a group is known of them
+-- lists of the second family alone: what is known of those of a group is known of them
 abbrev pub lists_of : NameLists → GroupLists
 lists_of n = record {
   free = 1;
   queued = 1;
   running = 1;
   settled = 0;
-  serials = 1;
-  free1 = 0;
   names = n.names;
   unnamed = n.unnamed;
 }
@@ -68,7 +66,6 @@ lists_of n = record {
 pub apart_lists : (g : GroupLists) (n : NameLists) → AreApart g.names g.unnamed n.names n.unnamed → IsApart g (lists_of n)
 apart_lists g n apart = record {
   apart = λ l own other. let low : 1 ≤ l = other.from in let high : l ≤ 0 = other.to in absurd (omega (arith, low, high));
-  serials = λ l own other. let low : 1 ≤ l = other.0 in let high : l ≤ 0 = other.1 in absurd (omega (arith, low, high));
   names = apart;
 }
 
@@ -81,7 +78,7 @@ pub record HadLists (ss : List GroupSlots) (r : GroupSlots) : Type 0 where
   pub there : slice_get ss number ≡ Some was
   pub lists : r.lists ≡ was.lists
 
-pub left_same : (a b : Slots) (qs rs : List GroupSlots) (ns : List NameLists) → AreLeft a qs ns → ((i : ℕ) (n : NameLists) → slice_get ns i ≡ Some n → KeepsOwn 2 n.names n.unnamed a b)
+pub left_same : (a b : Slots) (qs rs : List GroupSlots) (ns : List NameLists) → AreLeft a qs ns → ((i : ℕ) (n : NameLists) → slice_get ns i ≡ Some n → KeepsOwn 1 n.names n.unnamed a b)
     → ((j : ℕ) (r : GroupSlots) → slice_get rs j ≡ Some r → HadLists qs r) → AreLeft b rs ns
 left_same a b qs rs ns left keeps had = record {
   each = λ i n e.
@@ -99,18 +96,18 @@ left_same a b qs rs ns left keeps had = record {
 }
 
 -- with empty lists more, what lies on those that were there lies there still
-pub keeps_more : (n m k : ℕ) (a b : Slots) (first last : ℕ) → HasNewLists n m k a b → KeepsOwn 2 first last a b
-keeps_more n m k a b first last more = record {
-  count = omega (arith, ap (λ (ls : List (List ℕ)). length ls) more.third, length-append (lists_in a 2) (replicate k []));
-  lists = λ l low high. ap (λ (ls : List (List ℕ)). get_or ls l []) more.third ∙ append_empty (lists_in a 2) k l;
+pub keeps_more : (n k : ℕ) (a b : Slots) (first last : ℕ) → HasNewLists n k a b → KeepsOwn 1 first last a b
+keeps_more n k a b first last more = record {
+  count = omega (arith, ap (λ (ls : List (List ℕ)). length ls) more.second, length-append (lists_in a 1) (replicate k []));
+  lists = λ l low high. ap (λ (ls : List (List ℕ)). get_or ls l []) more.second ∙ append_empty (lists_in a 1) k l;
 }
 
-pub left_more : (n m k : ℕ) (a b : Slots) (qs : List GroupSlots) (ns : List NameLists) → HasNewLists n m k a b → AreLeft a qs ns → AreLeft b qs ns
-left_more n m k a b qs ns more left = left_same a b qs qs ns left (λ i x e. keeps_more n m k a b x.names x.unnamed more) (λ j r e. record { number = j; was = r; there = e; lists = refl })
+pub left_more : (n k : ℕ) (a b : Slots) (qs : List GroupSlots) (ns : List NameLists) → HasNewLists n k a b → AreLeft a qs ns → AreLeft b qs ns
+left_more n k a b qs ns more left = left_same a b qs qs ns left (λ i x e. keeps_more n k a b x.names x.unnamed more) (λ j r e. record { number = j; was = r; there = e; lists = refl })
 
 -- chains that are made are empty, and behind those that were there
-pub left_made : (a b : Slots) (qs : List GroupSlots) (ns : List NameLists) (c : ℕ) (x : NameLists) → 0 < c → HasNewLists 0 0 (c + 1) a b → x.names ≡ length (lists_in a 2) → x.unnamed ≡ length (lists_in a 2) + c
-    → ((j : ℕ) (s : GroupSlots) → slice_get qs j ≡ Some s → s.lists.unnamed < length (lists_in a 2)) → AreLeft a qs ns → AreLeft b qs (ns ++ x ∷ [])
+pub left_made : (a b : Slots) (qs : List GroupSlots) (ns : List NameLists) (c : ℕ) (x : NameLists) → 0 < c → HasNewLists 0 (c + 1) a b → x.names ≡ length (lists_in a 1) → x.unnamed ≡ length (lists_in a 1) + c
+    → ((j : ℕ) (s : GroupSlots) → slice_get qs j ≡ Some s → s.lists.unnamed < length (lists_in a 1)) → AreLeft a qs ns → AreLeft b qs (ns ++ x ∷ [])
 left_made a b qs ns c x some more names unnamed there left = record {
   each = λ i n e. elim (names_append ns x i n e) [
     | inl k ↦ subst (AreEmpty b) (sym k.1) fresh
@@ -133,14 +130,14 @@ left_made a b qs ns c x some more names unnamed there left = record {
 }
   where
     now : AreLeft b qs ns
-    now = left_more 0 0 (c + 1) a b qs ns more left
+    now = left_more 0 (c + 1) a b qs ns more left
 
-    count : length (lists_in b 2) ≡ length (lists_in a 2) + (c + 1)
-    count = ap (λ (ls : List (List ℕ)). length ls) more.third ∙ length-append (lists_in a 2) (replicate (c + 1) []) ∙ ap (λ n. length (lists_in a 2) + n) (length-replicate (c + 1) [])
+    count : length (lists_in b 1) ≡ length (lists_in a 1) + (c + 1)
+    count = ap (λ (ls : List (List ℕ)). length ls) more.second ∙ length-append (lists_in a 1) (replicate (c + 1) []) ∙ ap (λ n. length (lists_in a 1) + n) (length-replicate (c + 1) [])
 
     fresh : AreEmpty b x
     fresh = record {
       some = omega (arith, names, unnamed, some);
       there = omega (arith, unnamed, count);
-      empty = λ l low high. ap (λ (ls : List (List ℕ)). get_or ls l []) more.third ∙ append_empty (lists_in a 2) (c + 1) l ∙ get_or_past (lists_in a 2) l [] (omega (arith, names, low));
+      empty = λ l low high. ap (λ (ls : List (List ℕ)). get_or ls l []) more.second ∙ append_empty (lists_in a 1) (c + 1) l ∙ get_or_past (lists_in a 1) l [] (omega (arith, names, low));
     }

@@ -12,13 +12,13 @@ use Rattle.bh_tickets.specs.Growth.{HasNewLists, IsGrown, lists_from}
 use Rattle.bh_tickets.specs.Same.{IsSame}
 use Rattle.bh_tickets.specs.Spare.{IsVacant, free_slots}
 use Rattle.bh_tickets.proofs.AddedGroup.{append_before}
-use Rattle.bh_tickets.proofs.AddedLists.{append_empty, family_there, put_first, put_second, put_third}
+use Rattle.bh_tickets.proofs.AddedLists.{append_empty, family_there, put_first, put_second}
 use Rattle.bh_tickets.proofs.Shifted.{IsGained, live_none, own_free, vacant_gained}
 use Rattle.bh_tickets.proofs.Vacant.{not_true}
 
 -- ---- lists
 
-module _ (c : ℕ) (some : 0 < c) (a b : Slots) (g : GroupLists) (more : HasNewLists 4 17 (c + 1) a b) (from : g ≡ lists_from c (length (lists_in a 0)) (length (lists_in a 1)) (length (lists_in a 2))) where
+module _ (c : ℕ) (some : 0 < c) (a b : Slots) (g : GroupLists) (more : HasNewLists 4 (c + 1) a b) (from : g ≡ lists_from c (length (lists_in a 0)) (length (lists_in a 1))) where
   is_free : g.free ≡ length (lists_in a 0)
   is_free = ap (λ (z : GroupLists). z.free) from
 
@@ -31,35 +31,23 @@ module _ (c : ℕ) (some : 0 < c) (a b : Slots) (g : GroupLists) (more : HasNewL
   is_settled_list : g.settled ≡ length (lists_in a 0) + 3
   is_settled_list = ap (λ (z : GroupLists). z.settled) from
 
-  is_serials : g.serials ≡ length (lists_in a 1)
-  is_serials = ap (λ (z : GroupLists). z.serials) from
-
-  is_free1 : g.free1 ≡ length (lists_in a 1) + 16
-  is_free1 = ap (λ (z : GroupLists). z.free1) from
-
-  is_names : g.names ≡ length (lists_in a 2)
+  is_names : g.names ≡ length (lists_in a 1)
   is_names = ap (λ (z : GroupLists). z.names) from
 
-  is_unnamed : g.unnamed ≡ length (lists_in a 2) + c
+  is_unnamed : g.unnamed ≡ length (lists_in a 1) + c
   is_unnamed = ap (λ (z : GroupLists). z.unnamed) from
 
   empty_first : (l : ℕ) → length (lists_in a 0) ≤ l → slots_on b 0 l ≡ []
   empty_first l le = ap (λ (ls : List (List ℕ)). get_or ls l []) more.first ∙ append_empty (lists_in a 0) 4 l ∙ get_or_past (lists_in a 0) l [] le
 
   empty_second : (l : ℕ) → length (lists_in a 1) ≤ l → slots_on b 1 l ≡ []
-  empty_second l le = ap (λ (ls : List (List ℕ)). get_or ls l []) more.second ∙ append_empty (lists_in a 1) 17 l ∙ get_or_past (lists_in a 1) l [] le
-
-  empty_third : (l : ℕ) → length (lists_in a 2) ≤ l → slots_on b 2 l ≡ []
-  empty_third l le = ap (λ (ls : List (List ℕ)). get_or ls l []) more.third ∙ append_empty (lists_in a 2) (c + 1) l ∙ get_or_past (lists_in a 2) l [] le
+  empty_second l le = ap (λ (ls : List (List ℕ)). get_or ls l []) more.second ∙ append_empty (lists_in a 1) (c + 1) l ∙ get_or_past (lists_in a 1) l [] le
 
   count_first : length (lists_in b 0) ≡ length (lists_in a 0) + 4
   count_first = ap (λ (ls : List (List ℕ)). length ls) more.first ∙ length-append (lists_in a 0) (replicate 4 [])
 
-  count_second : length (lists_in b 1) ≡ length (lists_in a 1) + 17
-  count_second = ap (λ (ls : List (List ℕ)). length ls) more.second ∙ length-append (lists_in a 1) (replicate 17 [])
-
-  count_third : length (lists_in b 2) ≡ length (lists_in a 2) + (c + 1)
-  count_third = ap (λ (ls : List (List ℕ)). length ls) more.third ∙ length-append (lists_in a 2) (replicate (c + 1) []) ∙ ap (λ n. length (lists_in a 2) + n) (length-replicate (c + 1) [])
+  count_second : length (lists_in b 1) ≡ length (lists_in a 1) + (c + 1)
+  count_second = ap (λ (ls : List (List ℕ)). length ls) more.second ∙ length-append (lists_in a 1) (replicate (c + 1) []) ∙ ap (λ n. length (lists_in a 1) + n) (length-replicate (c + 1) [])
 
   free_empty : slots_on b 0 g.free ≡ []
   free_empty = empty_first g.free (omega (arith, is_free))
@@ -74,30 +62,23 @@ module _ (c : ℕ) (some : 0 < c) (a b : Slots) (g : GroupLists) (more : HasNewL
     numbered = record { queued = omega (arith, is_queued_list, is_free); running = omega (arith, is_running_list, is_free); settled = omega (arith, is_settled_list, is_free) };
     there = omega (arith, is_settled_list, count_first);
     chains = record {
-      free1 = omega (arith, is_free1, is_serials);
       unnamed = omega (arith, is_unnamed, is_names, some);
-      serials_there = omega (arith, is_free1, count_second);
-      names_there = omega (arith, is_unnamed, count_third);
+      names_there = omega (arith, is_unnamed, count_second);
     };
     live = λ x. live_none b g x
         (not_true (ap (has x) (empty_first g.queued (omega (arith, is_queued_list)))))
         (not_true (ap (has x) (empty_first g.running (omega (arith, is_running_list)))))
         (not_true (ap (has x) (empty_first g.settled (omega (arith, is_settled_list)))));
-    serials = record {
-      placed = λ x on. absurd (not_true (ap (has x) free_empty) on);
-      owned = λ l x low high on. absurd (not_true (ap (has x) (empty_second l (omega (arith, low, is_serials)))) on);
-    };
     names = record {
       placed = λ x on. absurd (not_true (ap (has x) free_empty) on);
-      owned = λ l x low high on. absurd (not_true (ap (has x) (empty_third l (omega (arith, low, is_names)))) on);
+      owned = λ l x low high on. absurd (not_true (ap (has x) (empty_second l (omega (arith, low, is_names)))) on);
     };
   }
 
   -- its lists are behind those of groups that were there
-  pub new_apart : (h : GroupLists) → h.settled < length (lists_in a 0) → h.free1 < length (lists_in a 1) → h.unnamed < length (lists_in a 2) → IsApart h g
-  new_apart h p q r = record {
+  pub new_apart : (h : GroupLists) → h.settled < length (lists_in a 0) → h.unnamed < length (lists_in a 1) → IsApart h g
+  new_apart h p r = record {
     apart = λ l own other. absurd (omega (arith, p, is_free, own.to, other.from));
-    serials = λ l own other. absurd (omega (arith, q, is_serials, own.1, other.0));
     names = λ l own other. absurd (omega (arith, r, is_names, own.1, other.0));
   }
 
@@ -105,7 +86,6 @@ module _ (c : ℕ) (some : 0 < c) (a b : Slots) (g : GroupLists) (more : HasNewL
 pub apart_back : (g h : GroupLists) → IsApart g h → IsApart h g
 apart_back g h apart = record {
   apart = λ l own other. apart.apart l other own;
-  serials = λ l own other. apart.serials l other own;
   names = λ l own other. apart.names l other own;
 }
 
@@ -119,17 +99,14 @@ module _ (count : ℕ) (g : GroupLists) (a b : Slots) (grown : IsGrown g count a
   abbrev come : List ℕ
   come = range_with_len (length a.payloads) count
 
-  three : 2 < length a.families
-  three = family_there a.families 2 (omega (arith, vacant.chains.names_there))
+  wide : 1 < length a.families
+  wide = family_there a.families 1 (omega (arith, vacant.chains.names_there))
 
   first : lists_in b 0 ≡ put_last come g.free (lists_in a 0)
-  first = ap (λ (z : Slots). lists_in z 0) grown.is ∙ put_first g.free g.free1 g.unnamed come a.families three
+  first = ap (λ (z : Slots). lists_in z 0) grown.is ∙ put_first g.free g.unnamed come a.families wide
 
-  second : lists_in b 1 ≡ put_last come g.free1 (lists_in a 1)
-  second = ap (λ (z : Slots). lists_in z 1) grown.is ∙ put_second g.free g.free1 g.unnamed come a.families three
-
-  third : lists_in b 2 ≡ put_last come g.unnamed (lists_in a 2)
-  third = ap (λ (z : Slots). lists_in z 2) grown.is ∙ put_third g.free g.free1 g.unnamed come a.families three
+  second : lists_in b 1 ≡ put_last come g.unnamed (lists_in a 1)
+  second = ap (λ (z : Slots). lists_in z 1) grown.is ∙ put_second g.free g.unnamed come a.families wide
 
   put_count : (f to : ℕ) → lists_in b f ≡ put_last come to (lists_in a f) → length (lists_in b f) ≡ length (lists_in a f)
   put_count f to is = ap (λ (ls : List (List ℕ)). length ls) is ∙ length-set (lists_in a f) to (list_at (lists_in a f) to ++ come)
@@ -154,9 +131,9 @@ module _ (count : ℕ) (g : GroupLists) (a b : Slots) (grown : IsGrown g count a
   grown_vacant =
       let free = gained 0 g.free g.free first free_there in
       vacant_gained (λ x. has x come) a b g vacant
-      (record { first = omega (arith, put_count 0 g.free first); second = omega (arith, put_count 1 g.free1 second); third = omega (arith, put_count 2 g.unnamed third) })
+      (record { first = omega (arith, put_count 0 g.free first); second = omega (arith, put_count 1 g.unnamed second) })
       (record { on = free.on; kept = λ l x own ne on. sym (ap (has x) (put_other 0 g.free l first ne)) ∙ on })
-      (gained 1 g.serials g.free1 second vacant.chains.serials_there) (gained 2 g.names g.unnamed third vacant.chains.names_there)
+      (gained 1 g.names g.unnamed second vacant.chains.names_there)
 
   -- and so many free slots more
   pub grown_free : free_slots b g ≡ free_slots a g + count
@@ -176,12 +153,8 @@ module _ (count : ℕ) (g : GroupLists) (a b : Slots) (grown : IsGrown g count a
     count = omega (arith, put_count 0 g.free first);
     lists = λ l own. put_other 0 g.free l first (λ e. apart.apart l (subst (IsOwn g) (sym e) (own_free g vacant.numbered)) own);
     payloads = λ l x own on. ap (λ (z : Slots). slice_get z.payloads x) grown.is ∙ append_before a.payloads (replicate count grown.blank) x (arena.within l x on);
-    serials = record {
-      count = omega (arith, put_count 1 g.free1 second);
-      lists = λ l low high. put_other 1 g.free1 l second (λ e. apart.serials l (omega (arith, vacant.chains.free1, e), omega (arith, e)) (low, high));
-    };
     names = record {
-      count = omega (arith, put_count 2 g.unnamed third);
-      lists = λ l low high. put_other 2 g.unnamed l third (λ e. apart.names l (omega (arith, vacant.chains.unnamed, e), omega (arith, e)) (low, high));
+      count = omega (arith, put_count 1 g.unnamed second);
+      lists = λ l low high. put_other 1 g.unnamed l second (λ e. apart.names l (omega (arith, vacant.chains.unnamed, e), omega (arith, e)) (low, high));
     };
   }

@@ -171,7 +171,7 @@ module _ (a b : Slots) (s : GroupSlots) (x : ℕ) (t v : Ticket) (arena : IsAren
 
   keeps : KeepsChains a b
   keeps = elim (cases_eq (list_for s.lists t.state) (list_for s.lists v.state)) [
-    | inl e ↦ subst (KeepsChains a) (sym (same e)) (record { families = refl; serials = refl; names = refl })
+    | inl e ↦ subst (KeepsChains a) (sym (same e)) (record { families = refl; names = refl })
     | inr ne ↦ subst (KeepsChains a) (sym (moved ne)) (moved_keeps a x (list_for s.lists v.state) v)
   ]
 
@@ -268,7 +268,7 @@ module _ (a b : Slots) (s : GroupSlots) (x : ℕ) (t v : Ticket) (arena : IsAren
   owned_list = or_right (eqb s.lists.free (list_for s.lists v.state)) (is_live_list s.lists (list_for s.lists v.state)) (live_for s.lists v.state)
 
   chained : IsChained b s.lists
-  chained = chains_touched a b s.lists x (list_for s.lists v.state) t v touched keeps group.chained owned_slot owned_list here now_here serial
+  chained = chains_touched a b s.lists x (list_for s.lists v.state) t v touched keeps group.chained owned_slot owned_list here now_here
       (can.cache ∙ ap (λ (u : Ticket). u.cache) was) (can.cached ∙ ap (λ (u : Ticket). u.cached) was)
 
   owned_now : count_below (length b.payloads) (is_owned b s.lists) ≡ s.slots.max
@@ -318,7 +318,7 @@ module _ (a b : Slots) (s : GroupSlots) (x : ℕ) (t v : Ticket) (arena : IsAren
         arena = touched_arena a b x (list_for s.lists v.state) v touched arena (within_slots a s.lists x t here);
         group = subst (IsGroupSlots b) (sym is) made;
         frame = touched_frame a b x (list_for s.lists v.state) v touched s.lists (list_for s.lists t.state) arena lies (own_for s.lists group.numbered t.state) (own_for s.lists group.numbered v.state);
-        chains = frame_same s.lists a b keeps.serials keeps.names;
+        chains = frame_same s.lists a b keeps.names;
         limit = touched.limit;
         lists = ap (λ (z : GroupSlots). z.lists) is;
         room = ap (λ (z : GroupSlots). z.slots.max) is;

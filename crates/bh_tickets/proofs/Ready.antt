@@ -51,7 +51,7 @@ more_whole a b p ss ns more whole = record {
   slots = ap (λ (ps : List Ticket). length ps) more.lists.payloads ∙ whole.slots;
   free = whole.free;
   first = whole.first;
-  names = left_more more.first more.second more.third a b (with_spare p ss) ns more.lists whole.names;
+  names = left_more more.first more.second a b (with_spare p ss) ns more.lists whole.names;
 }
 
 pub more_keeps : (a b : Slots) (p : Option GroupSlots) → HasMoreLists a b → KeepsGroups a p b p
@@ -68,21 +68,21 @@ more_stays a b ss ns more = record {
 
 -- ---- new lists
 
-module _ (c : ℕ) (some : 0 < c) (a b : Slots) (g : GroupLists) (more : HasNewLists 4 17 (c + 1) a b) (from : g ≡ lists_from c (length (lists_in a 0)) (length (lists_in a 1)) (length (lists_in a 2))) (qs : List GroupSlots) (whole : AreGroupSlots a qs) where
+module _ (c : ℕ) (some : 0 < c) (a b : Slots) (g : GroupLists) (more : HasNewLists 4 (c + 1) a b) (from : g ≡ lists_from c (length (lists_in a 0)) (length (lists_in a 1))) (qs : List GroupSlots) (whole : AreGroupSlots a qs) where
   new_group : IsGroupSlots b (no_slot_taken g 0)
   new_group = subst (λ n. IsGroupSlots b (no_slot_taken g n)) (new_none c some a b g more from)
-      (vacant_group b g (new_vacant c some a b g more from) (arena_more 4 17 (c + 1) a b qs whole more) (omega (arith, new_none c some a b g more from)))
+      (vacant_group b g (new_vacant c some a b g more from) (arena_more 4 (c + 1) a b qs whole more) (omega (arith, new_none c some a b g more from)))
 
   was_apart : (i : ℕ) (s : GroupSlots) → slice_get qs i ≡ Some s → IsApart s.lists g
-  was_apart i s e = let group = whole.each i s e in new_apart c some a b g more from s.lists group.there group.chained.lists.serials_there group.chained.lists.names_there
+  was_apart i s e = let group = whole.each i s e in new_apart c some a b g more from s.lists group.there group.chained.lists.names_there
 
   -- with a group more that has them, all groups are as they should be
   pub whole_added : AreGroupSlots b (qs ++ no_slot_taken g 0 ∷ [])
   whole_added = record {
-    arena = arena_more 4 17 (c + 1) a b qs whole more;
+    arena = arena_more 4 (c + 1) a b qs whole more;
     each = λ i s e. elim (get_append qs (no_slot_taken g 0) i s e) [
       | inl k ↦ subst (IsGroupSlots b) (sym k.1) new_group
-      | inr k ↦ slots_same a b s (same_more 4 17 (c + 1) a b qs whole more i s k.1) whole.arena (whole.each i s k.1)
+      | inr k ↦ slots_same a b s (same_more 4 (c + 1) a b qs whole more i s k.1) whole.arena (whole.each i s k.1)
     ];
     apart = λ i j s r e f ne. elim (get_append qs (no_slot_taken g 0) i s e) [
       | inl k ↦ elim (get_append qs (no_slot_taken g 0) j r f) [
@@ -109,13 +109,13 @@ module _ (c : ℕ) (some : 0 < c) (a b : Slots) (g : GroupLists) (more : HasNewL
   }
     where
       now : AreLeft b qs ns
-      now = left_more 4 17 (c + 1) a b qs ns more left
+      now = left_more 4 (c + 1) a b qs ns more left
 
 -- the spare slots get lists, while there is no group
-pub made_spare : (c : ℕ) → 0 < c → (a b : Slots) (g : GroupLists) (p : Option GroupSlots) → p ≡ None → HasNewLists 4 17 (c + 1) a b → g ≡ lists_from c (length (lists_in a 0)) (length (lists_in a 1)) (length (lists_in a 2)) → KeepsGroups a p b (Some (no_slot_taken g 0))
+pub made_spare : (c : ℕ) → 0 < c → (a b : Slots) (g : GroupLists) (p : Option GroupSlots) → p ≡ None → HasNewLists 4 (c + 1) a b → g ≡ lists_from c (length (lists_in a 0)) (length (lists_in a 1)) → KeepsGroups a p b (Some (no_slot_taken g 0))
 made_spare c some a b g p none more from = record {
   whole = λ ss ns w. made ss ns (w.first none) (subst (λ q. IsWhole a q ss ns) none w);
-  view = λ ss ns w. view_more a b ss (groups_in w) (record { first = 4; second = 17; third = c + 1; lists = more });
+  view = λ ss ns w. view_more a b ss (groups_in w) (record { first = 4; second = c + 1; lists = more });
 }
   where
     alone : (ns : List NameLists) → IsWhole a None [] ns → IsWhole b (Some (no_slot_taken g 0)) [] ns
@@ -159,7 +159,7 @@ not_at_end (y ∷ ys) r zero ne = refl
 not_at_end (y ∷ ys) r (suc i) ne = not_at_end ys r i (λ e. ne (ap suc e))
 
 -- a new one behind the others
-pub new_gets : (c : ℕ) → 0 < c → (a b : Slots) (g : GroupLists) (ss : List GroupSlots) (ns : List NameLists) → HasNewLists 4 17 (c + 1) a b → g ≡ lists_from c (length (lists_in a 0)) (length (lists_in a 1)) (length (lists_in a 2)) → GetsPlace c (length ss) a ss ns b (ss ++ no_slot_taken g 0 ∷ []) ns
+pub new_gets : (c : ℕ) → 0 < c → (a b : Slots) (g : GroupLists) (ss : List GroupSlots) (ns : List NameLists) → HasNewLists 4 (c + 1) a b → g ≡ lists_from c (length (lists_in a 0)) (length (lists_in a 1)) → GetsPlace c (length ss) a ss ns b (ss ++ no_slot_taken g 0 ∷ []) ns
 new_gets c some a b g ss ns more from = record {
   gets = λ p w. record {
     entry = no_slot_taken g 0;
@@ -187,7 +187,7 @@ new_gets c some a b g ss ns more from = record {
     shown w j None e = refl
     shown w j (Some s) e =
         let all = groups_in w in
-        ap Some (group_same a b s (same_more 4 17 (c + 1) a b ss all more j s e) all.arena (all.each j s e))
+        ap Some (group_same a b s (same_more 4 (c + 1) a b ss all more j s e) all.arena (all.each j s e))
 
 -- ---- spare slots
 
@@ -228,8 +228,7 @@ module _ (slots : ℕ) (a : Slots) (g : GroupLists) (spare : Option GroupSlots) 
       let k = ready_vacant in
       record {
         first = ready_free;
-        second = k.chains.serials_there;
-        third = k.chains.names_there;
+        second = k.chains.names_there;
         within = omega (arith, ready.within, spare_slots a ready.part ready.groups ready.names ready.whole, ready_max, few);
       }
 
@@ -260,7 +259,7 @@ module _ (slots : ℕ) (a : Slots) (g : GroupLists) (spare : Option GroupSlots) 
           names = left_same a b (ready.part ∷ ss) (no_slot_taken g (free_slots b g) ∷ ss) ns w.names keeps had;
         }
           where
-            keeps : (k : ℕ) (n : NameLists) → slice_get ns k ≡ Some n → KeepsOwn 2 n.names n.unnamed a b
+            keeps : (k : ℕ) (n : NameLists) → slice_get ns k ≡ Some n → KeepsOwn 1 n.names n.unnamed a b
             keeps k n e = (grown_same count g a b grown ready_vacant (lists_of n) w.all.arena (apart_lists g n (subst (λ (z : GroupLists). AreApart z.names z.unnamed n.names n.unnamed) ready.lists (w.names.beside k 0 n ready.part e refl)))).names
 
             had : (j : ℕ) (s : GroupSlots) → slice_get (no_slot_taken g (free_slots b g) ∷ ss) j ≡ Some s → HadLists (ready.part ∷ ss) s

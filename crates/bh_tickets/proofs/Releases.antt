@@ -69,7 +69,7 @@ or_first : (b c : Bool) → b ≡ true → (b || c) ≡ true
 or_first b c e = ap (λ d. d || c) e
 
 module _ (a b : Slots) (s : GroupSlots) (x : ℕ) (t : Ticket) (arena : IsArena a 0) (group : IsGroupSlots a s) (many : s.needless ≡ noted.Many) (here : ticket_at a s.lists x ≡ Some t) (drops : is_kept t ≡ false)
-    (serials : IsArena a 1) (names : IsArena a 2) (is : b ≡ with_placed_where (is_named (Some t)) s.lists x None (with_moved 0 x s.lists.free a)) where
+    (names : IsArena a 1) (is : b ≡ with_placed_where (is_named (Some t)) s.lists x None (with_moved 0 x s.lists.free a)) where
   payload : slice_get a.payloads x ≡ Some t
   payload = (held_at a s.lists x t here).1
 
@@ -89,7 +89,7 @@ module _ (a b : Slots) (s : GroupSlots) (x : ℕ) (t : Ticket) (arena : IsArena 
   owned_list = or_first (eqb s.lists.free s.lists.free) (is_live_list s.lists s.lists.free) (eq-eqb s.lists.free s.lists.free refl)
 
   chains : IsChained b s.lists × IsChainFrame s.lists a b
-  chains = chains_placed (is_named (Some t)) a (with_moved 0 x s.lists.free a) b s.lists x s.lists.free t None before (freed_keeps a x s.lists.free) serials names group.chained owned_slot owned_list
+  chains = chains_placed (is_named (Some t)) a (with_moved 0 x s.lists.free a) b s.lists x s.lists.free t None before (freed_keeps a x s.lists.free) names group.chained owned_slot owned_list
       (sym (ap (λ c. if c then Some t else None) (not_live_free s.lists group.numbered)))
       (λ off. sym (ap (list_by_name s.lists) here ∙ unnamed_list s.lists (Some t) off)) is
 

@@ -13,7 +13,6 @@ use Rattle.bh_tickets.proofs.Vacant.{not_true, or_true}
 pub record HasLists (a b : Slots) : Type 0 where
   pub first : length (lists_in a 0) ≤ length (lists_in b 0)
   pub second : length (lists_in a 1) ≤ length (lists_in b 1)
-  pub third : length (lists_in a 2) ≤ length (lists_in b 2)
 
 pub own_queued : (g : GroupLists) → IsNumbered g → IsOwn g g.queued
 own_queued g n = record { from = omega (arith, n.queued); to = omega (arith, n.queued, n.settled) }
@@ -77,22 +76,19 @@ free_gained f first last come a b g are free gained = record {
 }
 
 -- a group without tickets is one still
-pub vacant_gained : (come : ℕ → Bool) (a b : Slots) (g : GroupLists) → IsVacant a g → HasLists a b → IsGainedFree come g a b → IsGained 1 g.serials g.free1 come a b → IsGained 2 g.names g.unnamed come a b → IsVacant b g
-vacant_gained come a b g vacant there free serials names = record {
+pub vacant_gained : (come : ℕ → Bool) (a b : Slots) (g : GroupLists) → IsVacant a g → HasLists a b → IsGainedFree come g a b → IsGained 1 g.names g.unnamed come a b → IsVacant b g
+vacant_gained come a b g vacant there free names = record {
   numbered = vacant.numbered;
   there = omega (arith, vacant.there, there.first);
   chains = record {
-    free1 = vacant.chains.free1;
     unnamed = vacant.chains.unnamed;
-    serials_there = omega (arith, vacant.chains.serials_there, there.second);
-    names_there = omega (arith, vacant.chains.names_there, there.third);
+    names_there = omega (arith, vacant.chains.names_there, there.second);
   };
   live = λ x. live_none b g x
       (λ on. not_true (off_live a g x (vacant.live x)).0 (free.kept g.queued x (own_queued g vacant.numbered) (λ e. absurd (omega (arith, e, vacant.numbered.queued))) on))
       (λ on. not_true (off_live a g x (vacant.live x)).1 (free.kept g.running x (own_running g vacant.numbered) (λ e. absurd (omega (arith, e, vacant.numbered.running))) on))
       (λ on. not_true (off_live a g x (vacant.live x)).2 (free.kept g.settled x (own_settled g vacant.numbered) (λ e. absurd (omega (arith, e, vacant.numbered.settled))) on));
-  serials = free_gained 1 g.serials g.free1 come a b g vacant.serials free serials;
-  names = free_gained 2 g.names g.unnamed come a b g vacant.names free names;
+  names = free_gained 1 g.names g.unnamed come a b g vacant.names free names;
 }
 
 -- ---- a slot goes
@@ -116,15 +112,13 @@ free_lost f first last x a b g n le are free lost = record {
 }
 
 -- a group without tickets is one still
-pub vacant_lost : (x : ℕ) (a b : Slots) (g : GroupLists) → IsVacant a g → HasLists a b → IsLost 0 g.free g.settled x a b → IsLost 1 g.serials g.free1 x a b → IsLost 2 g.names g.unnamed x a b → IsVacant b g
-vacant_lost x a b g vacant there free serials names = record {
+pub vacant_lost : (x : ℕ) (a b : Slots) (g : GroupLists) → IsVacant a g → HasLists a b → IsLost 0 g.free g.settled x a b → IsLost 1 g.names g.unnamed x a b → IsVacant b g
+vacant_lost x a b g vacant there free names = record {
   numbered = vacant.numbered;
   there = omega (arith, vacant.there, there.first);
   chains = record {
-    free1 = vacant.chains.free1;
     unnamed = vacant.chains.unnamed;
-    serials_there = omega (arith, vacant.chains.serials_there, there.second);
-    names_there = omega (arith, vacant.chains.names_there, there.third);
+    names_there = omega (arith, vacant.chains.names_there, there.second);
   };
   live = λ y.
       let off = off_live a g y (vacant.live y) in
@@ -135,6 +129,5 @@ vacant_lost x a b g vacant there free serials names = record {
       (λ on. gone (eqb y x) (is_on a 0 g.queued y) off.0 (sym (free.on g.queued y q.from q.to) ∙ on))
       (λ on. gone (eqb y x) (is_on a 0 g.running y) off.1 (sym (free.on g.running y r.from r.to) ∙ on))
       (λ on. gone (eqb y x) (is_on a 0 g.settled y) off.2 (sym (free.on g.settled y s.from s.to) ∙ on));
-  serials = free_lost 1 g.serials g.free1 x a b g vacant.numbered (omega (arith, vacant.chains.free1)) vacant.serials free serials;
-  names = free_lost 2 g.names g.unnamed x a b g vacant.numbered (omega (arith, vacant.chains.unnamed)) vacant.names free names;
+  names = free_lost 1 g.names g.unnamed x a b g vacant.numbered (omega (arith, vacant.chains.unnamed)) vacant.names free names;
 }

@@ -183,6 +183,7 @@ timed_out_since a s due n b r since timed known own = record {
   };
   next = timed.next;
   items = timed.items;
+  serials = timed.serials;
   count = timed.count;
 }
 

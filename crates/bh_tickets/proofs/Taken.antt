@@ -9,9 +9,9 @@ use Rattle.bh_cache.specs.declared.lists.GroupLists.{GroupLists}
 use Rattle.bh_cache.specs.Chains.{HasChains, with_placed}
 use Rattle.bh_cache.specs.Slots.{Slots, has, is_on, IsApart, IsArena, IsOwn, Once}
 use Rattle.bh_cache.proofs.Along.{without_at}
-use Rattle.bh_cache.proofs.Moves.{families_count, family_stays, list_not_to, list_to, lists_count, without_absent}
+use Rattle.bh_cache.proofs.Moves.{list_not_to, list_to, lists_count, without_absent}
 use Rattle.bh_cache.proofs.Order.{front_is, front_on}
-use Rattle.bh_cache.proofs.Placed.{on_names, on_serials}
+use Rattle.bh_cache.proofs.Placed.{on_names}
 use Rattle.bh_tickets.specs.Same.{IsSame, KeepsOwn}
 use Rattle.bh_tickets.specs.Spare.{IsTaken, IsVacant, free_slots}
 use Rattle.bh_tickets.proofs.Chained.{KeepsChains, chains_there, moved_keeps, placed_on, touched_placed}
@@ -30,8 +30,7 @@ same_both h a b c p q = record {
   count = omega (arith, p.count, q.count);
   lists = λ l own. q.lists l own ∙ p.lists l own;
   payloads = λ l x own on. q.payloads l x own (ap (has x) (p.lists l own) ∙ on) ∙ p.payloads l x own on;
-  serials = keeps_both 1 h.serials h.free1 a b c p.serials q.serials;
-  names = keeps_both 2 h.names h.unnamed a b c p.names q.names;
+  names = keeps_both 1 h.names h.unnamed a b c p.names q.names;
 }
 
 -- where nothing changes, all stays of a group
@@ -41,7 +40,6 @@ same_refl h a = record {
   count = omega arith;
   lists = λ l own. refl;
   payloads = λ l x own on. refl;
-  serials = record { count = omega arith; lists = λ l from til. refl };
   names = record { count = omega arith; lists = λ l from til. refl };
 }
 
@@ -73,7 +71,7 @@ if_same : (b c d : Bool) → c ≡ d → (if b then c else d) ≡ d
 if_same true c d e = e
 if_same false c d e = refl
 
-module _ (a : Slots) (g h : GroupLists) (x : ℕ) (v : Ticket) (giver : IsVacant a g) (taker : IsVacant a h) (apart : IsApart g h) (first : IsArena a 0) (second : IsArena a 1) (third : IsArena a 2)
+module _ (a : Slots) (g h : GroupLists) (x : ℕ) (v : Ticket) (giver : IsVacant a g) (taker : IsVacant a h) (apart : IsApart g h) (first : IsArena a 0) (second : IsArena a 1)
     (front : slice_get (slots_on a 0 g.free) 0 ≡ Some x) where
   abbrev written : Slots
   written = with_payload x v a
@@ -102,36 +100,21 @@ module _ (a : Slots) (g h : GroupLists) (x : ℕ) (v : Ticket) (giver : IsVacant
   there : HasChains moved h
   there = chains_there a moved h keeps taker.chains
 
-  wide : 2 < length moved.families
-  wide = omega (arith, third.wide, keeps.families)
+  wide : 1 < length moved.families
+  wide = omega (arith, second.wide, keeps.families)
 
-  on_second : (l y : ℕ) → is_on now 1 l y ≡ (if eqb y x then eqb l h.free1 else is_on a 1 l y)
-  on_second l y = on_serials moved h x None wide there l y ∙ ap (λ (ls : List (List ℕ)). if eqb y x then eqb l h.free1 else has y (get_or ls l [])) keeps.serials
+  on_second : (l y : ℕ) → is_on now 1 l y ≡ (if eqb y x then eqb l h.unnamed else is_on a 1 l y)
+  on_second l y = on_names moved h x None wide there l y ∙ ap (λ (ls : List (List ℕ)). if eqb y x then eqb l h.unnamed else has y (get_or ls l [])) keeps.names
 
-  on_third : (l y : ℕ) → is_on now 2 l y ≡ (if eqb y x then eqb l h.unnamed else is_on a 2 l y)
-  on_third l y = on_names moved h x None wide there l y ∙ ap (λ (ls : List (List ℕ)). if eqb y x then eqb l h.unnamed else has y (get_or ls l [])) keeps.names
-
-  -- in the second and the third family
-  serials_now : (l : ℕ) → l ≢ h.free1 → slots_on now 1 l ≡ without x (slots_on a 1 l)
-  serials_now l ne =
-      ap (λ (ls : List (List ℕ)). get_or ls l []) (family_stays (with_moved 1 x h.free1 moved) 2 1 x h.unnamed (λ e. absurd (omega (arith, e))))
-      ∙ list_not_to moved 1 x h.free1 (omega (arith, wide)) l ne ∙ ap (λ (ls : List (List ℕ)). without x (get_or ls l [])) keeps.serials
-
-  names_now : (l : ℕ) → l ≢ h.unnamed → slots_on now 2 l ≡ without x (slots_on a 2 l)
-  names_now l ne =
-      list_not_to (with_moved 1 x h.free1 moved) 2 x h.unnamed (omega (arith, wide, families_count moved 1 x h.free1)) l ne
-      ∙ ap (λ (ls : List (List ℕ)). without x (get_or ls l [])) (family_stays moved 1 2 x h.free1 (λ e. absurd (omega (arith, e))) ∙ keeps.names)
+  -- in the second family
+  names_now : (l : ℕ) → l ≢ h.unnamed → slots_on now 1 l ≡ without x (slots_on a 1 l)
+  names_now l ne = list_not_to moved 1 x h.unnamed wide l ne ∙ ap (λ (ls : List (List ℕ)). without x (get_or ls l [])) keeps.names
 
   count_second : length (lists_in now 1) ≡ length (lists_in a 1)
-  count_second = ap (λ (ls : List (List ℕ)). length ls) (family_stays (with_moved 1 x h.free1 moved) 2 1 x h.unnamed (λ e. absurd (omega (arith, e))))
-      ∙ lists_count moved 1 x h.free1 (omega (arith, wide)) ∙ ap (λ (ls : List (List ℕ)). length ls) keeps.serials
-
-  count_third : length (lists_in now 2) ≡ length (lists_in a 2)
-  count_third = lists_count (with_moved 1 x h.free1 moved) 2 x h.unnamed (omega (arith, wide, families_count moved 1 x h.free1))
-      ∙ ap (λ (ls : List (List ℕ)). length ls) (family_stays moved 1 2 x h.free1 (λ e. absurd (omega (arith, e))) ∙ keeps.names)
+  count_second = lists_count moved 1 x h.unnamed wide ∙ ap (λ (ls : List (List ℕ)). length ls) keeps.names
 
   has_lists : HasLists a now
-  has_lists = record { first = omega (arith, touched.count); second = omega (arith, count_second); third = omega (arith, count_third) }
+  has_lists = record { first = omega (arith, touched.count); second = omega (arith, count_second) }
 
   -- ---- the group that gives
 
@@ -141,17 +124,13 @@ module _ (a : Slots) (g h : GroupLists) (x : ℕ) (v : Ticket) (giver : IsVacant
   own_h : IsOwn h h.free
   own_h = own_free h taker.numbered
 
-  low1 : h.serials ≤ h.free1
-  low1 = omega (arith, taker.chains.free1)
-
-  low2 : h.names ≤ h.unnamed
-  low2 = omega (arith, taker.chains.unnamed)
+  low : h.names ≤ h.unnamed
+  low = omega (arith, taker.chains.unnamed)
 
   giver_now : IsVacant now g
   giver_now = vacant_lost x a now g giver has_lists
       (lost_from 0 g.free g.settled h.free (λ l y. touched.on l y) (λ l low high e. apart.apart l (record { from = low; to = high }) (subst (IsOwn h) (sym e) own_h)))
-      (lost_from 1 g.serials g.free1 h.free1 on_second (λ l low high e. apart.serials l (low, high) (omega (arith, low1, e), omega (arith, e))))
-      (lost_from 2 g.names g.unnamed h.unnamed on_third (λ l low high e. apart.names l (low, high) (omega (arith, low2, e), omega (arith, e))))
+      (lost_from 1 g.names g.unnamed h.unnamed on_second (λ l from til e. apart.names l (from, til) (omega (arith, low, e), omega (arith, e))))
 
   -- ---- the group that takes
 
@@ -178,7 +157,7 @@ module _ (a : Slots) (g h : GroupLists) (x : ℕ) (v : Ticket) (giver : IsVacant
       by false c e = e
 
   taker_now : IsVacant now h
-  taker_now = vacant_gained (λ y. eqb y x) a now h taker has_lists gained_free (gained_to 1 h.serials h.free1 on_second) (gained_to 2 h.names h.unnamed on_third)
+  taker_now = vacant_gained (λ y. eqb y x) a now h taker has_lists gained_free (gained_to 1 h.names h.unnamed on_second)
 
   -- ---- how many
 
@@ -215,15 +194,10 @@ module _ (a : Slots) (g h : GroupLists) (x : ℕ) (v : Ticket) (giver : IsVacant
       lists = λ l own. touched.left l (λ e. from_taker.apart l (subst (IsOwn h) (sym e) own_h) own)
           ∙ without_absent x (slots_on a 0 l) (off 0 g.free l first on (λ e. from_giver.apart l (subst (IsOwn g) (sym e) (own_free g giver.numbered)) own));
       payloads = λ l y own here. payload_other a now x h.free v touched y (λ e. from_giver.apart l (subst (IsOwn g) (first.apart g.free l y (subst (λ z. is_on a 0 g.free z ≡ true) (sym e) on) here) (own_free g giver.numbered)) own);
-      serials = record {
-        count = omega (arith, count_second);
-        lists = λ l low high. serials_now l (λ e. from_taker.serials l (omega (arith, low1, e), omega (arith, e)) (low, high))
-            ∙ without_absent x (slots_on a 1 l) (off 1 g.free1 l second (giver.serials.placed x on) (λ e. from_giver.serials l (omega (arith, giver.chains.free1, e), omega (arith, e)) (low, high)));
-      };
       names = record {
-        count = omega (arith, count_third);
-        lists = λ l low high. names_now l (λ e. from_taker.names l (omega (arith, low2, e), omega (arith, e)) (low, high))
-            ∙ without_absent x (slots_on a 2 l) (off 2 g.unnamed l third (giver.names.placed x on) (λ e. from_giver.names l (omega (arith, giver.chains.unnamed, e), omega (arith, e)) (low, high)));
+        count = omega (arith, count_second);
+        lists = λ l from til. names_now l (λ e. from_taker.names l (omega (arith, low, e), omega (arith, e)) (from, til))
+            ∙ without_absent x (slots_on a 1 l) (off 1 g.unnamed l second (giver.names.placed x on) (λ e. from_giver.names l (omega (arith, giver.chains.unnamed, e), omega (arith, e)) (from, til)));
       };
     }
 

@@ -1,6 +1,6 @@
 -- All of a group's tickets that are due time out.
 use Rattle.std.proofs.Common.{◌≡◌, ℕ, ◌+◌, ◌-◌, ◌≤◌, ◌⊎◌, inl, inr, Bool, true, false, List, [], ◌∷◌, length, take, Option, Some, None, refl, ◌∙◌, sym, ap, subst, arith}
-use Rattle.std.specs.Prelude.{◌&&◌, eqb, nat_le, slice_get, if◌then◌else◌}
+use Rattle.std.specs.Prelude.{◌&&◌, ◌==◌, eqb, nat_le, slice_get, if◌then◌else◌}
 use Rattle.std.specs.Option.{option_map}
 use Rattle.std.proofs.lemmas.List.Sums.{length-filter}
 use Rattle.bh_base.specs.Tickets.{is_of}
@@ -10,7 +10,7 @@ use Rattle.bh_base.specs.declared.ticket.TicketState.TheVariants as ticket
 use Rattle.bh_slot_arena.specs.Slots.{slots_on}
 use Rattle.bh_cache.specs.declared.lists.GroupLists.{GroupLists}
 use Rattle.bh_cache.specs.Listed.{listed}
-use Rattle.bh_cache.specs.Slots.{Slots, has_one, is_on, list_for, ticket_at, tickets_of}
+use Rattle.bh_cache.specs.Slots.{Slots, has_one, has_serial_in, is_on, list_for, ticket_at, tickets_of}
 use Rattle.bh_cache.proofs.Counts.{count_all, count_listed, count_none}
 use Rattle.bh_cache.proofs.Listed.{listed_map}
 use Rattle.bh_tickets.specs.declared.group_slots.GroupSlots.{GroupSlots}
@@ -152,11 +152,16 @@ module _ (a : Slots) (s : GroupSlots) (due : DueRule) (n m : ℕ) (b : Slots) (r
       at None = refl
       at (Some t) = timed_not_due due t
 
+  serial_stays : (n : ℕ) (o : Option Ticket) → has_serial_in n (option_map (timed_out_by due) o) ≡ has_serial_in n o
+  serial_stays n None = refl
+  serial_stays n (Some t) = ap (λ m. m == n) (timed_serial due t)
+
   -- after the walks over both lists, each ticket of the group that was due has timed out
   pub timed_out_all : IsTimedOut a s due (n + m) c u
   timed_out_all = record {
     change = change_both;
     next = second.swept.next ∙ first.swept.next;
+    serials = record { same = λ n y. ap (has_serial_in n) (all_timed y) ∙ serial_stays n (ticket_at a s.lists y) };
     items = ap (listed (ticket_at c s.lists)) change_both.frame.slots ∙ listed_map (timed_out_by due) (ticket_at a s.lists) (ticket_at c s.lists) (length a.payloads) (timed_serial due) all_timed;
     count =
         (let k = subst (λ (g : GroupLists). m + count_at c g (is_due_by due) ≡ count_at b g (is_due_by due)) lists second.count in

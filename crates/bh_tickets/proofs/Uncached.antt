@@ -1,12 +1,12 @@
 -- The end of a request context.
 use Rattle.std.proofs.Common.{◌≡◌, ℕ, ◌<◌, Bool, true, false, List, [], length, get_or, Option, Some, None, refl, ◌∙◌, sym, ap, subst, arith}
-use Rattle.std.specs.Prelude.{◌||◌, slice_get, if◌then◌else◌}
+use Rattle.std.specs.Prelude.{◌||◌, ◌==◌, slice_get, if◌then◌else◌}
 use Rattle.std.specs.Option.{option_map}
 use Rattle.bh_base.specs.declared.ticket.Ticket.{Ticket}
 use Rattle.bh_base.specs.Tickets.{is_cached_in, is_queued, is_kept}
 use Rattle.bh_slot_arena.specs.Slots.{lists_in, slots_on}
 use Rattle.bh_cache.specs.Cache.{IsDropped, uncached_in}
-use Rattle.bh_cache.specs.Slots.{Slots, has, is_on, is_live, is_owned, ticket_at, list_for, serial_in, InOrder, Once, count_below, has_one, IsArena, IsOwn, IsFrame}
+use Rattle.bh_cache.specs.Slots.{Slots, has, is_on, is_live, is_owned, ticket_at, list_for, serial_in, InOrder, Once, count_below, has_one, has_serial_in, IsArena, IsOwn, IsFrame}
 use Rattle.bh_cache.proofs.Order.{order_same, count_same}
 use Rattle.bh_tickets.specs.declared.group_slots.GroupSlots.{GroupSlots}
 use Rattle.bh_cache.specs.declared.notes.Noted.{Noted}
@@ -165,6 +165,10 @@ module _ (a b : Slots) (s : GroupSlots) (context n : ℕ) (arena : IsArena a 0) 
       needed = needed;
     }
 
+    serial_stays : (m : ℕ) (o : Option Ticket) → has_serial_in m (option_map (uncached_in context) o) ≡ has_serial_in m o
+    serial_stays m None = refl
+    serial_stays m (Some t) = ap (λ k. k == m) (same_of context t (λ (u : Ticket). u.serial) refl)
+
     -- the group's tickets are uncached, where those are noted that were cached
     pub uncached_is : IsUncached a s context n b r
     uncached_is = record {
@@ -179,5 +183,6 @@ module _ (a b : Slots) (s : GroupSlots) (context n : ℕ) (arena : IsArena a 0) 
       };
       next = ap (λ (z : GroupSlots). z.next) made;
       items = dropped.tickets;
+      serials = record { same = λ m y. ap (has_serial_in m) (dropped.here y) ∙ serial_stays m (ticket_at a s.lists y) };
       count = dropped.count;
     }

@@ -7,7 +7,7 @@ use Rattle.bh_base.specs.declared.ticket.Ticket.{Ticket}
 use Rattle.bh_base.specs.Tickets.{is_queued}
 use Rattle.bh_slot_arena.specs.Slots.{slots_on}
 use Rattle.bh_cache.specs.declared.lists.GroupLists.{GroupLists}
-use Rattle.bh_cache.specs.Chains.{AreOn, list_by_serial, list_by_name}
+use Rattle.bh_cache.specs.Chains.{AreOn, list_by_name}
 use Rattle.bh_cache.specs.Listed.{listed, put_in}
 use Rattle.bh_cache.specs.Slots.{Slots, has, is_live, is_on, is_owned, ticket_at, has_one, one, count_below, IsArena, InOrder, Once}
 use Rattle.bh_cache.proofs.Counts.{count_none, count_point}
@@ -101,8 +101,7 @@ module _ (a : Slots) (s : GroupSlots) (arena : IsArena a 0) (group : IsGroupSlot
     there = group.there;
     chains = group.chained.lists;
     live = not_live;
-    serials = free_on 1 s.lists.serials s.lists.free1 (list_by_serial s.lists) refl group.chained.serials;
-    names = free_on 2 s.lists.names s.lists.unnamed (list_by_name s.lists) refl group.chained.names;
+    names = free_on 1 s.lists.names s.lists.unnamed (list_by_name s.lists) refl group.chained.names;
   }
 
   -- and has as many slots as lie on the list of free ones
@@ -166,8 +165,7 @@ module _ (a : Slots) (g : GroupLists) (vacant : IsVacant a g) where
     there = vacant.there;
     chained = record {
       lists = vacant.chains;
-      serials = chains_on 1 g.serials g.free1 (list_by_serial g) refl vacant.serials;
-      names = chains_on 2 g.names g.unnamed (list_by_name g) refl vacant.names;
+      names = chains_on 1 g.names g.unnamed (list_by_name g) refl vacant.names;
     };
     arranged = record {
       distinct = λ x y t u e f k. absurd (no_ticket x t e);

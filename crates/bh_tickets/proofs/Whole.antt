@@ -136,7 +136,7 @@ groups_in {spare = Some p} whole = record {
 left_kept : (a b : Slots) (qs : List GroupSlots) (ns : List NameLists) (i : ℕ) (s r : GroupSlots) → AreLeft a qs ns → slice_get qs i ≡ Some s → IsGroupChange a s b r → AreLeft b (set qs i r) ns
 left_kept a b qs ns i s r left is change = left_same a b qs (set qs i r) ns left keeps had
   where
-    keeps : (j : ℕ) (n : NameLists) → slice_get ns j ≡ Some n → KeepsOwn 2 n.names n.unnamed a b
+    keeps : (j : ℕ) (n : NameLists) → slice_get ns j ≡ Some n → KeepsOwn 1 n.names n.unnamed a b
     keeps j n e = names_apart s.lists (lists_of n) a b change.chains (apart_lists s.lists n (left.beside j i n s e is))
 
     had : (j : ℕ) (k : GroupSlots) → slice_get (set qs i r) j ≡ Some k → HadLists qs k
@@ -312,6 +312,10 @@ some_group : (ss : List GroupSlots) (i : ℕ) → i < length ss → (s : GroupSl
 some_group [] i lt = absurd (omega (arith, lt))
 some_group (y ∷ ys) zero lt = (y, refl)
 some_group (y ∷ ys) (suc i) lt = some_group ys i (omega (arith, lt))
+
+-- at a number below how many groups contracts see there is a part
+pub part_there : (a : Slots) (ss : List GroupSlots) (view : TicketsView) (i : ℕ) → view_of a ss ≡ view → i < length view.groups → (s : GroupSlots) × (slice_get ss i ≡ Some s)
+part_there a ss view i e lt = some_group ss i (let n : length (groups_of a ss) ≡ length view.groups = ap (λ (v : TicketsView). length v.groups) e in omega (arith, n, lt, length-map ss (group_of a)))
 
 within_groups : (a : Slots) (ss : List GroupSlots) (i : ℕ) → i < length (groups_of a ss) → i < length ss
 within_groups a ss i lt = omega (arith, lt, length-map ss (group_of a))

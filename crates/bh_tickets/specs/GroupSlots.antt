@@ -1,5 +1,5 @@
 -- What a group keeps of its tickets beside their slots, and what its calls do.
-use Rattle.std.specs.Prelude.{eqb, if◌then◌else◌, ◌≡◌, ℕ, ◌+◌, ◌-◌, ◌<◌, ◌≤◌, ◌^◌, ◌&&◌, ◌||◌, [], ◌∷◌, ◌++◌, filter, map, Bool, nat_le, nat_lt, true, false, length, replicate, slice_get, Option, Some, None, List, count_by, drop, max}
+use Rattle.std.specs.Prelude.{eqb, if◌then◌else◌, ◌≡◌, ℕ, ◌+◌, ◌-◌, ◌<◌, ◌≤◌, ◌^◌, ◌&&◌, ◌||◌, [], ◌∷◌, ◌++◌, filter, map, Bool, nat_le, nat_lt, true, false, length, replicate, slice_get, Option, Some, None, List, count_by, drop, max, reverse}
 use Rattle.std.specs.List.{list_any}
 use Rattle.bh_base.specs.declared.ticket.Ticket.{Ticket}
 use Rattle.bh_base.specs.Tickets.{is_queued, is_kept, is_cached_in}
@@ -17,7 +17,7 @@ use Rattle.bh_cache.specs.Chains.{IsChainFrame, IsChained}
 use Rattle.bh_cache.specs.Notes.{is_noted, nothing}
 use Rattle.bh_cache.specs.Listed.{now_is}
 use Rattle.bh_slot_arena.specs.Slots.{lists_in, slots_on}
-use Rattle.bh_cache.specs.Slots.{Slots, has, is_on, is_owned, ticket_at, tickets_of, list_for, count_below, has_one, one, serial_in, InOrder, IsArena, IsFrame}
+use Rattle.bh_cache.specs.Slots.{Slots, has, is_on, is_owned, ticket_at, tickets_of, list_for, count_below, has_one, has_serial_in, one, serial_in, InOrder, IsArena, IsFrame}
 
 -- the four lists of a group follow on one another
 pub record IsNumbered (g : GroupLists) : Type 0 where
@@ -158,11 +158,20 @@ pub record CanAdd (s : GroupSlots) (v : Ticket) : Type 0 where
   pub command : v.command < 16
   pub needed : is_kept v ≡ true
 
+-- the ticket is in the last free slot, and all else of the group's tickets is as it was
+pub record ComesTo (a : Slots) (s : GroupSlots) (v : Ticket) (b : Slots) : Type 0 where
+  pub slot : ℕ
+  pub last : slice_get (reverse (slots_on a 0 s.lists.free)) 0 ≡ Some slot
+  pub free : ticket_at a s.lists slot ≡ None
+  pub here : ticket_at b s.lists slot ≡ Some v
+  pub others : (y : ℕ) → (y ≡ slot → ⊥) → ticket_at b s.lists y ≡ ticket_at a s.lists y
+
 -- the ticket is behind the others, and other groups are as they were
 pub record IsAdded (a : Slots) (s : GroupSlots) (v : Ticket) (b : Slots) (r : GroupSlots) : Type 0 where
   pub change : IsGroupChange a s b r
   pub next : r.next ≡ s.next + 1
   pub items : tickets_of b s.lists ≡ tickets_of a s.lists ++ v ∷ []
+  pub come : ComesTo a s v b
 
 -- a ticket, where somebody needs it
 abbrev pub if_kept : Option Ticket → Option Ticket
@@ -196,9 +205,14 @@ pub record IsSinceAt (o : Option Ticket) (due : DueRule) (before after : ℕ) : 
   pub earlier : after ≤ before
   pub own : (t : Ticket) → o ≡ Some t → t.command ≡ due.command → is_due_by due t ≡ false → after ≤ t.submitted
 
+-- each of the group's tickets is in the slot in which it was
+pub record KeepsSerials (a : Slots) (s : GroupSlots) (b : Slots) : Type 0 where
+  pub same : (serial y : ℕ) → has_serial_in serial (ticket_at b s.lists y) ≡ has_serial_in serial (ticket_at a s.lists y)
+
 -- the group's tickets are cached in the context no more
 pub record IsUncached (a : Slots) (s : GroupSlots) (context n : ℕ) (b : Slots) (r : GroupSlots) : Type 0 where
   pub change : IsGroupChange a s b r
   pub next : r.next ≡ s.next
   pub items : tickets_of b s.lists ≡ map (uncached_in context) (tickets_of a s.lists)
+  pub serials : KeepsSerials a s b
   pub count : n ≡ count_by (is_cached_in context) (tickets_of a s.lists)

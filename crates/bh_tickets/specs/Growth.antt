@@ -6,14 +6,12 @@ use Rattle.bh_cache.specs.declared.lists.GroupLists.{GroupLists}
 use Rattle.bh_cache.specs.Slots.{Slots, IsArena}
 
 -- a group's lists, in each family from a number on, with so many chains by cache name
-abbrev pub lists_from : ℕ → ℕ → ℕ → ℕ → GroupLists
-lists_from chains n m k = record {
+abbrev pub lists_from : ℕ → ℕ → ℕ → GroupLists
+lists_from chains n k = record {
   free = n;
   queued = n + 1;
   running = n + 2;
   settled = n + 3;
-  serials = m;
-  free1 = m + 16;
   names = k;
   unnamed = k + chains;
 }
@@ -23,30 +21,27 @@ abbrev pub chains_for : ℕ → ℕ
 chains_for slots = if nat_lt slots 256 then 16 else (if nat_lt slots 1024 then 64 else (if nat_lt slots 4096 then 256 else 1024))
 
 -- so many empty lists more in each family, and all else is as before
-pub record HasNewLists (n m k : ℕ) (a b : Slots) : Type 0 where
+pub record HasNewLists (n k : ℕ) (a b : Slots) : Type 0 where
   pub limit : b.limit ≡ a.limit
   pub payloads : b.payloads ≡ a.payloads
   pub families : length b.families ≡ length a.families
   pub first : lists_in b 0 ≡ lists_in a 0 ++ replicate n []
-  pub second : lists_in b 1 ≡ lists_in a 1 ++ replicate m []
-  pub third : lists_in b 2 ≡ lists_in a 2 ++ replicate k []
+  pub second : lists_in b 1 ≡ lists_in a 1 ++ replicate k []
 
 -- some empty lists more, and all else is as before
 pub record HasMoreLists (a b : Slots) : Type 0 where
   pub first : ℕ
   pub second : ℕ
-  pub third : ℕ
-  pub lists : HasNewLists first second third a b
+  pub lists : HasNewLists first second a b
 
 -- the lists of free slots are there, and so many slots more are within the limit
 pub record IsReadyFor (g : GroupLists) (count : ℕ) (a : Slots) : Type 0 where
   pub first : g.free < length (lists_in a 0)
-  pub second : g.free1 < length (lists_in a 1)
-  pub third : g.unnamed < length (lists_in a 2)
+  pub second : g.unnamed < length (lists_in a 1)
   pub within : length a.payloads + count ≤ a.limit
 
 -- so many slots more, on the lists of free slots
 pub record IsGrown (g : GroupLists) (count : ℕ) (a b : Slots) : Type 0 where
   pub blank : Ticket
-  pub is : b ≡ with_new_slots count (g.free ∷ g.free1 ∷ g.unnamed ∷ []) blank a
+  pub is : b ≡ with_new_slots count (g.free ∷ g.unnamed ∷ []) blank a
   pub arena : IsArena b 0

@@ -1,4 +1,5 @@
 pub mod TicketsView
+pub mod Tables
 pub mod Changes
 pub mod Counts
 pub mod GroupSlots

@@ -22,8 +22,8 @@ AreApart first last from to = (l : ℕ) → (first ≤ l) × (l ≤ last) → (f
 -- the lists are there, and no slot lies on them
 pub record AreEmpty (a : Slots) (n : NameLists) : Type 0 where
   pub some : n.names < n.unnamed
-  pub there : n.unnamed < length (lists_in a 2)
-  pub empty : (l : ℕ) → n.names ≤ l → l ≤ n.unnamed → slots_on a 2 l ≡ []
+  pub there : n.unnamed < length (lists_in a 1)
+  pub empty : (l : ℕ) → n.names ≤ l → l ≤ n.unnamed → slots_on a 1 l ≡ []
 
 -- the chains are those of no group, and no two of them have a list in common
 pub record AreLeft (a : Slots) (ss : List GroupSlots) (ns : List NameLists) : Type 0 where

@@ -15,5 +15,4 @@ pub record IsSame (g : GroupLists) (a b : Slots) : Type 0 where
   pub count : length (lists_in a 0) ≤ length (lists_in b 0)
   pub lists : (l : ℕ) → IsOwn g l → slots_on b 0 l ≡ slots_on a 0 l
   pub payloads : (l x : ℕ) → IsOwn g l → is_on a 0 l x ≡ true → slice_get b.payloads x ≡ slice_get a.payloads x
-  pub serials : KeepsOwn 1 g.serials g.free1 a b
-  pub names : KeepsOwn 2 g.names g.unnamed a b
+  pub names : KeepsOwn 1 g.names g.unnamed a b

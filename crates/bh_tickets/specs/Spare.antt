@@ -25,8 +25,7 @@ pub record IsVacant (a : Slots) (g : GroupLists) : Type 0 where
   pub there : g.settled < length (lists_in a 0)
   pub chains : HasChains a g
   pub live : (x : ℕ) → is_live a g x ≡ false
-  pub serials : AreFreeOn 1 g.serials g.free1 a g
-  pub names : AreFreeOn 2 g.names g.unnamed a g
+  pub names : AreFreeOn 1 g.names g.unnamed a g
 
 -- how many slots of the group have no ticket
 abbrev pub free_slots : Slots → GroupLists → ℕ

@@ -6,7 +6,7 @@ use Rattle.bh_cache.specs.Slots.{Slots, has, ticket_at, tickets_of}
 use Rattle.bh_tickets.specs.declared.group_slots.GroupSlots.{GroupSlots}
 use Rattle.bh_tickets.specs.declared.states.DueRule.{DueRule}
 use Rattle.bh_tickets.specs.Changes.{is_due_by, timed_out_by}
-use Rattle.bh_tickets.specs.GroupSlots.{IsGroupChange, count_at, if_kept}
+use Rattle.bh_tickets.specs.GroupSlots.{IsGroupChange, KeepsSerials, count_at, if_kept}
 
 -- the tickets in the slots are changed, each by itself, and all else is as it was
 pub record IsSwept (f : Option Ticket → Option Ticket) (xs : List ℕ) (a : Slots) (s : GroupSlots) (b : Slots) (r : GroupSlots) : Type 0 where
@@ -34,4 +34,5 @@ pub record IsTimedOut (a : Slots) (s : GroupSlots) (due : DueRule) (n : ℕ) (b 
   pub change : IsGroupChange a s b r
   pub next : r.next ≡ s.next
   pub items : tickets_of b s.lists ≡ map (timed_out_by due) (tickets_of a s.lists)
+  pub serials : KeepsSerials a s b
   pub count : n ≡ length (filter (is_due_by due) (tickets_of a s.lists))

@@ -1,5 +1,5 @@
 -- The tickets of all groups, by the number of the group.
-use Rattle.std.specs.Prelude.{◌≡◌, ◌≢◌, ℕ, Bool, zero, suc, List, [], ◌∷◌, map, length, Option, Some, None, slice_get, sum_by}
+use Rattle.std.specs.Prelude.{◌≡◌, ◌≢◌, ℕ, ◌==◌, ◌&&◌, Bool, true, false, find, zero, suc, List, [], ◌∷◌, map, length, Option, Some, None, slice_get, sum_by}
 use Rattle.bh_base.specs.declared.ticket.Ticket.{Ticket}
 use Rattle.bh_base.specs.Tickets.{changed_first}
 use Rattle.bh_tickets.specs.declared.group_slots.GroupSlots.{GroupSlots}
@@ -10,6 +10,8 @@ use Rattle.bh_tickets.specs.Names.{AreLeft}
 use Rattle.bh_tickets.specs.declared.changes.TicketChange.{TicketChange}
 use Rattle.bh_tickets.specs.Changes.{IsAllowed, changed_by}
 use Rattle.bh_tickets.specs.TicketsView.{TicketsView, GroupTickets, ChangesOnly, group_at, in_slot, IsFirstAt}
+use Rattle.bh_serials.specs.TableView.{TableView}
+use Rattle.bh_tickets.specs.Tables.{HaveTables, IsTable}
 
 -- the places below n that have a ticket, with the tickets
 abbrev pub slot_in : ℕ → Option Ticket → List (ℕ × Ticket) → List (ℕ × Ticket)
@@ -54,6 +56,22 @@ pub record IsWhole (a : Slots) (spare : Option GroupSlots) (ss : List GroupSlots
   pub free : (p : GroupSlots) → spare ≡ Some p → p ≡ no_slot_taken p.lists p.slots.max
   pub first : spare ≡ None → ss ≡ []
   pub names : AreLeft a (with_spare spare ss) ns
+
+-- and the table of each group is so
+pub record AreTickets (a : Slots) (spare : Option GroupSlots) (ss : List GroupSlots) (ns : List NameLists) (ts : List TableView) : Type 0 where
+  pub whole : IsWhole a spare ss ns
+  pub tables : HaveTables (groups_of a ss) ts
+
+-- where the table was the group's, it still is
+abbrev pub KeepsTable : Slots → GroupSlots → TableView → Slots → GroupSlots → TableView → Type 0
+KeepsTable a s t b r u = IsTable (group_of a s) t → IsTable (group_of b r) u
+
+-- the slot has the ticket of the serial, which is the first that has it and passes a test, where it passes
+pub record IsSerialAt (serial : ℕ) (g : GroupTickets) (slot : ℕ) : Type 0 where
+  pub ticket : Ticket
+  pub here : in_slot g slot ≡ Some ticket
+  pub passes : (q : Ticket → Bool) → q ticket ≡ true → find (λ t. t.serial == serial && q t) g.items ≡ Some ticket
+  pub fails : (q : Ticket → Bool) → q ticket ≡ false → find (λ t. t.serial == serial && q t) g.items ≡ None
 
 -- the slot has a ticket to which that may happen
 pub record CanChange (g : GroupTickets) (slot : ℕ) (change : TicketChange) : Type 0 where

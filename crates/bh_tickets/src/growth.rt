@@ -11,8 +11,8 @@ use bh_slot_arena::Arena;
 use std::alloc::{AllocError, Global};
 
 /// An arena without slots.
-pub fn new_arena(alloc: Global, limit: u32) -> Arena<Ticket, 3>
-    ensures { result ≡ record { limit = limit; payloads = []; families = [] ∷ [] ∷ [] ∷ [] } }
+pub fn new_arena(alloc: Global, limit: u32) -> Arena<Ticket, 2>
+    ensures { result ≡ record { limit = limit; payloads = []; families = [] ∷ [] ∷ [] } }
 {
     Arena::new(alloc, limit)
 }
@@ -32,26 +32,23 @@ pub fn chains_for(slots: u64) -> usize
     }
 }
 
-/// The lists of a new group, which are empty, with so many chains by cache name. In the third family slots without a
+/// The lists of a new group, which are empty, with so many chains by cache name. In the second family slots without a
 /// ticket and those whose ticket is not cached have one list, so that most tickets come and go without a move there.
 /// Refused, the arena may have some empty lists more.
-pub fn add_lists(arena: &mut Arena<Ticket, 3>, chains: usize) -> Result<GroupLists, AllocError>
+pub fn add_lists(arena: &mut Arena<Ticket, 2>, chains: usize) -> Result<GroupLists, AllocError>
     requires { chains < 2 ^ 63 }
-    ensures lists { IfOk result (λ lists. lists ≡ lists_from chains (length (lists_in arena.old 0)) (length (lists_in arena.old 1)) (length (lists_in arena.old 2))) }
-    ensures ok { OnOk result (HasNewLists 4 17 (chains + 1) arena.old arena.new) }
+    ensures lists { IfOk result (λ lists. lists ≡ lists_from chains (length (lists_in arena.old 0)) (length (lists_in arena.old 1))) }
+    ensures ok { OnOk result (HasNewLists 4 (chains + 1) arena.old arena.new) }
     ensures more { HasMoreLists arena.old arena.new }
 {
     arena.partition(0);
     let free = arena.add_lists(0, 4)?;
-    let serials = arena.add_lists(1, 17)?;
-    let names = arena.add_lists(2, chains + 1)?;
+    let names = arena.add_lists(1, chains + 1)?;
     Ok(GroupLists {
         free,
         queued: free + 1,
         running: free + 2,
         settled: free + 3,
-        serials,
-        free1: serials + 16,
         names,
         unnamed: names + chains,
     })
@@ -59,7 +56,7 @@ pub fn add_lists(arena: &mut Arena<Ticket, 3>, chains: usize) -> Result<GroupLis
 
 /// So many free slots for a group. Refused, nothing has changed.
 pub fn add_slots(
-    arena: &mut Arena<Ticket, 3>,
+    arena: &mut Arena<Ticket, 2>,
     lists: &GroupLists,
     count: u32,
 ) -> Result<(), AllocError>
@@ -68,11 +65,7 @@ pub fn add_slots(
     ensures err { OnErr result (arena.new ≡ arena.old) }
 {
     if arena
-        .add_slots(
-            count,
-            [lists.free, lists.free1, lists.unnamed],
-            blank_ticket(),
-        )
+        .add_slots(count, [lists.free, lists.unnamed], blank_ticket())
         .is_err()
     {
         return Err(AllocError);

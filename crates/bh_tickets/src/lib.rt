@@ -6,7 +6,6 @@ mod changes;
 mod counts;
 mod group_slots;
 mod growth;
-mod hints;
 mod names;
 mod order;
 mod spare;

@@ -10,7 +10,7 @@ use bh_cache::GroupLists;
 use bh_slot_arena::Arena;
 use std::alloc::AllocError;
 
-/// Chains by cache name, without a slot on them: the lists of the third family from `names` up to `unnamed`, which is
+/// Chains by cache name, without a slot on them: the lists of the second family from `names` up to `unnamed`, which is
 /// that of slots without a cached ticket.
 #[derive(Clone, Copy, Debug)]
 pub struct NameLists {
@@ -21,7 +21,7 @@ pub struct NameLists {
 /// The number of chains that no group has and that are so many. They are made where there are none. Refused, nothing has
 /// changed.
 pub fn ready_names(
-    arena: &mut Arena<Ticket, 3>,
+    arena: &mut Arena<Ticket, 2>,
     left: &mut Vec<NameLists>,
     chains: usize,
 ) -> Result<usize, AllocError>
@@ -35,7 +35,7 @@ pub fn ready_names(
     }
     left.reserve(1)?;
     arena.partition(0);
-    let names = arena.add_lists(2, chains + 1)?;
+    let names = arena.add_lists(1, chains + 1)?;
     let number = left.len();
     left.push_reserved(NameLists {
         names,

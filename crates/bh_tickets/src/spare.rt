@@ -21,7 +21,7 @@ use std::alloc::AllocError;
 const SPARE_CHAINS: usize = 16;
 
 /// What a group keeps that has no ticket.
-pub fn vacant(arena: &Arena<Ticket, 3>, lists: &GroupLists) -> GroupSlots
+pub fn vacant(arena: &Arena<Ticket, 2>, lists: &GroupLists) -> GroupSlots
     requires { lists.now.free < length (lists_in arena.now 0) }
     ensures { result ≡ no_slot_taken lists.now (free_slots arena.now lists.now) }
 {
@@ -31,7 +31,7 @@ pub fn vacant(arena: &Arena<Ticket, 3>, lists: &GroupLists) -> GroupSlots
 /// The lists of spare slots, of which there are so many then at least: what is missing is new. Refused, the arena may
 /// have some empty lists more.
 pub fn ready_spare(
-    arena: &mut Arena<Ticket, 3>,
+    arena: &mut Arena<Ticket, 2>,
     spare: &mut Option<GroupSlots>,
     slots: u64,
 ) -> Result<GroupLists, AllocError>
@@ -51,7 +51,7 @@ pub fn ready_spare(
 
 /// The lists of spare slots, which are made where there are none. Refused, the arena may have some empty lists more.
 fn spare_lists(
-    arena: &mut Arena<Ticket, 3>,
+    arena: &mut Arena<Ticket, 2>,
     spare: &mut Option<GroupSlots>,
 ) -> Result<GroupLists, AllocError>
     ensures keeps { KeepsGroups arena.old spare.old arena.new spare.new }
@@ -68,7 +68,7 @@ fn spare_lists(
 /// A place for a group, with lists for so many slots and no slot: the first from the place `from` on that a retired group
 /// left, else a new one behind the others. Refused, the arena may have some empty lists more.
 pub fn take_place(
-    arena: &mut Arena<Ticket, 3>,
+    arena: &mut Arena<Ticket, 2>,
     groups: &mut Vec<GroupSlots>,
     names: &mut Vec<NameLists>,
     from: usize,
@@ -87,7 +87,7 @@ pub fn take_place(
 /// The place that a retired group left, with so many chains by cache name: where its own are not, they are left to others,
 /// so that no group pays at its end for the many chains of one before it. Refused, nothing has changed.
 fn fit_place(
-    arena: &mut Arena<Ticket, 3>,
+    arena: &mut Arena<Ticket, 2>,
     groups: &mut Vec<GroupSlots>,
     names: &mut Vec<NameLists>,
     place: usize,
@@ -110,7 +110,7 @@ fn fit_place(
 
 /// A new place behind the others, with so many chains by cache name. Refused, the arena may have some empty lists more.
 fn new_place(
-    arena: &mut Arena<Ticket, 3>,
+    arena: &mut Arena<Ticket, 2>,
     groups: &mut Vec<GroupSlots>,
     chains: usize,
 ) -> Result<usize, AllocError>
@@ -147,7 +147,7 @@ fn has_no_slots(group: &GroupSlots) -> bool
 }
 
 /// So many slots go from one group to another, neither of which has a ticket.
-pub fn take_slots(arena: &mut Arena<Ticket, 3>, from: &GroupLists, to: &GroupLists, count: u64)
+pub fn take_slots(arena: &mut Arena<Ticket, 2>, from: &GroupLists, to: &GroupLists, count: u64)
     requires giver { IsVacant arena.old from.now }
     requires taker { IsVacant arena.old to.now }
     requires apart { IsApart from.now to.now }
@@ -160,7 +160,7 @@ pub fn take_slots(arena: &mut Arena<Ticket, 3>, from: &GroupLists, to: &GroupLis
 }
 
 /// A slot goes from one group to another, neither of which has a ticket. Nothing of the tickets that it had is left.
-fn take_slot(arena: &mut Arena<Ticket, 3>, from: &GroupLists, to: &GroupLists)
+fn take_slot(arena: &mut Arena<Ticket, 2>, from: &GroupLists, to: &GroupLists)
     requires giver { IsVacant arena.old from.now }
     requires taker { IsVacant arena.old to.now }
     requires apart { IsApart from.now to.now }
@@ -172,7 +172,6 @@ fn take_slot(arena: &mut Arena<Ticket, 3>, from: &GroupLists, to: &GroupLists)
     };
     arena.partition(0);
     arena.partition(1);
-    arena.partition(2);
     blank(arena, slot);
     arena.move_to_back(0, slot, to.free);
     place_free(arena, to, slot);
@@ -180,7 +179,7 @@ fn take_slot(arena: &mut Arena<Ticket, 3>, from: &GroupLists, to: &GroupLists)
 
 /// Nothing is left of the tickets that the slot had. One that had none since it was blank is not written again: it has the
 /// serial 0, which no ticket has.
-fn blank(arena: &mut Arena<Ticket, 3>, slot: u32)
+fn blank(arena: &mut Arena<Ticket, 2>, slot: u32)
     requires { slot < length arena.old.payloads }
     ensures { (t : Ticket) × (arena.new ≡ with_payload slot t arena.old) × (t.serial ≡ 0) }
 {
@@ -190,7 +189,7 @@ fn blank(arena: &mut Arena<Ticket, 3>, slot: u32)
 }
 
 /// All slots of a group go to one without tickets, and have none then. It takes no memory.
-pub fn give_slots(arena: &mut Arena<Ticket, 3>, group: &GroupSlots, to: &GroupLists)
+pub fn give_slots(arena: &mut Arena<Ticket, 2>, group: &GroupSlots, to: &GroupLists)
     requires giver { IsGroupSlots arena.old group.now }
     requires taker { IsVacant arena.old to.now }
     requires apart { IsApart group.now.lists to.now }
@@ -198,14 +197,12 @@ pub fn give_slots(arena: &mut Arena<Ticket, 3>, group: &GroupSlots, to: &GroupLi
 {
     let from = group.lists;
     is_number(from.settled);
-    is_number(from.free1);
     is_number(from.unnamed);
     arena.partition(0);
     gather(arena, 0, from.free, 4, to.free);
-    gather(arena, 1, from.serials, 17, to.free1);
     gather(
         arena,
-        2,
+        1,
         from.names,
         from.unnamed - from.names + 1,
         to.unnamed,
@@ -221,8 +218,8 @@ fn is_number(number: usize)
 }
 
 /// What is on so many lists, from the first on, goes to the end of another.
-fn gather(arena: &mut Arena<Ticket, 3>, family: usize, first: usize, count: usize, to: usize)
-    requires family { family < 3 }
+fn gather(arena: &mut Arena<Ticket, 2>, family: usize, first: usize, count: usize, to: usize)
+    requires family { family < 2 }
     requires there { first + count ≤ length (lists_in arena.old family) }
     requires few { first + count ≤ 2 ^ 64 }
     requires to { to < length (lists_in arena.old family) }

@@ -1,7 +1,7 @@
 //! The tickets of all groups.
 
 ghost use Rattle.std.specs.List.{list_any};
-ghost use Rattle.std.specs.Prelude.{◌≡◌, ◌≢◌, ℕ, ◌+◌, ◌-◌, ◌^◌, ◌<◌, ◌≤◌, ◌==◌, ◌&&◌, Bool, [], ◌∷◌, ◌++◌, count_by, filter, find, false, length, map, nat_le, slice_get, slice_set, IfOk, IfSome, None, OnErr, Some};
+ghost use Rattle.std.specs.Prelude.{◌≡◌, ◌≢◌, ℕ, ◌+◌, ◌-◌, ◌^◌, ◌<◌, ◌≤◌, ◌==◌, ◌&&◌, Bool, [], ◌∷◌, ◌++◌, count_by, filter, find, false, length, map, nat_le, slice_get, slice_set, vec_capacity, vec_len, IfOk, IfSome, IsSome, None, OnErr, Some};
 ghost use Rattle.bh_base.specs.declared.ticket.Ticket.{Ticket};
 ghost use Rattle.bh_base.specs.declared.ticket.TicketState.TheVariants as ticket;
 ghost use Rattle.bh_base.specs.Machine.{released_by_one};
@@ -9,19 +9,19 @@ ghost use Rattle.bh_base.specs.Tickets.{changed_first, in_state, is_busy_at, is_
 ghost use Rattle.bh_cache.specs.Cache.{uncached_in};
 ghost use Rattle.bh_tickets.specs.Changes.{answered, fallback_started, is_due_by, joined, queued_in, run_settled, run_started, run_stopped, timed_out_by};
 ghost use Rattle.bh_tickets.specs.TicketsView.{CanPush, ChangesOnly, HasPlace, IsFirstAt, IsThere, group_at, in_slot, is_used, no_tickets_in, slots_of};
-ghost use Rattle.bh_tickets.specs.Whole.{CanChange, IsChanged};
+ghost use Rattle.bh_serials.specs.TableView.{TableView, with_entry};
+ghost use Rattle.bh_tickets.specs.Whole.{CanChange, IsChanged, IsSerialAt};
 
 use crate::changes::TicketChange;
 use crate::group_slots::{self, GroupSlots, add, drop_cached, may_be_due};
 use crate::growth::new_arena;
-use crate::hints::SerialHints;
 use crate::names::NameLists;
 use crate::spare::{give_slots, ready_spare, take_place, take_slots, vacant};
 use crate::states::{DueRule, is_due, is_held, is_in_fallback};
 use crate::sweeps::{release, time_out};
 use crate::walks::{any_due_on, any_used_on};
 use bh_base::{Answer, Cause, Serial, Text, Ticket, TicketState};
-use bh_cache::find_serial_from;
+use bh_serials::SerialTable;
 use bh_slot_arena::Arena;
 use std::alloc::{AllocError, Global};
 use std::marker::Model;
@@ -29,7 +29,7 @@ use std::marker::Model;
 /// The tickets of all groups, by the numbers of the groups.
 #[derive(Drop)]
 pub struct Tickets {
-    arena: Arena<Ticket, 3>,
+    arena: Arena<Ticket, 2>,
     /// The slots of retired groups, as those of a group without tickets.
     spare: Option<GroupSlots>,
     groups: Vec<GroupSlots>,
@@ -37,19 +37,19 @@ pub struct Tickets {
     first_left: usize,
     /// Chains by cache name that retired groups left, and that no group has.
     names: Vec<NameLists>,
-    /// Where a ticket is looked for first. What they tell changes no answer.
-    hints: SerialHints,
+    /// Where the tickets of each group lie, by their serials.
+    tables: Vec<SerialTable>,
 }
 
 impl Model for Tickets {
     ghost use Rattle.bh_tickets.specs.TicketsView.{TicketsView};
-    ghost use Rattle.bh_tickets.specs.Whole.{view_of, IsWhole};
+    ghost use Rattle.bh_tickets.specs.Whole.{view_of, AreTickets};
 
     ghost Value = { TicketsView };
 
     ghost view = { λ ts. view_of ts.arena ts.groups.items };
 
-    ghost invariant = { λ ts. IsWhole ts.arena ts.spare ts.groups.items ts.names.items };
+    ghost invariant = { λ ts. AreTickets ts.arena ts.spare ts.groups.items ts.names.items ts.tables.items };
 }
 
 impl Tickets {
@@ -63,7 +63,7 @@ impl Tickets {
             groups: Vec::new(alloc),
             first_left: 0,
             names: Vec::new(alloc),
-            hints: SerialHints::new(alloc),
+            tables: Vec::new(alloc),
         }
     }
 
@@ -89,6 +89,8 @@ impl Tickets {
         ensures ok { IfOk result (λ place. HasPlace place slots self.old self.new) }
         ensures err { OnErr result (self.new ≡ self.old) }
     {
+        let table = SerialTable::new(*self.tables.allocator(), slots)?;
+        self.tables.reserve(1)?;
         let left = self.first_left;
         let from = ready_spare(&mut self.arena, &mut self.spare, slots)?;
         let names = &mut self.names;
@@ -99,7 +101,7 @@ impl Tickets {
         self.arena.partition(0);
         self.spare = Some(vacant(&self.arena, &from));
         self.groups[place] = vacant(&self.arena, &to);
-        self.hints.grow(self.arena.slot_count());
+        put_table(&mut self.tables, place, table);
         Ok(place)
     }
 
@@ -117,6 +119,7 @@ impl Tickets {
         self.arena.partition(0);
         self.spare = Some(vacant(&self.arena, &spare.lists));
         self.groups[place] = vacant(&self.arena, &group.lists);
+        self.tables[place].clear();
         self.first_left = self.first_left.min(place);
     }
 
@@ -181,16 +184,23 @@ impl Tickets {
         self.arena.front(0, entry.lists.queued)
     }
 
+    /// The slot of the ticket of the serial.
+    fn find_serial(&self, group: usize, serial: Serial) -> Option<u32>
+        requires { group < length self.now.groups }
+        ensures found { IfSome result (λ slot. IsSerialAt serial (group_at self.now group) slot) }
+        ensures none { result ≡ None → (q : Ticket → Bool) → find (λ t. t.serial == serial && q t) (group_at self.now group).items ≡ None }
+    {
+        self.tables[group].find(serial)
+    }
+
     /// The slot of the ticket of the serial, where its run is under way.
     pub fn find_busy(&self, group: usize, serial: Serial) -> Option<u32>
         requires { group < length self.now.groups }
         ensures found { IfSome result (λ slot. IsFirstAt (is_busy_at serial) (group_at self.now group) slot) }
         ensures none { result ≡ None → find (is_busy_at serial) (group_at self.now group).items ≡ None }
     {
-        let entry = &self.groups[group];
-        let hint = self.hints.slot_of(group, serial);
-        let slot = find_serial_from(&self.arena, &entry.lists, serial, hint)?;
-        if !self.arena.get(slot).busy {
+        let slot = self.find_serial(group, serial)?;
+        if !self.get(group, slot).busy {
             return None;
         }
         Some(slot)
@@ -202,10 +212,8 @@ impl Tickets {
         ensures found { IfSome result (λ slot. IsFirstAt (is_held_at serial) (group_at self.now group) slot) }
         ensures none { result ≡ None → find (is_held_at serial) (group_at self.now group).items ≡ None }
     {
-        let entry = &self.groups[group];
-        let hint = self.hints.slot_of(group, serial);
-        let slot = find_serial_from(&self.arena, &entry.lists, serial, hint)?;
-        if !is_held(self.arena.get(slot)) {
+        let slot = self.find_serial(group, serial)?;
+        if !is_held(self.get(group, slot)) {
             return None;
         }
         Some(slot)
@@ -217,10 +225,8 @@ impl Tickets {
         ensures found { IfSome result (λ slot. IsFirstAt (is_in_fallback_at serial) (group_at self.now group) slot) }
         ensures none { result ≡ None → find (is_in_fallback_at serial) (group_at self.now group).items ≡ None }
     {
-        let entry = &self.groups[group];
-        let hint = self.hints.slot_of(group, serial);
-        let slot = find_serial_from(&self.arena, &entry.lists, serial, hint)?;
-        if !is_in_fallback(self.arena.get(slot)) {
+        let slot = self.find_serial(group, serial)?;
+        if !is_in_fallback(self.get(group, slot)) {
             return None;
         }
         Some(slot)
@@ -256,12 +262,10 @@ impl Tickets {
         requires { group < length self.now.groups }
         ensures { result ≡ list_any (λ t. t.serial == serial) (filter (is_due_by due.now) (group_at self.now group).items) }
     {
-        let entry = &self.groups[group];
-        let hint = self.hints.slot_of(group, serial);
-        let Some(slot) = find_serial_from(&self.arena, &entry.lists, serial, hint) else {
+        let Some(slot) = self.find_serial(group, serial) else {
             return false;
         };
-        is_due(self.arena.get(slot), due)
+        is_due(self.get(group, slot), due)
     }
 
     /// Whether a ticket has timed out. It takes no walk where what is counted of the command shows that none has.
@@ -412,7 +416,7 @@ impl Tickets {
     {
         let entry = &mut self.groups[group];
         let slot = self.arena.back(0, entry.lists.free);
-        self.hints.note(group, ticket.serial, slot);
+        put_slot(&mut self.tables[group], ticket.serial, slot);
         add(&mut self.arena, entry, ticket);
     }
 
@@ -446,6 +450,31 @@ impl Tickets {
         ensures left { ChangesOnly group self.old self.new }
     {
         let entry = &mut self.groups[group];
-        release(&mut self.arena, entry);
+        release(&mut self.arena, entry, &mut self.tables[group]);
+    }
+}
+
+/// The ticket of the serial has come into the slot, where there is one.
+fn put_slot(table: &mut SerialTable, serial: Serial, slot: Option<u32>)
+    requires later { IsSome slot → table.old.latest < serial }
+    requires room { IsSome slot → length table.old.entries < table.old.room }
+    ensures { (x : ℕ) → slot ≡ Some x → table.new ≡ with_entry serial x table.old }
+{
+    if let Some(slot) = slot {
+        table.add(serial, slot);
+    }
+}
+
+/// The table is that of the group at the place.
+fn put_table(tables: &mut Vec<SerialTable>, place: usize, table: SerialTable)
+    requires place { place ≤ vec_len tables.old }
+    requires memory { vec_len tables.old < vec_capacity tables.old }
+    ensures here { slice_get tables.new.items place ≡ Some table }
+    ensures others { (g : ℕ) → g ≢ place → slice_get tables.new.items g ≡ slice_get tables.old.items g }
+{
+    if place < tables.len() {
+        tables[place] = table;
+    } else {
+        tables.push_reserved(table);
     }
 }

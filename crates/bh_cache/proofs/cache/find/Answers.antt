@@ -18,12 +18,12 @@ pub returns-clause-found : goal.returns-clause-found
 returns-clause-found c =
     let name : ℕ × List ℕ = (c.args.context, c.args.key.now) in
     let a = c.args.arena.now in
-    let arena : IsArena a 2 = arena_is a 2 (omega (arith, c.partition.ensures.families)) c.partition.ensures.lists in
-    if_found (is_cached_as c.args.command name) a c.args.lists.now c.find_on.result (name_best a c.args.lists.now c.args.command name c.requires arena c.find_on.result (c.find_on.ensures ∙ ap (λ l. earliest (is_cached_as c.args.command name) a.payloads None (slots_on a 2 l)) c.name_chain-chain.ensures))
+    let arena : IsArena a 1 = arena_is a 1 (omega (arith, c.partition.ensures.families)) c.partition.ensures.lists in
+    if_found (is_cached_as c.args.command name) a c.args.lists.now c.find_on.result (name_best a c.args.lists.now c.args.command name c.requires arena c.find_on.result (c.find_on.ensures ∙ ap (λ l. earliest (is_cached_as c.args.command name) a.payloads None (slots_on a 1 l)) c.name_chain-chain.ensures))
 
 pub returns-clause-none : goal.returns-clause-none
 returns-clause-none c =
     let name : ℕ × List ℕ = (c.args.context, c.args.key.now) in
     let a = c.args.arena.now in
-    let arena : IsArena a 2 = arena_is a 2 (omega (arith, c.partition.ensures.families)) c.partition.ensures.lists in
-    if_none (is_cached_as c.args.command name) a c.args.lists.now c.find_on.result (name_best a c.args.lists.now c.args.command name c.requires arena c.find_on.result (c.find_on.ensures ∙ ap (λ l. earliest (is_cached_as c.args.command name) a.payloads None (slots_on a 2 l)) c.name_chain-chain.ensures))
+    let arena : IsArena a 1 = arena_is a 1 (omega (arith, c.partition.ensures.families)) c.partition.ensures.lists in
+    if_none (is_cached_as c.args.command name) a c.args.lists.now c.find_on.result (name_best a c.args.lists.now c.args.command name c.requires arena c.find_on.result (c.find_on.ensures ∙ ap (λ l. earliest (is_cached_as c.args.command name) a.payloads None (slots_on a 1 l)) c.name_chain-chain.ensures))

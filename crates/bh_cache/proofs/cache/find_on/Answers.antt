@@ -11,7 +11,7 @@ pub loop-preserved : goal.loop-preserved
 loop-preserved c =
     let p = is_cached_as c.args.command (c.args.context, c.args.key.now) in
     let ps = c.args.arena.now.payloads in
-    let xs = slots_on c.args.arena.now 2 c.args.chain in
+    let xs = slots_on c.args.arena.now 1 c.args.chain in
     let at : slice_get xs c.loop.counter ≡ Some c.in-Some.slot = sym c.loop.invariant.ahead ∙ c.in-Some.is in
     let ahead = c.next-ahead.ensures c.args.chain c.loop.counter at in
     elim c.if-has_name.branch [

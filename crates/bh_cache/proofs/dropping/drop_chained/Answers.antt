@@ -16,10 +16,10 @@ pub overflow_add-number : goal.overflow_add-number
 overflow_add-number c =
     let g = c.args.lists.now in
     let b = c.loop-step.arena in
-    let arena : IsArena b 2 = arena_is b 2 (omega (arith, c.partition.ensures.families)) c.partition.ensures.lists in
+    let arena : IsArena b 1 = arena_is b 1 (omega (arith, c.partition.ensures.families)) c.partition.ensures.lists in
     let to : context_chain g c.args.context c.loop-step.step < g.unnamed = omega (arith, c.context_chain-chain.ensures.chain, c.context_chain-chain.ensures.to) in
-    let dropped = subst (λ l. IsDroppedFrom c.args.context g (slots_on b 2 l) b c.drop_chain-number.new.arena c.drop_chain-number.result) c.context_chain-chain.ensures.chain c.drop_chain-number.ensures.dropped in
-    let notes = subst (λ l. AreNoted c.args.context (λ x. has x (slots_on b 2 l)) b c.loop-step.notes c.drop_chain-number.new.notes) c.context_chain-chain.ensures.chain c.drop_chain-number.ensures.noted in
+    let dropped = subst (λ l. IsDroppedFrom c.args.context g (slots_on b 1 l) b c.drop_chain-number.new.arena c.drop_chain-number.result) c.context_chain-chain.ensures.chain c.drop_chain-number.ensures.dropped in
+    let notes = subst (λ l. AreNoted c.args.context (λ x. has x (slots_on b 1 l)) b c.loop-step.notes c.drop_chain-number.new.notes) c.context_chain-chain.ensures.chain c.drop_chain-number.ensures.noted in
     let all : IsDroppedAlong c.args.context g (c.loop-step.step + 1) c.args.arena.now c.drop_chain-number.new.arena (c.loop-step.number + c.drop_chain-number.result) c.args.notes.now c.drop_chain-number.new.notes =
     along_more c.args.context g c.loop-step.step c.args.arena.now b c.drop_chain-number.new.arena c.loop-step.number c.drop_chain-number.result c.args.notes.now c.loop-step.notes c.drop_chain-number.new.notes c.loop-step.invariant arena to dropped notes in
     let few = dropped_few c.args.context g all.slots c.args.arena.now c.drop_chain-number.new.arena (c.loop-step.number + c.drop_chain-number.result) all.dropped in
@@ -29,10 +29,10 @@ pub loop-step-preserved : goal.loop-step-preserved
 loop-step-preserved c =
     let g = c.args.lists.now in
     let b = c.loop-step.arena in
-    let arena : IsArena b 2 = arena_is b 2 (omega (arith, c.partition.ensures.families)) c.partition.ensures.lists in
+    let arena : IsArena b 1 = arena_is b 1 (omega (arith, c.partition.ensures.families)) c.partition.ensures.lists in
     let to : context_chain g c.args.context c.loop-step.step < g.unnamed = omega (arith, c.context_chain-chain.ensures.chain, c.context_chain-chain.ensures.to) in
-    let dropped = subst (λ l. IsDroppedFrom c.args.context g (slots_on b 2 l) b c.drop_chain-number.new.arena c.drop_chain-number.result) c.context_chain-chain.ensures.chain c.drop_chain-number.ensures.dropped in
-    let notes = subst (λ l. AreNoted c.args.context (λ x. has x (slots_on b 2 l)) b c.loop-step.notes c.drop_chain-number.new.notes) c.context_chain-chain.ensures.chain c.drop_chain-number.ensures.noted in
+    let dropped = subst (λ l. IsDroppedFrom c.args.context g (slots_on b 1 l) b c.drop_chain-number.new.arena c.drop_chain-number.result) c.context_chain-chain.ensures.chain c.drop_chain-number.ensures.dropped in
+    let notes = subst (λ l. AreNoted c.args.context (λ x. has x (slots_on b 1 l)) b c.loop-step.notes c.drop_chain-number.new.notes) c.context_chain-chain.ensures.chain c.drop_chain-number.ensures.noted in
     along_more c.args.context g c.loop-step.step c.args.arena.now b c.drop_chain-number.new.arena c.loop-step.number c.drop_chain-number.result c.args.notes.now c.loop-step.notes c.drop_chain-number.new.notes c.loop-step.invariant arena to dropped notes
 
 pub returns-clause-dropped : goal.returns-clause-dropped

@@ -40,6 +40,7 @@ loop-preserved c =
       end = c.loop.invariant.end;
       here = omega (arith, c.loop.invariant.end);
       ahead = c.next-ahead.ensures c.args.list (length along.behind) (along_at now old c.loop.counter c.in-Some.slot along at) ∙ along_next now old c.loop.counter c.in-Some.slot along at;
-      along = along_unless now old c.loop.counter c.in-Some.slot along at (c.loop.invariant.released.swept.change.arena.once c.args.list) (has_one is_kept (ticket_at c.loop.arena c.loop.group.lists c.in-Some.slot)) (slots_on c.release_at.new.arena 0 c.args.list) (c.release_at.ensures.walk c.args.list other);
-      released = released_more old c.loop.counter c.in-Some.slot c.args.arena.now c.args.group.now c.loop.arena c.loop.group c.release_at.new.arena c.release_at.new.group at c.loop.invariant.released c.release_at.ensures;
+      along = along_unless now old c.loop.counter c.in-Some.slot along at (c.loop.invariant.released.swept.change.arena.once c.args.list) (has_one is_kept (ticket_at c.loop.arena c.loop.group.lists c.in-Some.slot)) (slots_on c.release_at.new.arena 0 c.args.list) (c.release_at.ensures.released.walk c.args.list other);
+      released = released_more old c.loop.counter c.in-Some.slot c.args.arena.now c.args.group.now c.loop.arena c.loop.group c.release_at.new.arena c.release_at.new.group at c.loop.invariant.released c.release_at.ensures.released;
+      table = λ fits. c.release_at.ensures.table (c.loop.invariant.table fits);
     }

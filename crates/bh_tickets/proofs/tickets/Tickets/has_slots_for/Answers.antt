@@ -11,7 +11,7 @@ use Rattle.bh_tickets.proofs.tickets.Tickets.has_slots_for.Goals.{in-Some, in-No
 pub len_of-requires : goal.len_of-requires
 len_of-requires c =
     let ss = c.self.inside.groups.items in
-    let k = spare_vacant c.self.inside.arena c.in-Some.part ss c.self.inside.names.items (subst (λ (q : Option GroupSlots). IsWhole c.self.inside.arena q ss c.self.inside.names.items) c.in-Some.is c.self.invariant) in
+    let k = spare_vacant c.self.inside.arena c.in-Some.part ss c.self.inside.names.items (subst (λ (q : Option GroupSlots). IsWhole c.self.inside.arena q ss c.self.inside.names.items) c.in-Some.is c.self.invariant.whole) in
     (omega arith, (omega arith, omega (arith, k.there, k.numbered.settled)))
 
 pub returns-then-slots-spare : goal.returns-then-slots-spare
@@ -20,9 +20,9 @@ returns-then-slots-spare c =
     let ss = c.self.inside.groups.items in
     let known : c.match-self.spare + rooms ss ≡ length a.payloads = elim c.match-self.branch [
       | in-Some w ↦
-          let whole = subst (λ (q : Option GroupSlots). IsWhole a q ss c.self.inside.names.items) w.in-Some.is c.self.invariant in
+          let whole = subst (λ (q : Option GroupSlots). IsWhole a q ss c.self.inside.names.items) w.in-Some.is c.self.invariant.whole in
           omega (arith, w.spare-is, w.len_of.ensures, spare_max a w.in-Some.part ss c.self.inside.names.items whole, spare_slots a w.in-Some.part ss c.self.inside.names.items whole)
-      | in-None w ↦ omega (arith, w.spare-is, none_slots a ss c.self.inside.names.items (subst (λ (q : Option GroupSlots). IsWhole a q ss c.self.inside.names.items) w.in-None.is c.self.invariant))
+      | in-None w ↦ omega (arith, w.spare-is, none_slots a ss c.self.inside.names.items (subst (λ (q : Option GroupSlots). IsWhole a q ss c.self.inside.names.items) w.in-None.is c.self.invariant.whole))
     ] in
     subst (λ (v : TicketsView). nat_le c.args.slots c.match-self.spare ≡ nat_le (slots_of v + c.args.slots) v.limit) c.self.view_is
     (fits_spare c.args.slots c.match-self.spare (slots_of (view_of a ss)) a.limit c.if-slots-spare.true (omega (arith, known, shown_rooms a ss, c.partition.ensures.limit)))
@@ -33,9 +33,9 @@ returns-else-slots-spare c =
     let ss = c.self.inside.groups.items in
     let known : c.match-self.spare + rooms ss ≡ length a.payloads = elim c.match-self.branch [
       | in-Some w ↦
-          let whole = subst (λ (q : Option GroupSlots). IsWhole a q ss c.self.inside.names.items) w.in-Some.is c.self.invariant in
+          let whole = subst (λ (q : Option GroupSlots). IsWhole a q ss c.self.inside.names.items) w.in-Some.is c.self.invariant.whole in
           omega (arith, w.spare-is, w.len_of.ensures, spare_max a w.in-Some.part ss c.self.inside.names.items whole, spare_slots a w.in-Some.part ss c.self.inside.names.items whole)
-      | in-None w ↦ omega (arith, w.spare-is, none_slots a ss c.self.inside.names.items (subst (λ (q : Option GroupSlots). IsWhole a q ss c.self.inside.names.items) w.in-None.is c.self.invariant))
+      | in-None w ↦ omega (arith, w.spare-is, none_slots a ss c.self.inside.names.items (subst (λ (q : Option GroupSlots). IsWhole a q ss c.self.inside.names.items) w.in-None.is c.self.invariant.whole))
     ] in
     subst (λ (v : TicketsView). c.has_room_for.result ≡ nat_le (slots_of v + c.args.slots) v.limit) c.self.view_is
     (c.has_room_for.ensures ∙ fits_new c.args.slots c.match-self.spare (slots_of (view_of a ss)) a.limit (length a.payloads) (omega (arith, c.if-slots-spare.false)) (omega (arith, known, shown_rooms a ss)))

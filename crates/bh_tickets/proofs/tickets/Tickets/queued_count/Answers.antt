@@ -7,5 +7,5 @@ pub returns : goal.returns
 returns c =
     let s = c.index.result.now in
     let is = part_is c.self.inside.arena c.self.inside.groups.items c.args.self.now c.args.group s c.self.view_is c.requires.group c.index.ensures in
-    let counts = ((groups_in c.self.invariant).each c.args.group s is).counts c.args.command c.requires.command in
-    rw (← c.self.view_is) (counts.queued ∙ counted_is c.self.inside.arena c.self.inside.groups.items c.args.group s (queued_of c.args.command) (groups_in c.self.invariant) is)
+    let counts = ((groups_in c.self.invariant.whole).each c.args.group s is).counts c.args.command c.requires.command in
+    rw (← c.self.view_is) (counts.queued ∙ counted_is c.self.inside.arena c.self.inside.groups.items c.args.group s (queued_of c.args.command) (groups_in c.self.invariant.whole) is)

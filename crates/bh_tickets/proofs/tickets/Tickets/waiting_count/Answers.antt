@@ -7,4 +7,4 @@ pub returns : goal.returns
 returns c =
     let s = c.index.result.now in
     let is = part_is c.self.inside.arena c.self.inside.groups.items c.args.self.now c.args.group s c.self.view_is c.requires c.index.ensures in
-    rw (← c.self.view_is) (((groups_in c.self.invariant).each c.args.group s is).queued ∙ counted_is c.self.inside.arena c.self.inside.groups.items c.args.group s is_queued (groups_in c.self.invariant) is)
+    rw (← c.self.view_is) (((groups_in c.self.invariant.whole).each c.args.group s is).queued ∙ counted_is c.self.inside.arena c.self.inside.groups.items c.args.group s is_queued (groups_in c.self.invariant.whole) is)
