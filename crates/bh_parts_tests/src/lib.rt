@@ -1,4 +1,4 @@
-//! Tests of the lowest crates: permits and pools, rings, the circuit breaker, accounts, lists and slots.
+//! Tests of the lowest crates: permits and pools, rings, the circuit breaker, accounts, lists, slots and tables of serials.
 #![tactic(auto)]
 
 #[cfg(test)]
@@ -13,3 +13,5 @@ mod asserts;
 mod circuit;
 #[cfg(test)]
 mod rolling;
+#[cfg(test)]
+mod serials;
