@@ -1,19 +1,20 @@
 -- What becomes of the slots of a list as a request context ends.
-use Rattle.std.proofs.Common.{◌≡◌, ℕ, ◌+◌, ◌<◌, ◌≤◌, inl, inr, Bool, true, false, List, [], ◌∷◌, ◌++◌, length, get_or, take, Option, Some, None, refl, ◌∙◌, sym, ap, subst, arith}
+use Rattle.std.proofs.Common.{◌≡◌, ℕ, ◌+◌, ◌<◌, ◌≤◌, inl, inr, Bool, true, false, List, [], ◌∷◌, ◌++◌, length, take, Option, Some, None, refl, ◌∙◌, sym, ap, subst, arith}
 use Rattle.std.specs.Prelude.{◌||◌, ◌&&◌, eqb, slice_get, count_by, if◌then◌else◌}
 use Rattle.std.specs.Option.{option_map}
 use Rattle.std.proofs.lemmas.Bool.{cases_eq, eq-eqb, ne_eqb}
 use Rattle.bh_base.specs.declared.ticket.Ticket.{Ticket}
 use Rattle.bh_base.specs.Tickets.{is_cached_in}
-use Rattle.bh_slot_arena.specs.Slots.{lists_in, slots_on}
+use Rattle.bh_slot_arena.specs.Slots.{lists_in}
 use Rattle.bh_cache.specs.declared.lists.GroupLists.{GroupLists}
 use Rattle.bh_cache.specs.Cache.{IsDropped, IsDroppedFrom, cached_among, uncached_in}
 use Rattle.bh_cache.specs.Chains.{IsChained, IsChainFrame}
 use Rattle.bh_cache.specs.Listed.{listed}
-use Rattle.bh_cache.specs.Slots.{Slots, count_below, has, has_one, is_on, is_live, one, ticket_at, tickets_of}
+use Rattle.bh_cache.specs.Slots.{Slots, count_below, has, has_one, is_live, one, ticket_at, tickets_of}
 use Rattle.bh_cache.proofs.Counts.{count_all, count_listed, count_none, count_point}
+use Rattle.bh_cache.proofs.Found.{HaveAllCached}
 use Rattle.bh_cache.proofs.Listed.{listed_map}
-use Rattle.bh_cache.proofs.Placed.{frame_refl, frame_trans, live_same}
+use Rattle.bh_cache.proofs.Placed.{frame_trans, live_same}
 use Rattle.bh_cache.proofs.Members.{has_append, take_one_more}
 use Rattle.bh_cache.proofs.Order.{count_same}
 
@@ -99,19 +100,6 @@ module _ (context : ℕ) (a b : Slots) (g : GroupLists) (slot : ℕ) (t : Ticket
 
 -- ---- many slots
 
--- none is dropped
-pub dropped_none : (context : ℕ) (g : GroupLists) (a : Slots) → IsChained a g → IsDroppedFrom context g [] a a 0
-dropped_none context g a chained = record {
-  limit = refl;
-  first = refl;
-  families = refl;
-  chained = chained;
-  frame = frame_refl g a;
-  slots = refl;
-  payloads = λ x. refl;
-  count = λ live covers. omega arith;
-}
-
 module _ (context : ℕ) (g : GroupLists) (xs ys : List ℕ) (a b c : Slots) (n m : ℕ) (first : IsDroppedFrom context g xs a b n) (second : IsDroppedFrom context g ys b c m) where
   payload_both : (x : ℕ) → slice_get c.payloads x ≡ (if has x (xs ++ ys) then option_map (uncached_in context) (slice_get a.payloads x) else slice_get a.payloads x)
   payload_both x =
@@ -159,34 +147,27 @@ dropped_few context g xs a b n dropped =
     let l = count_all (length a.payloads) (λ x. true && has_one (is_cached_in context) (slice_get a.payloads x)) in
     omega (arith, k, l)
 
--- the lists of the first family stay
-pub list_same : (context : ℕ) (g : GroupLists) (xs : List ℕ) (a b : Slots) (n l : ℕ) → IsDroppedFrom context g xs a b n → slots_on b 0 l ≡ slots_on a 0 l
-list_same context g xs a b n l dropped = ap (λ (ls : List (List ℕ)). get_or ls l []) dropped.first
-
--- along three lists
-module _ (context : ℕ) (g : GroupLists) (a b c d : Slots) (q r s n m k : ℕ) (first : IsDroppedFrom context g (slots_on a 0 q) a b n) (second : IsDroppedFrom context g (slots_on b 0 r) b c m) (third : IsDroppedFrom context g (slots_on c 0 s) c d k) where
-  dropped_two : IsDroppedFrom context g (slots_on a 0 q ++ slots_on a 0 r) a c (n + m)
-  dropped_two = dropped_both context g (slots_on a 0 q) (slots_on a 0 r) a b c n m first (subst (λ xs. IsDroppedFrom context g xs b c m) (list_same context g (slots_on a 0 q) a b n r first) second)
-
-  -- the slots of three lists, dropped one list after another, are dropped together
-  pub dropped_three : IsDroppedFrom context g (slots_on a 0 q ++ slots_on a 0 r ++ slots_on a 0 s) a d (n + m + k)
-  dropped_three = dropped_both context g (slots_on a 0 q ++ slots_on a 0 r) (slots_on a 0 s) a c d (n + m) k dropped_two (subst (λ xs. IsDroppedFrom context g xs c d k) (list_same context g (slots_on a 0 q ++ slots_on a 0 r) a c (n + m) s dropped_two) third)
-
 -- ---- the tickets of a group
 
-module _ (context : ℕ) (a b : Slots) (g : GroupLists) (n : ℕ) (dropped : IsDroppedFrom context g (slots_on a 0 g.queued ++ slots_on a 0 g.running ++ slots_on a 0 g.settled) a b n) where
-  has_live : (x : ℕ) → has x (slots_on a 0 g.queued ++ slots_on a 0 g.running ++ slots_on a 0 g.settled) ≡ is_live a g x
-  has_live x =
-      has_append x (slots_on a 0 g.queued ++ slots_on a 0 g.running) (slots_on a 0 g.settled)
-      ∙ ap (λ d. d || has x (slots_on a 0 g.settled)) (has_append x (slots_on a 0 g.queued) (slots_on a 0 g.running))
-      ∙ regroup (is_on a 0 g.queued x) (is_on a 0 g.running x) (is_on a 0 g.settled x)
+module _ (context : ℕ) (a b : Slots) (g : GroupLists) (n : ℕ) (xs : List ℕ) (dropped : IsDroppedFrom context g xs a b n) (have : HaveAllCached context a g xs) where
+  -- a ticket of another slot is not cached in the context
+  stays : (x : ℕ) → is_live a g x ≡ true → has x xs ≡ false → (o : Option Ticket) → slice_get a.payloads x ≡ o → o ≡ option_map (uncached_in context) o
+  stays x live off None is = refl
+  stays x live off (Some t) is = ap Some (sym (uncached_same context t (by (is_cached_in context t) refl)))
     where
-      regroup : (d e f : Bool) → ((d || e) || f) ≡ (d || (e || f))
-      regroup true e f = refl
-      regroup false e f = refl
+      by : (d : Bool) → is_cached_in context t ≡ d → d ≡ false
+      by false e = refl
+      by true e = let k : true ≡ false = sym (have.all x live (ap (has_one (is_cached_in context)) is ∙ e)) ∙ off in absurd cc
 
   payload_is : (x : ℕ) → slice_get b.payloads x ≡ (if is_live a g x then option_map (uncached_in context) (slice_get a.payloads x) else slice_get a.payloads x)
-  payload_is x = dropped.payloads x ∙ ap (λ d. if d then option_map (uncached_in context) (slice_get a.payloads x) else slice_get a.payloads x) (has_live x)
+  payload_is x = by (has x xs) (is_live a g x) refl refl (dropped.payloads x)
+    where
+      by : (d e : Bool) → has x xs ≡ d → is_live a g x ≡ e → slice_get b.payloads x ≡ (if d then option_map (uncached_in context) (slice_get a.payloads x) else slice_get a.payloads x)
+          → slice_get b.payloads x ≡ (if e then option_map (uncached_in context) (slice_get a.payloads x) else slice_get a.payloads x)
+      by true true p q now = now
+      by true false p q now = let k : true ≡ false = sym (have.live x p) ∙ q in absurd cc
+      by false true p q now = now ∙ stays x q p (slice_get a.payloads x) refl
+      by false false p q now = now
 
   here_is : (x : ℕ) → ticket_at b g x ≡ option_map (uncached_in context) (ticket_at a g x)
   here_is x = ap (λ d. if d then slice_get b.payloads x else None) (live_same a b g dropped.first x) ∙ by (is_live a g x) (payload_is x)
@@ -197,7 +178,7 @@ module _ (context : ℕ) (a b : Slots) (g : GroupLists) (n : ℕ) (dropped : IsD
 
   counted : n ≡ count_by (is_cached_in context) (tickets_of a g)
   counted =
-      let k = dropped.count (is_live a g) (λ x h. sym (has_live x) ∙ h) in
+      let k = dropped.count (is_live a g) have.live in
       let none : cached_among (is_live a g) context b.payloads ≡ 0 = count_none (length b.payloads) (λ x. is_live a g x && has_one (is_cached_in context) (slice_get b.payloads x)) still in
       let all : cached_among (is_live a g) context a.payloads ≡ count_below (length a.payloads) (λ x. has_one (is_cached_in context) (ticket_at a g x))
       = count_same _ (λ x. has_one (is_cached_in context) (ticket_at a g x)) (length a.payloads) (λ x. either (is_live a g x) (slice_get a.payloads x)) in
@@ -215,7 +196,7 @@ module _ (context : ℕ) (a b : Slots) (g : GroupLists) (n : ℕ) (dropped : IsD
       still : (x : ℕ) → (is_live a g x && has_one (is_cached_in context) (slice_get b.payloads x)) ≡ false
       still x = gone (is_live a g x) (slice_get a.payloads x) (slice_get b.payloads x) (payload_is x)
 
-  -- where the slots of all its lists with tickets are dropped, the tickets of the group are
+  -- where the slots that have all tickets of the context are dropped, the tickets of the group are
   pub dropped_group : IsDropped context g a b n
   dropped_group = record {
     limit = dropped.limit;

@@ -1,17 +1,17 @@
 -- What is found along a chain is what is found among all of the group's tickets.
-use Rattle.std.proofs.Common.{◌≡◌, ℕ, ◌≤◌, inl, inr, Bool, true, false, List, [], ◌∷◌, Option, Some, None, refl, ◌∙◌, sym, ap, ap₂, subst, arith}
+use Rattle.std.proofs.Common.{◌≡◌, ℕ, ◌<◌, ◌≤◌, inl, inr, Bool, true, false, List, [], ◌∷◌, Option, Some, None, refl, ◌∙◌, sym, ap, ap₂, subst, arith}
 use Rattle.std.specs.Prelude.{◌||◌, ◌&&◌, ◌==◌, nat_eq, slice_get, if◌then◌else◌}
 use Rattle.std.specs.Cmp.Lexicographic.{pointwise}
 use Rattle.std.proofs.lemmas.Bool.{cases_eq, eq-eqb, ne_eqb}
 use Rattle.bh_base.specs.declared.ticket.Ticket.{Ticket}
-use Rattle.bh_base.specs.Tickets.{is_cached_as}
+use Rattle.bh_base.specs.Tickets.{is_cached_as, is_cached_in}
 use Rattle.bh_slot_arena.specs.Slots.{slots_on}
 use Rattle.bh_cache.specs.declared.lists.GroupLists.{GroupLists}
 use Rattle.bh_cache.specs.Cache.{earliest}
-use Rattle.bh_cache.specs.Chains.{AreOn, IsChained, list_by_name, list_of_name, name_chain}
-use Rattle.bh_cache.specs.Slots.{Slots, IsArena, has_one, is_on, is_live, ticket_at}
+use Rattle.bh_cache.specs.Chains.{AreOn, IsChained, context_chain, list_by_context, list_by_name, list_of_context, list_of_name, name_chain}
+use Rattle.bh_cache.specs.Slots.{Slots, IsArena, has, has_one, is_on, is_live, ticket_at}
 use Rattle.bh_cache.proofs.Earliest.{IsBest, best_among, earliest_best}
-use Rattle.bh_cache.proofs.Placed.{name_chain_not_unnamed}
+use Rattle.bh_cache.proofs.Placed.{context_chain_not_outside, name_chain_not_unnamed}
 
 module _ (a : Slots) (g : GroupLists) (f first last : ℕ) (to : Option Ticket → ℕ) (are : AreOn f first last to a g) where
   -- a slot of the group that lies on another list than those without a ticket has one
@@ -84,3 +84,41 @@ name_best a g command name chained arena r is =
     back : (x : ℕ) (o : Option Ticket) → is_live a g x ≡ true → slice_get a.payloads x ≡ o → has_one (is_cached_as command name) o ≡ true → is_on a 1 (name_chain g name) x ≡ true
     back x None live is e = absurd cc
     back x (Some t) live is e = ap (λ l. is_on a 1 l x) (sym (on_name g name command t e)) ∙ on_live a g 1 g.names g.unnamed (list_by_name g) chained.names x t live is
+
+-- ---- by request context
+
+-- the slots have tickets, and each slot is among them whose ticket is cached in the context
+pub record HaveAllCached (context : ℕ) (a : Slots) (g : GroupLists) (xs : List ℕ) : Type 0 where
+  pub live : (x : ℕ) → has x xs ≡ true → is_live a g x ≡ true
+  pub all : (x : ℕ) → is_live a g x ≡ true → has_one (is_cached_in context) (slice_get a.payloads x) ≡ true → has x xs ≡ true
+
+-- a ticket that is cached in a context belongs on the chain of the context
+on_context : (g : GroupLists) (context : ℕ) (t : Ticket) → is_cached_in context t ≡ true → list_by_context g (Some t) ≡ context_chain g context
+on_context g context t e = by t.cached t.cache e
+  where
+    of : (name : ℕ × List ℕ) → (name.0 == context) ≡ true → name.0 ≡ context
+    of name e = elim (cases_eq name.0 context) [
+      | inl q ↦ q
+      | inr ne ↦ let k : false ≡ true = sym (ne_eqb name.0 context ne) ∙ e in absurd cc
+    ]
+
+    by : (b : Bool) (o : Option (ℕ × List ℕ)) → (b && elim o [ None ↦ false | Some given ↦ given.0 == context ]) ≡ true → (if b then list_of_context g o else g.outside) ≡ context_chain g context
+    by false o e = absurd cc
+    by true None e = absurd cc
+    by true (Some name) e = ap (context_chain g) (of name e)
+
+module _ (a : Slots) (g : GroupLists) (chained : IsChained a g) (arena : IsArena a 2) where
+  -- a slot on a chain by context has a ticket
+  pub live_on_chain : (l x : ℕ) → g.contexts ≤ l → l < g.outside → is_on a 2 l x ≡ true → is_live a g x ≡ true
+  live_on_chain l x from to on = live_on a g 2 g.contexts g.outside (list_by_context g) chained.contexts arena l x from (omega (arith, to)) (λ q. absurd (omega (arith, to, q))) on
+
+  -- the chain of a context has each slot whose ticket is cached in it
+  pub chain_has_all : (context : ℕ) → HaveAllCached context a g (slots_on a 2 (context_chain g context))
+  chain_has_all context = record {
+    live = λ x on. live_on_chain (context_chain g context) x (omega arith) (context_chain_not_outside a g chained.lists context) on;
+    all = λ x live cached. by x (slice_get a.payloads x) live refl cached;
+  }
+    where
+      by : (x : ℕ) (o : Option Ticket) → is_live a g x ≡ true → slice_get a.payloads x ≡ o → has_one (is_cached_in context) o ≡ true → is_on a 2 (context_chain g context) x ≡ true
+      by x None live is e = absurd cc
+      by x (Some t) live is e = ap (λ l. is_on a 2 l x) (sym (on_context g context t e)) ∙ on_live a g 2 g.contexts g.outside (list_by_context g) chained.contexts x t live is

@@ -14,4 +14,3 @@ pub mod Found  -- what is found along a chain is what is found among all of the 
 -- The end of a request context:
 pub mod Dropped  -- what becomes of the slots of a list
 pub mod Noting  -- what is noted
-pub mod DroppedChains  -- what becomes of the tickets of a group along the chains of the context

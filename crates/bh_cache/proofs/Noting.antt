@@ -4,16 +4,15 @@ use Rattle.std.specs.Prelude.{◌||◌, slice_get, if◌then◌else◌}
 use Rattle.std.specs.Option.{option_map}
 use Rattle.std.proofs.lemmas.Bool.{cases_eq, eq-eqb, ne_eqb}
 use Rattle.bh_base.specs.Tickets.{is_cached_in}
-use Rattle.bh_slot_arena.specs.Slots.{slots_on}
 use Rattle.bh_cache.specs.declared.lists.GroupLists.{GroupLists}
 use Rattle.bh_cache.specs.Cache.{IsDroppedFrom, uncached_in}
-use Rattle.bh_cache.specs.Slots.{Slots, has, has_one, is_on, is_live}
+use Rattle.bh_cache.specs.Slots.{Slots, has, has_one, is_live}
 use Rattle.bh_cache.proofs.Members.{has_append, take_one_more}
 use Rattle.bh_cache.specs.declared.notes.FewSlots.{FewSlots}
 use Rattle.bh_cache.specs.declared.notes.Noted.{Noted}
 use Rattle.bh_cache.specs.declared.notes.Noted.TheVariants as noted
 use Rattle.bh_cache.specs.Notes.{AreNoted, IsNoted, is_noted}
-use Rattle.bh_cache.proofs.Dropped.{dropped_both, list_same}
+use Rattle.bh_cache.proofs.Found.{HaveAllCached}
 
 not_both : (b : Bool) → b ≡ true → b ≡ false → ⊥
 not_both b e f = let k : true ≡ false = sym e ∙ f in cc
@@ -53,10 +52,6 @@ noted_not context a x n off = record {
 pub noted_one : (context : ℕ) (a : Slots) (x : ℕ) (n m : Noted) → IsNoted x n m → AreNoted context (λ y. has y (x ∷ [])) a n m
 noted_one context a x n m is = record { cached = λ y on cached. ap (is_noted m) (sym (only x y on)) ∙ is.it; more = is.more }
 
--- of no slots none is noted
-pub noted_none : (context : ℕ) (a : Slots) (n : Noted) → AreNoted context (λ x. has x []) a n n
-noted_none context a n = record { cached = λ x e. absurd (not_both false e refl); more = λ y e. e }
-
 module _ (context : ℕ) (g : GroupLists) (xs ys : List ℕ) (a b : Slots) (number : ℕ) (n m k : Noted) (dropped : IsDroppedFrom context g xs a b number) (first : AreNoted context (λ x. has x xs) a n m) (second : AreNoted context (λ x. has x ys) b m k) where
   -- slots that are noted after others are noted together with them
   pub noted_both : AreNoted context (λ x. has x (xs ++ ys)) a n k
@@ -75,37 +70,6 @@ pub noted_more : (context : ℕ) (g : GroupLists) (xs : List ℕ) (i x : ℕ) (a
     → AreNoted context (λ y. has y (take i xs)) a n m → AreNoted context (λ y. has y (x ∷ [])) b m k → AreNoted context (λ y. has y (take (i + 1) xs)) a n k
 noted_more context g xs i x a b number n m k at dropped first second = subst (λ (ys : List ℕ). AreNoted context (λ y. has y ys) a n k) (sym (take_one_more xs i x at)) (noted_both context g (take i xs) (x ∷ []) a b number n m k dropped first second)
 
--- along three lists
-module _ (context : ℕ) (g : GroupLists) (a b c d : Slots) (i j l : ℕ) (n m k o : Noted)
-    (first : IsDroppedFrom context g (slots_on a 0 g.queued) a b i) (second : IsDroppedFrom context g (slots_on b 0 g.running) b c j) (third : IsDroppedFrom context g (slots_on c 0 g.settled) c d l)
-    (first_noted : AreNoted context (λ x. has x (slots_on a 0 g.queued)) a n m) (second_noted : AreNoted context (λ x. has x (slots_on b 0 g.running)) b m k) (third_noted : AreNoted context (λ x. has x (slots_on c 0 g.settled)) c k o) where
-  abbrev two : List ℕ
-  two = slots_on a 0 g.queued ++ slots_on a 0 g.running
-
-  running_same : slots_on b 0 g.running ≡ slots_on a 0 g.running
-  running_same = list_same context g (slots_on a 0 g.queued) a b i g.running first
-
-  dropped_two : IsDroppedFrom context g two a c (i + j)
-  dropped_two = dropped_both context g (slots_on a 0 g.queued) (slots_on a 0 g.running) a b c i j first (subst (λ xs. IsDroppedFrom context g xs b c j) running_same second)
-
-  settled_same : slots_on c 0 g.settled ≡ slots_on a 0 g.settled
-  settled_same = list_same context g two a c (i + j) g.settled dropped_two
-
-  noted_three : AreNoted context (λ x. has x (two ++ slots_on a 0 g.settled)) a n o
-  noted_three =
-      noted_both context g two (slots_on a 0 g.settled) a c (i + j) n k o dropped_two
-      (noted_both context g (slots_on a 0 g.queued) (slots_on a 0 g.running) a b i n m k first first_noted (subst (λ (xs : List ℕ). AreNoted context (λ x. has x xs) b m k) running_same second_noted))
-      (subst (λ (xs : List ℕ). AreNoted context (λ x. has x xs) c k o) settled_same third_noted)
-
-  -- the slots of the group's three lists with tickets are noted
-  pub noted_group : AreNoted context (is_live a g) a n o
-  noted_group = record { cached = λ x live is. noted_three.cached x (has_live x ∙ live) is; more = noted_three.more }
-    where
-      regroup : (p q r : Bool) → ((p || q) || r) ≡ (p || (q || r))
-      regroup true q r = refl
-      regroup false q r = refl
-
-      has_live : (x : ℕ) → has x (two ++ slots_on a 0 g.settled) ≡ is_live a g x
-      has_live x =
-          has_append x two (slots_on a 0 g.settled) ∙ ap (λ p. p || has x (slots_on a 0 g.settled)) (has_append x (slots_on a 0 g.queued) (slots_on a 0 g.running))
-          ∙ regroup (is_on a 0 g.queued x) (is_on a 0 g.running x) (is_on a 0 g.settled x)
+-- the slots are noted that have all tickets of the context, so those of the group are
+pub noted_group : (context : ℕ) (a : Slots) (g : GroupLists) (xs : List ℕ) (n m : Noted) → HaveAllCached context a g xs → AreNoted context (λ x. has x xs) a n m → AreNoted context (is_live a g) a n m
+noted_group context a g xs n m have noted = record { cached = λ x live is. noted.cached x (have.all x live is) is; more = noted.more }

@@ -1,59 +1,82 @@
 -- The chains of a group: where its slots lie, and what stays as one of them is placed.
 use Rattle.std.proofs.lemmas.Nat.{and_le_r}
-use Rattle.std.proofs.Common.{◌≡◌, ℕ, ◌+◌, ◌*◌, ◌/◌, ◌-◌, ◌<◌, ◌≤◌, inl, inr, Bool, true, false, List, [], length, get_or, Option, Some, None, refl, ◌∙◌, sym, ap, subst, arith}
+use Rattle.std.proofs.Common.{◌≡◌, ℕ, ◌-◌, ◌<◌, ◌≤◌, inl, inr, Bool, true, false, List, [], length, get_or, Option, Some, None, refl, ◌∙◌, sym, ap, subst, arith}
 use Rattle.std.specs.Prelude.{◌||◌, ◌&&◌, eqb, is_some, slice_get, if◌then◌else◌}
 use Rattle.std.proofs.lemmas.Bool.{cases_eq, eq-eqb, ne_eqb}
 use Rattle.bh_base.specs.declared.ticket.Ticket.{Ticket}
 use Rattle.bh_index_lists.specs.Lists.{without}
 use Rattle.bh_slot_arena.specs.Slots.{lists_in, slots_on, with_moved}
 use Rattle.bh_cache.specs.declared.lists.GroupLists.{GroupLists}
-use Rattle.bh_cache.specs.Chains.{AreOn, HasChains, IsChained, IsChainFrame, KeepsLists, is_named, list_by_name, list_of_name, name_chain, with_placed, with_placed_where}
-use Rattle.bh_cache.specs.Names.{mixed, place_of_name, top_bits}
-use Rattle.bh_cache.specs.Places.{home_of, place_among, place_at}
+use Rattle.bh_cache.specs.Chains.{AreOn, HasChains, IsChained, IsChainFrame, KeepsLists, context_chain, is_named, list_by_context, list_by_name, list_of_context, list_of_name, name_chain, with_placed, with_placed_where}
+use Rattle.bh_cache.specs.Names.{place_of_name}
+use Rattle.bh_cache.specs.Places.{home_of, place_among, place_of_context}
 use Rattle.bh_cache.specs.Slots.{Slots, IsArena, has, is_on, is_live, is_owned, ticket_at}
 use Rattle.bh_cache.proofs.Moves.{families_count, family_stays, list_not_to, lists_count, on_moved, without_absent}
 
--- ---- the places of names
-
-top_bits_within : (h : ℕ) → top_bits h < 16
-top_bits_within h = omega arith
-
-pub name_place_within : (name : ℕ × List ℕ) → place_of_name name < 16
-unfolding place_of_name
-name_place_within name = top_bits_within (mixed name.0 name.1)
+-- ---- the places of names and of contexts
 
 -- a place among so many chains is one of them
-pub place_at_within : (n context step : ℕ) → 0 < n → place_at n context step < n
-unfolding place_at
-place_at_within n context step some = let k = and_le_r (home_of context + step * (n / 16)) (n - 1) in omega (arith, k, some)
-
 pub place_within : (n : ℕ) (name : ℕ × List ℕ) → 0 < n → place_among n name < n
-place_within n name some = place_at_within n name.0 _ some
+unfolding place_among
+place_within n name some = let k = and_le_r (place_of_name name) (n - 1) in omega (arith, k, some)
+
+pub home_within : (n context : ℕ) → 0 < n → place_of_context n context < n
+unfolding place_of_context
+home_within n context some = let k = and_le_r (home_of context) (n - 1) in omega (arith, k, some)
 
 -- ---- the lists on which slots are placed
+
+-- where a list is one of the lists up to the last, so is that or the last
+either_within : (first last l : ℕ) (b : Bool) → first ≤ last → (first ≤ l) × (l ≤ last) → (first ≤ (if b then l else last)) × ((if b then l else last) ≤ last)
+either_within first last l true some k = k
+either_within first last l false some k = (some, omega arith)
 
 module _ (a : Slots) (g : GroupLists) (chains : HasChains a g) where
   pub name_chain_not_unnamed : (name : ℕ × List ℕ) → name_chain g name < g.unnamed
   name_chain_not_unnamed name = let k = place_within (g.unnamed - g.names) name (omega (arith, chains.unnamed)) in omega (arith, k, chains.unnamed)
 
+  pub context_chain_not_outside : (context : ℕ) → context_chain g context < g.outside
+  context_chain_not_outside context = let k = home_within (g.outside - g.contexts) context (omega (arith, chains.outside)) in omega (arith, k, chains.outside)
+
+  of_name_within : (o : Option (ℕ × List ℕ)) → (g.names ≤ list_of_name g o) × (list_of_name g o ≤ g.unnamed)
+  of_name_within None = (omega (arith, chains.unnamed), omega arith)
+  of_name_within (Some name) = let k = name_chain_not_unnamed name in (omega arith, omega (arith, k))
+
+  of_context_within : (o : Option (ℕ × List ℕ)) → (g.contexts ≤ list_of_context g o) × (list_of_context g o ≤ g.outside)
+  of_context_within None = (omega (arith, chains.outside), omega arith)
+  of_context_within (Some name) = let k = context_chain_not_outside name.0 in (omega arith, omega (arith, k))
+
   -- a slot is placed on one of the group's lists of the second family
   pub name_list_within : (o : Option Ticket) → (g.names ≤ list_by_name g o) × (list_by_name g o ≤ g.unnamed)
   name_list_within None = (omega (arith, chains.unnamed), omega arith)
-  name_list_within (Some t) = by t.cached t.cache
-    where
-      by : (b : Bool) (o : Option (ℕ × List ℕ)) → (g.names ≤ (if b then list_of_name g o else g.unnamed)) × ((if b then list_of_name g o else g.unnamed) ≤ g.unnamed)
-      by false o = (omega (arith, chains.unnamed), omega (arith, chains.unnamed))
-      by true None = (omega (arith, chains.unnamed), omega (arith, chains.unnamed))
-      by true (Some name) = let k = place_within (g.unnamed - g.names) name (omega (arith, chains.unnamed)) in (omega (arith, k), omega (arith, k, chains.unnamed))
+  name_list_within (Some t) = either_within g.names g.unnamed (list_of_name g t.cache) t.cached (omega (arith, chains.unnamed)) (of_name_within t.cache)
+
+  -- and on one of the third
+  pub context_list_within : (o : Option Ticket) → (g.contexts ≤ list_by_context g o) × (list_by_context g o ≤ g.outside)
+  context_list_within None = (omega (arith, chains.outside), omega arith)
+  context_list_within (Some t) = either_within g.contexts g.outside (list_of_context g t.cache) t.cached (omega (arith, chains.outside)) (of_context_within t.cache)
+
+-- slots that have these tickets, or none, are placed on the same lists
+abbrev pub LieAlike : GroupLists → Option Ticket → Option Ticket → Type 0
+LieAlike g o q = (list_by_name g o ≡ list_by_name g q) × (list_by_context g o ≡ list_by_context g q)
+
+pub alike_same : (g : GroupLists) (o q : Option Ticket) → o ≡ q → LieAlike g o q
+alike_same g o q e = (ap (list_by_name g) e, ap (list_by_context g) e)
+
+pub alike_sym : (g : GroupLists) (o q : Option Ticket) → LieAlike g o q → LieAlike g q o
+alike_sym g o q e = (sym e.0, sym e.1)
+
+pub alike_trans : (g : GroupLists) (o q r : Option Ticket) → LieAlike g o q → LieAlike g q r → LieAlike g o r
+alike_trans g o q r e f = (e.0 ∙ f.0, e.1 ∙ f.1)
 
 -- a slot without a ticket that is cached under a name lies where one without a ticket does
-pub unnamed_list : (g : GroupLists) (o : Option Ticket) → is_named o ≡ false → list_by_name g o ≡ g.unnamed
-unnamed_list g None e = refl
-unnamed_list g (Some t) e = by t.cached t.cache e
+pub unnamed_alike : (g : GroupLists) (o : Option Ticket) → is_named o ≡ false → LieAlike g o None
+unnamed_alike g None e = (refl, refl)
+unnamed_alike g (Some t) e = by t.cached t.cache e
   where
-    by : (b : Bool) (o : Option (ℕ × List ℕ)) → (b && is_some o) ≡ false → (if b then list_of_name g o else g.unnamed) ≡ g.unnamed
-    by false o f = refl
-    by true None f = refl
+    by : (b : Bool) (o : Option (ℕ × List ℕ)) → (b && is_some o) ≡ false → ((if b then list_of_name g o else g.unnamed) ≡ g.unnamed) × ((if b then list_of_context g o else g.outside) ≡ g.outside)
+    by false o f = (refl, refl)
+    by true None f = (refl, refl)
     by true (Some name) f = absurd cc
 
 -- ---- where the first family stays
@@ -75,19 +98,26 @@ module _ (a b : Slots) (g : GroupLists) (same : lists_in b 0 ≡ lists_in a 0) w
 
 module _ (f first last : ℕ) (to : Option Ticket → ℕ) (a b : Slots) (g : GroupLists) (was : AreOn f first last to a g)
     (owned : (y : ℕ) → is_owned b g y ≡ is_owned a g y) where
-  -- where one slot of the group is put on the list for what it has, and all others stay, each lies on the list for what it has
-  pub rechained : (x : ℕ) → is_owned a g x ≡ true → ((y : ℕ) → (y ≡ x → ⊥) → ticket_at b g y ≡ ticket_at a g y)
-      → ((l y : ℕ) → (y ≡ x → ⊥) → is_on b f l y ≡ is_on a f l y) → is_on b f (to (ticket_at b g x)) x ≡ true → AreOn f first last to b g
-  rechained x here others stay there = record {
-    placed = λ y own. elim (cases_eq y x) [
-      | inl e ↦ subst (λ z. is_on b f (to (ticket_at b g z)) z ≡ true) (sym e) there
-      | inr ne ↦ ap (λ o. is_on b f (to o) y) (others y ne) ∙ stay (to (ticket_at a g y)) y ne ∙ was.placed y (sym (owned y) ∙ own)
-    ];
-    owned = λ l y from til on. elim (cases_eq y x) [
-      | inl e ↦ owned y ∙ ap (is_owned a g) e ∙ here
-      | inr ne ↦ owned y ∙ was.owned l y from til (sym (stay l y ne) ∙ on)
-    ];
-  }
+  module _ (x : ℕ) (here : is_owned a g x ≡ true) (others : (y : ℕ) → (y ≡ x → ⊥) → ticket_at b g y ≡ ticket_at a g y)
+      (on : (l y : ℕ) → is_on b f l y ≡ (if eqb y x then eqb l (to (ticket_at b g x)) else is_on a f l y)) where
+    there : is_on b f (to (ticket_at b g x)) x ≡ true
+    there = let l = to (ticket_at b g x) in on l x ∙ ap (λ c. if c then eqb l l else is_on a f l x) (eq-eqb x x refl) ∙ eq-eqb l l refl
+
+    stay : (l y : ℕ) → (y ≡ x → ⊥) → is_on b f l y ≡ is_on a f l y
+    stay l y ne = on l y ∙ ap (λ c. if c then eqb l (to (ticket_at b g x)) else is_on a f l y) (ne_eqb y x ne)
+
+    -- where one slot of the group is put on the list for what it has, and all others stay, each lies on the list for what it has
+    pub rechained : AreOn f first last to b g
+    rechained = record {
+      placed = λ y own. elim (cases_eq y x) [
+        | inl e ↦ subst (λ z. is_on b f (to (ticket_at b g z)) z ≡ true) (sym e) there
+        | inr ne ↦ ap (λ o. is_on b f (to o) y) (others y ne) ∙ stay (to (ticket_at a g y)) y ne ∙ was.placed y (sym (owned y) ∙ own)
+      ];
+      owned = λ l y from til lies. elim (cases_eq y x) [
+        | inl e ↦ owned y ∙ ap (is_owned a g) e ∙ here
+        | inr ne ↦ owned y ∙ was.owned l y from til (sym (stay l y ne) ∙ lies)
+      ];
+    }
 
   -- where the lists of the family are the same, and for each slot the list for what it has, each lies on it
   pub chained_still : lists_in b f ≡ lists_in a f → ((y : ℕ) → to (ticket_at b g y) ≡ to (ticket_at a g y)) → AreOn f first last to b g
@@ -98,8 +128,8 @@ module _ (f first last : ℕ) (to : Option Ticket → ℕ) (a b : Slots) (g : Gr
 
 -- a move of a slot of the group among the group's lists leaves the others
 pub keeps_moved : (f first last : ℕ) (to : Option Ticket → ℕ) (a b : Slots) (g : GroupLists) (x l : ℕ) → AreOn f first last to a g → IsArena a f → f < length b.families → lists_in b f ≡ lists_in a f
-    → first ≤ to (ticket_at a g x) → to (ticket_at a g x) ≤ last → is_owned a g x ≡ true → first ≤ l → l ≤ last → KeepsLists f first last a (with_moved f x l b)
-keeps_moved f first last to a b g x l was arena wide same low high here from til = record {
+    → ((o : Option Ticket) → (first ≤ to o) × (to o ≤ last)) → is_owned a g x ≡ true → first ≤ l → l ≤ last → KeepsLists f first last a (with_moved f x l b)
+keeps_moved f first last to a b g x l was arena wide same within here from til = record {
   count = lists_count b f x l wide ∙ ap (λ (ls : List (List ℕ)). length ls) same;
   lists = λ m out.
       list_not_to b f x l wide m (λ e. out (omega (arith, e, from), omega (arith, e, til)))
@@ -109,7 +139,59 @@ keeps_moved f first last to a b g x l was arena wide same low high here from til
   where
     away : (m : ℕ) → ((first ≤ m) × (m ≤ last) → ⊥) → (c : Bool) → is_on a f m x ≡ c → c ≡ false
     away m out false e = refl
-    away m out true e = let k : m ≡ to (ticket_at a g x) = arena.apart m (to (ticket_at a g x)) x e (was.placed x here) in absurd (out (omega (arith, k, low), omega (arith, k, high)))
+    away m out true e =
+        let k : m ≡ to (ticket_at a g x) = arena.apart m (to (ticket_at a g x)) x e (was.placed x here) in
+        let w = within (ticket_at a g x) in
+        absurd (out (omega (arith, k, w.0), omega (arith, k, w.1)))
+
+keeps_same : (f first last : ℕ) (a b : Slots) → lists_in b f ≡ lists_in a f → KeepsLists f first last a b
+keeps_same f first last a b same = record {
+  count = ap (λ (ls : List (List ℕ)). length ls) same;
+  lists = λ l out. ap (λ (ls : List (List ℕ)). get_or ls l []) same;
+}
+
+keeps_both : (f first last : ℕ) (a b c : Slots) → KeepsLists f first last a b → KeepsLists f first last b c → KeepsLists f first last a c
+keeps_both f first last a b c p q = record {
+  count = q.count ∙ p.count;
+  lists = λ l out. q.lists l out ∙ p.lists l out;
+}
+
+-- ---- chains that stay
+
+-- the lists of the chains are there, where there are as many lists as before
+still_there : (a b : Slots) (g : GroupLists) → HasChains a g → length (lists_in b 1) ≡ length (lists_in a 1) → length (lists_in b 2) ≡ length (lists_in a 2) → HasChains b g
+still_there a b g there names contexts = record {
+  unnamed = there.unnamed;
+  names_there = omega (arith, there.names_there, names);
+  outside = there.outside;
+  contexts_there = omega (arith, there.contexts_there, contexts);
+}
+
+-- where the second and the third family stay, so do the chains of other groups
+pub frame_same : (g : GroupLists) (a b : Slots) → lists_in b 1 ≡ lists_in a 1 → lists_in b 2 ≡ lists_in a 2 → IsChainFrame g a b
+frame_same g a b names contexts = record {
+  names = keeps_same 1 g.names g.unnamed a b names;
+  contexts = keeps_same 2 g.contexts g.outside a b contexts;
+}
+
+pub frame_refl : (g : GroupLists) (a : Slots) → IsChainFrame g a a
+frame_refl g a = frame_same g a a refl refl
+
+-- what stays twice stays
+pub frame_trans : (g : GroupLists) (a b c : Slots) → IsChainFrame g a b → IsChainFrame g b c → IsChainFrame g a c
+frame_trans g a b c p q = record {
+  names = keeps_both 1 g.names g.unnamed a b c p.names q.names;
+  contexts = keeps_both 2 g.contexts g.outside a b c p.contexts q.contexts;
+}
+
+-- where no slot's lists change, each slot still lies where it is placed
+pub chained_same : (a b : Slots) (g : GroupLists) → IsChained a g → lists_in b 1 ≡ lists_in a 1 → lists_in b 2 ≡ lists_in a 2 → ((y : ℕ) → is_owned b g y ≡ is_owned a g y)
+    → ((y : ℕ) → LieAlike g (ticket_at b g y) (ticket_at a g y)) → IsChained b g
+chained_same a b g was names contexts owned alike = let frame = frame_same g a b names contexts in record {
+  lists = still_there a b g was.lists frame.names.count frame.contexts.count;
+  names = chained_still 1 g.names g.unnamed (list_by_name g) a b g was.names owned names (λ y. (alike y).0);
+  contexts = chained_still 2 g.contexts g.outside (list_by_context g) a b g was.contexts owned contexts (λ y. (alike y).1);
+}
 
 -- ---- a slot is placed
 
@@ -117,58 +199,101 @@ keeps_moved f first last to a b g x l was arena wide same low high here from til
 pub record IsUnplaced (g : GroupLists) (x : ℕ) (a b : Slots) : Type 0 where
   pub wide : length b.families ≡ length a.families
   pub names : lists_in b 1 ≡ lists_in a 1
+  pub contexts : lists_in b 2 ≡ lists_in a 2
   pub owned : (y : ℕ) → is_owned b g y ≡ is_owned a g y
   pub others : (y : ℕ) → (y ≡ x → ⊥) → ticket_at b g y ≡ ticket_at a g y
   pub here : is_owned a g x ≡ true
 
 module _ (a : Slots) (g : GroupLists) (x : ℕ) (o : Option Ticket) where
+  -- the slot moved in the second family alone
+  abbrev named : Slots
+  named = with_moved 1 x (list_by_name g o) a
+
+  names_placed : lists_in (with_placed g x o a) 1 ≡ lists_in named 1
+  names_placed = family_stays named 2 1 x (list_by_context g o) (λ e. absurd (omega (arith, e)))
+
+  -- the third family is as it was before the slot moves in it
+  pub contexts_before : lists_in named 2 ≡ lists_in a 2
+  contexts_before = family_stays a 1 2 x (list_by_name g o) (λ e. absurd (omega (arith, e)))
+
   -- the first family stays
   pub first_placed : lists_in (with_placed g x o a) 0 ≡ lists_in a 0
-  first_placed = family_stays a 1 0 x (list_by_name g o) (λ e. absurd (omega (arith, e)))
+  first_placed = family_stays named 2 0 x (list_by_context g o) (λ e. absurd (omega (arith, e))) ∙ family_stays a 1 0 x (list_by_name g o) (λ e. absurd (omega (arith, e)))
+
+  families_named : length named.families ≡ length a.families
+  families_named = families_count a 1 x (list_by_name g o)
 
   -- there are as many families as before
   pub families_placed : length (with_placed g x o a).families ≡ length a.families
-  families_placed = families_count a 1 x (list_by_name g o)
+  families_placed = families_count named 2 x (list_by_context g o) ∙ families_named
 
-  -- in the second family the slot lies on its list and on no other, and all others lie as they did
-  pub on_names : 1 < length a.families → HasChains a g → (l y : ℕ) → is_on (with_placed g x o a) 1 l y ≡ (if eqb y x then eqb l (list_by_name g o) else is_on a 1 l y)
-  on_names wide chains l y = on_moved a 1 x (list_by_name g o) wide (let k = name_list_within a g chains o in omega (arith, k.1, chains.names_there)) l y
+  module _ (wide : 2 < length a.families) where
+    -- each list of the third family but the one to which the slot goes is as it was, without the slot
+    pub context_left : (l : ℕ) → (l ≡ list_by_context g o → ⊥) → slots_on (with_placed g x o a) 2 l ≡ without x (slots_on a 2 l)
+    context_left l ne = list_not_to named 2 x (list_by_context g o) (omega (arith, wide, families_named)) l ne ∙ ap (λ (ls : List (List ℕ)). without x (get_or ls l [])) contexts_before
 
-module _ (a b : Slots) (g : GroupLists) (x : ℕ) (o : Option Ticket) (was : IsChained a g) (names : IsArena a 1) (unplaced : IsUnplaced g x a b) where
-  wide : 1 < length b.families
-  wide = omega (arith, names.wide, unplaced.wide)
+    module _ (chains : HasChains a g) where
+      -- in the second family the slot lies on its list and on no other, and all others lie as they did
+      pub on_names : (l y : ℕ) → is_on (with_placed g x o a) 1 l y ≡ (if eqb y x then eqb l (list_by_name g o) else is_on a 1 l y)
+      on_names l y =
+          let k = name_list_within a g chains o in
+          ap (λ (ls : List (List ℕ)). has y (get_or ls l [])) names_placed
+          ∙ on_moved a 1 x (list_by_name g o) (omega (arith, wide)) (omega (arith, k.1, chains.names_there)) l y
+
+      -- and so in the third
+      pub on_contexts : (l y : ℕ) → is_on (with_placed g x o a) 2 l y ≡ (if eqb y x then eqb l (list_by_context g o) else is_on a 2 l y)
+      on_contexts l y =
+          let k = context_list_within a g chains o in
+          let count = ap (λ (ls : List (List ℕ)). length ls) contexts_before in
+          on_moved named 2 x (list_by_context g o) (omega (arith, wide, families_named)) (omega (arith, k.1, chains.contexts_there, count)) l y
+          ∙ ap (λ (ls : List (List ℕ)). if eqb y x then eqb l (list_by_context g o) else has y (get_or ls l [])) contexts_before
+
+module _ (a b : Slots) (g : GroupLists) (x : ℕ) (o : Option Ticket) (was : IsChained a g) (names : IsArena a 1) (contexts : IsArena a 2) (unplaced : IsUnplaced g x a b) where
+  abbrev after : Slots
+  after = with_placed g x o b
+
+  wide : 2 < length b.families
+  wide = omega (arith, contexts.wide, unplaced.wide)
 
   chains : HasChains b g
-  chains = record {
-    unnamed = was.lists.unnamed;
-    names_there = omega (arith, was.lists.names_there, ap (λ (ls : List (List ℕ)). length ls) unplaced.names);
-  }
+  chains = let same = frame_same g a b unplaced.names unplaced.contexts in still_there a b g was.lists same.names.count same.contexts.count
 
   -- the chains of other groups are as before
-  pub frame_placed : IsChainFrame g a (with_placed g x o b)
+  pub frame_placed : IsChainFrame g a after
   frame_placed =
-      let n = name_list_within a g was.lists (ticket_at a g x) in
-      let p = name_list_within a g was.lists o in
-      record { names = keeps_moved 1 g.names g.unnamed (list_by_name g) a b g x (list_by_name g o) was.names names wide unplaced.names n.0 n.1 unplaced.here p.0 p.1 }
+      let n = name_list_within a g was.lists o in
+      let k = context_list_within a g was.lists o in
+      let by_name = keeps_moved 1 g.names g.unnamed (list_by_name g) a b g x (list_by_name g o) was.names names (omega (arith, wide)) unplaced.names (name_list_within a g was.lists) unplaced.here n.0 n.1 in
+      let other : KeepsLists 1 g.names g.unnamed (with_moved 1 x (list_by_name g o) b) after = keeps_same 1 g.names g.unnamed (with_moved 1 x (list_by_name g o) b) after (names_placed b g x o) in
+      record {
+        names = keeps_both 1 g.names g.unnamed a (with_moved 1 x (list_by_name g o) b) after by_name other;
+        contexts =
+            keeps_moved 2 g.contexts g.outside (list_by_context g) a (with_moved 1 x (list_by_name g o) b) g x (list_by_context g o) was.contexts contexts (omega (arith, wide, families_named b g x o))
+            (contexts_before b g x o ∙ unplaced.contexts) (context_list_within a g was.lists) unplaced.here k.0 k.1;
+      }
 
   -- the slots of the group are those before it was placed
-  owned_placed : (y : ℕ) → is_owned (with_placed g x o b) g y ≡ is_owned a g y
-  owned_placed y = owned_same b (with_placed g x o b) g (first_placed b g x o) y ∙ unplaced.owned y
+  owned_placed : (y : ℕ) → is_owned after g y ≡ is_owned a g y
+  owned_placed y = owned_same b after g (first_placed b g x o) y ∙ unplaced.owned y
 
-  ticket_placed : (y : ℕ) → ticket_at (with_placed g x o b) g y ≡ ticket_at b g y
-  ticket_placed y = ticket_same b (with_placed g x o b) g (first_placed b g x o) y refl
+  ticket_placed : (y : ℕ) → ticket_at after g y ≡ ticket_at b g y
+  ticket_placed y = ticket_same b after g (first_placed b g x o) y refl
 
   -- where the slot is placed for what it has, each slot of the group lies where it is placed
-  pub chained_placed : o ≡ ticket_at b g x → IsChained (with_placed g x o b) g
+  pub chained_placed : o ≡ ticket_at b g x → IsChained after g
   chained_placed is = record {
-    lists = record {
-      unnamed = was.lists.unnamed;
-      names_there = omega (arith, was.lists.names_there, frame_placed.names.count);
-    };
-    names = rechained 1 g.names g.unnamed (list_by_name g) a (with_placed g x o b) g was.names owned_placed x unplaced.here (λ y ne. ticket_placed y ∙ unplaced.others y ne)
-        (λ l y ne. on_names b g x o wide chains l y ∙ ap (λ c. if c then eqb l (list_by_name g o) else is_on b 1 l y) (ne_eqb y x ne) ∙ ap (λ (ls : List (List ℕ)). has y (get_or ls l [])) unplaced.names)
-        (ap (λ q. is_on (with_placed g x o b) 1 (list_by_name g q) x) (ticket_placed x ∙ sym is) ∙ on_names b g x o wide chains (list_by_name g o) x ∙ ap (λ c. if c then eqb (list_by_name g o) (list_by_name g o) else is_on b 1 (list_by_name g o) x) (eq-eqb x x refl) ∙ eq-eqb (list_by_name g o) (list_by_name g o) refl);
+    lists = still_there a after g was.lists frame_placed.names.count frame_placed.contexts.count;
+    names = rechained 1 g.names g.unnamed (list_by_name g) a after g was.names owned_placed x unplaced.here others (λ l y. on_names b g x o wide chains l y ∙ both 1 (list_by_name g) l y unplaced.names);
+    contexts = rechained 2 g.contexts g.outside (list_by_context g) a after g was.contexts owned_placed x unplaced.here others (λ l y. on_contexts b g x o wide chains l y ∙ both 2 (list_by_context g) l y unplaced.contexts);
   }
+    where
+      others : (y : ℕ) → (y ≡ x → ⊥) → ticket_at after g y ≡ ticket_at a g y
+      others y ne = ticket_placed y ∙ unplaced.others y ne
+
+      both : (f : ℕ) (to : Option Ticket → ℕ) (l y : ℕ) → lists_in b f ≡ lists_in a f → (if eqb y x then eqb l (to o) else is_on b f l y) ≡ (if eqb y x then eqb l (to (ticket_at after g x)) else is_on a f l y)
+      both f to l y same =
+          ap (λ q. if eqb y x then eqb l (to q) else is_on b f l y) (is ∙ sym (ticket_placed x))
+          ∙ ap (λ (ls : List (List ℕ)). if eqb y x then eqb l (to (ticket_at after g x)) else has y (get_or ls l [])) same
 
 -- ---- a slot is placed only where that is told
 
@@ -189,73 +314,19 @@ module _ (named : Bool) (a : Slots) (g : GroupLists) (x : ℕ) (o : Option Ticke
       by true = families_placed a g x o
       by false = refl
 
-module _ (a b : Slots) (g : GroupLists) (x : ℕ) (o : Option Ticket) (was : IsChained a g) (names : IsArena a 1) (unplaced : IsUnplaced g x a b) where
-  same_name : list_by_name g o ≡ list_by_name g (ticket_at a g x) → o ≡ ticket_at b g x → (y : ℕ) → list_by_name g (ticket_at b g y) ≡ list_by_name g (ticket_at a g y)
-  same_name lies is y = elim (cases_eq y x) [
-    | inl e ↦ ap (λ z. list_by_name g (ticket_at b g z)) e ∙ ap (list_by_name g) (sym is) ∙ lies ∙ ap (λ z. list_by_name g (ticket_at a g z)) (sym e)
-    | inr ne ↦ ap (list_by_name g) (unplaced.others y ne)
+module _ (a b : Slots) (g : GroupLists) (x : ℕ) (o : Option Ticket) (was : IsChained a g) (names : IsArena a 1) (contexts : IsArena a 2) (unplaced : IsUnplaced g x a b) where
+  same_lists : LieAlike g o (ticket_at a g x) → o ≡ ticket_at b g x → (y : ℕ) → LieAlike g (ticket_at b g y) (ticket_at a g y)
+  same_lists lies is y = elim (cases_eq y x) [
+    | inl e ↦ subst (λ z. LieAlike g (ticket_at b g z) (ticket_at a g z)) (sym e) (subst (λ q. LieAlike g q (ticket_at a g x)) is lies)
+    | inr ne ↦ alike_same g (ticket_at b g y) (ticket_at a g y) (unplaced.others y ne)
   ]
-
-  chained_left : list_by_name g o ≡ list_by_name g (ticket_at a g x) → o ≡ ticket_at b g x → IsChained b g
-  chained_left lies is = record {
-    lists = record {
-      unnamed = was.lists.unnamed;
-      names_there = omega (arith, was.lists.names_there, ap (λ (ls : List (List ℕ)). length ls) unplaced.names);
-    };
-    names = chained_still 1 g.names g.unnamed (list_by_name g) a b g was.names unplaced.owned unplaced.names (same_name lies is);
-  }
 
   -- the chains of other groups are as before
   pub frame_where : (named : Bool) → IsChainFrame g a (with_placed_where named g x o b)
-  frame_where true = frame_placed a b g x o was names unplaced
-  frame_where false = record {
-    names = record {
-      count = ap (λ (ls : List (List ℕ)). length ls) unplaced.names;
-      lists = λ l out. ap (λ (ls : List (List ℕ)). get_or ls l []) unplaced.names;
-    };
-  }
+  frame_where true = frame_placed a b g x o was names contexts unplaced
+  frame_where false = frame_same g a b unplaced.names unplaced.contexts
 
-  -- where the slot is placed for what it has, and stays on a list only where it belongs there as before, each slot of the group lies where it is placed
-  pub chained_where : (named : Bool) → (named ≡ false → list_by_name g o ≡ list_by_name g (ticket_at a g x)) → o ≡ ticket_at b g x → IsChained (with_placed_where named g x o b) g
-  chained_where true lies is = chained_placed a b g x o was names unplaced is
-  chained_where false lies is = chained_left (lies refl) is
-
--- ---- chains that stay
-
--- where no slot's list changes, each slot still lies where it is placed
-pub chained_same : (a b : Slots) (g : GroupLists) → IsChained a g → lists_in b 1 ≡ lists_in a 1 → ((y : ℕ) → is_owned b g y ≡ is_owned a g y)
-    → ((y : ℕ) → list_by_name g (ticket_at b g y) ≡ list_by_name g (ticket_at a g y)) → IsChained b g
-chained_same a b g was names owned by_name = record {
-  lists = record {
-    unnamed = was.lists.unnamed;
-    names_there = omega (arith, was.lists.names_there, ap (λ (ls : List (List ℕ)). length ls) names);
-  };
-  names = chained_still 1 g.names g.unnamed (list_by_name g) a b g was.names owned names by_name;
-}
-
-keeps_same : (f first last : ℕ) (a b : Slots) → lists_in b f ≡ lists_in a f → KeepsLists f first last a b
-keeps_same f first last a b same = record {
-  count = ap (λ (ls : List (List ℕ)). length ls) same;
-  lists = λ l out. ap (λ (ls : List (List ℕ)). get_or ls l []) same;
-}
-
-keeps_both : (f first last : ℕ) (a b c : Slots) → KeepsLists f first last a b → KeepsLists f first last b c → KeepsLists f first last a c
-keeps_both f first last a b c p q = record {
-  count = q.count ∙ p.count;
-  lists = λ l out. q.lists l out ∙ p.lists l out;
-}
-
--- where the second family stays, so do the chains of other groups
-pub frame_same : (g : GroupLists) (a b : Slots) → lists_in b 1 ≡ lists_in a 1 → IsChainFrame g a b
-frame_same g a b names = record {
-  names = keeps_same 1 g.names g.unnamed a b names;
-}
-
-pub frame_refl : (g : GroupLists) (a : Slots) → IsChainFrame g a a
-frame_refl g a = frame_same g a a refl
-
--- what stays twice stays
-pub frame_trans : (g : GroupLists) (a b c : Slots) → IsChainFrame g a b → IsChainFrame g b c → IsChainFrame g a c
-frame_trans g a b c p q = record {
-  names = keeps_both 1 g.names g.unnamed a b c p.names q.names;
-}
+  -- where the slot is placed for what it has, and stays on its lists only where it belongs there as before, each slot of the group lies where it is placed
+  pub chained_where : (named : Bool) → (named ≡ false → LieAlike g o (ticket_at a g x)) → o ≡ ticket_at b g x → IsChained (with_placed_where named g x o b) g
+  chained_where true lies is = chained_placed a b g x o was names contexts unplaced is
+  chained_where false lies is = chained_same a b g was unplaced.names unplaced.contexts unplaced.owned (same_lists (lies refl) is)

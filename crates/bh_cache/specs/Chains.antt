@@ -1,16 +1,12 @@
--- The chains on which a group's cached tickets are found, by their names.
+-- The chains on which a group's cached tickets are found, by their names and by their request contexts.
 use Rattle.std.specs.Prelude.{◌≡◌, ℕ, ◌+◌, ◌-◌, ◌<◌, ◌≤◌, ◌&&◌, if◌then◌else◌, Bool, true, false, List, length, Option, Some, None, is_some}
 use Rattle.bh_base.specs.declared.ticket.Ticket.{Ticket}
 use Rattle.bh_slot_arena.specs.Slots.{lists_in, slots_on, with_moved}
 use Rattle.bh_cache.specs.declared.lists.GroupLists.{GroupLists}
-use Rattle.bh_cache.specs.Places.{place_among, place_at}
+use Rattle.bh_cache.specs.Places.{place_among, place_of_context}
 use Rattle.bh_cache.specs.Slots.{Slots, is_on, is_owned, ticket_at}
 
--- ---- the list of a ticket
-
--- one of the sixteen chains of a request context
-abbrev pub context_chain : GroupLists → ℕ → ℕ → ℕ
-context_chain g context step = g.names + place_at (g.unnamed - g.names) context step
+-- ---- the lists of a ticket
 
 -- the chain of a cache name, among those of the group
 abbrev pub name_chain : GroupLists → ℕ × List ℕ → ℕ
@@ -26,12 +22,28 @@ abbrev pub list_by_name : GroupLists → Option Ticket → ℕ
 list_by_name g None = g.unnamed
 list_by_name g (Some t) = if t.cached then list_of_name g t.cache else g.unnamed
 
+-- the chain of a request context, among those of the group
+abbrev pub context_chain : GroupLists → ℕ → ℕ
+context_chain g context = g.contexts + place_of_context (g.outside - g.contexts) context
+
+-- the list of the third family for a ticket that is cached and was given this name, or none
+abbrev pub list_of_context : GroupLists → Option (ℕ × List ℕ) → ℕ
+list_of_context g None = g.outside
+list_of_context g (Some name) = context_chain g name.0
+
+-- the list of the third family for a slot that has this ticket, or none
+abbrev pub list_by_context : GroupLists → Option Ticket → ℕ
+list_by_context g None = g.outside
+list_by_context g (Some t) = if t.cached then list_of_context g t.cache else g.outside
+
 -- ---- the slots of a group on their lists
 
--- the lists of the second family are there, and there is a chain by cache name
+-- the lists of the second and of the third family are there, and in each there is a chain
 pub record HasChains (a : Slots) (g : GroupLists) : Type 0 where
   pub unnamed : g.names < g.unnamed
   pub names_there : g.unnamed < length (lists_in a 1)
+  pub outside : g.contexts < g.outside
+  pub contexts_there : g.outside < length (lists_in a 2)
 
 -- each of the group's slots lies on the family's list for what it has, and only the group's slots lie on the group's lists
 pub record AreOn (family first last : ℕ) (to : Option Ticket → ℕ) (a : Slots) (g : GroupLists) : Type 0 where
@@ -42,6 +54,7 @@ pub record AreOn (family first last : ℕ) (to : Option Ticket → ℕ) (a : Slo
 pub record IsChained (a : Slots) (g : GroupLists) : Type 0 where
   pub lists : HasChains a g
   pub names : AreOn 1 g.names g.unnamed (list_by_name g) a g
+  pub contexts : AreOn 2 g.contexts g.outside (list_by_context g) a g
 
 -- the family has as many lists as before, and all but those from the first to the last are as before
 pub record KeepsLists (family first last : ℕ) (a b : Slots) : Type 0 where
@@ -51,18 +64,19 @@ pub record KeepsLists (family first last : ℕ) (a b : Slots) : Type 0 where
 -- the chains of other groups are as before
 pub record IsChainFrame (g : GroupLists) (a b : Slots) : Type 0 where
   pub names : KeepsLists 1 g.names g.unnamed a b
+  pub contexts : KeepsLists 2 g.contexts g.outside a b
 
 -- ---- a slot is placed
 
--- the slot, which has this ticket or none, put last on its list of the second family
+-- the slot, which has this ticket or none, put last on its lists of the second and of the third family
 abbrev pub with_placed : GroupLists → ℕ → Option Ticket → Slots → Slots
-with_placed g x o a = with_moved 1 x (list_by_name g o) a
+with_placed g x o a = with_moved 2 x (list_by_context g o) (with_moved 1 x (list_by_name g o) a)
 
--- a slot that has this ticket, or none, lies on a chain by cache name
+-- a slot that has this ticket, or none, lies on chains by name and by context
 abbrev pub is_named : Option Ticket → Bool
 is_named None = false
 is_named (Some t) = t.cached && is_some t.cache
 
--- the slot put last on its list of the second family where that is told, and left where it is else
+-- the slot put last on its lists of both families where that is told, and left where it is else
 abbrev pub with_placed_where : Bool → GroupLists → ℕ → Option Ticket → Slots → Slots
 with_placed_where named g x o a = if named then with_placed g x o a else a

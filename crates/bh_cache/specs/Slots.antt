@@ -117,3 +117,4 @@ pub record IsFrame (g : GroupLists) (a b : Slots) : Type 0 where
 pub record IsApart (g h : GroupLists) : Type 0 where
   pub apart : (l : ℕ) → IsOwn g l → IsOwn h l → ⊥
   pub names : (l : ℕ) → (g.names ≤ l) × (l ≤ g.unnamed) → (h.names ≤ l) × (l ≤ h.unnamed) → ⊥
+  pub contexts : (l : ℕ) → (g.contexts ≤ l) × (l ≤ g.outside) → (h.contexts ≤ l) × (l ≤ h.outside) → ⊥

@@ -1,37 +1,41 @@
-//! The chains on which a group's cached tickets are found, by their names.
+//! The chains on which a group's cached tickets are found, by their names and by their request contexts.
 
 ghost use Rattle.std.specs.Prelude.{◌≡◌, ◌<◌, Some, None, length, slice_get};
-ghost use Rattle.bh_cache.specs.Chains.{HasChains, context_chain, is_named, list_by_name, name_chain, with_placed, with_placed_where};
+ghost use Rattle.bh_cache.specs.Chains.{HasChains, context_chain, is_named, list_by_context, list_by_name, name_chain, with_placed, with_placed_where};
 
 use crate::lists::GroupLists;
-use crate::places::{place_among, place_at};
+use crate::places::{place_among, place_of_context};
 use bh_base::{Text, Ticket};
 use bh_slot_arena::Arena;
 
-/// Moves the slot of a ticket to the end of the chain of its cache name, or, where it is not cached, of the list of slots
-/// without a cached ticket, and changes nothing else.
-pub fn place(arena: &mut Arena<Ticket, 2>, lists: &GroupLists, slot: u32)
+/// Moves the slot of a ticket to the ends of the chains of its cache name and of its request context, or, where it is not
+/// cached, of the lists of slots without a cached ticket, and changes nothing else.
+pub fn place(arena: &mut Arena<Ticket, 3>, lists: &GroupLists, slot: u32)
     requires lists { HasChains arena.old lists.now }
     requires slot { slot < length arena.old.payloads }
     ensures { arena.new ≡ with_placed lists.now slot (slice_get arena.old.payloads slot) arena.old }
 {
-    let names = list_by_name(lists, arena.get(slot));
+    let ticket = arena.get(slot);
+    let names = list_by_name(lists, ticket);
+    let contexts = list_by_context(lists, ticket);
     arena.move_to_back(1, slot, names);
+    arena.move_to_back(2, slot, contexts);
 }
 
-/// Moves a slot that has no ticket any more to the end of the list of slots without a cached ticket, and changes nothing
+/// Moves a slot that has no ticket any more to the ends of the lists of slots without a cached ticket, and changes nothing
 /// else.
-pub fn place_free(arena: &mut Arena<Ticket, 2>, lists: &GroupLists, slot: u32)
+pub fn place_free(arena: &mut Arena<Ticket, 3>, lists: &GroupLists, slot: u32)
     requires lists { HasChains arena.old lists.now }
     requires slot { slot < length arena.old.payloads }
     ensures { arena.new ≡ with_placed lists.now slot None arena.old }
 {
     arena.move_to_back(1, slot, lists.unnamed);
+    arena.move_to_back(2, slot, lists.outside);
 }
 
-/// Moves the slot of a ticket that had none before as `place` does. One that is not cached stays where it is: on the list
+/// Moves the slot of a ticket that had none before as `place` does. One that is not cached stays where it is: on the lists
 /// of slots without a cached ticket it lies already.
-pub fn place_new(arena: &mut Arena<Ticket, 2>, lists: &GroupLists, slot: u32)
+pub fn place_new(arena: &mut Arena<Ticket, 3>, lists: &GroupLists, slot: u32)
     requires lists { HasChains arena.old lists.now }
     requires slot { slot < length arena.old.payloads }
     ensures { arena.new ≡ with_placed_where (is_named (slice_get arena.old.payloads slot)) lists.now slot (slice_get arena.old.payloads slot) arena.old }
@@ -41,9 +45,9 @@ pub fn place_new(arena: &mut Arena<Ticket, 2>, lists: &GroupLists, slot: u32)
     }
 }
 
-/// Moves the slot whose ticket has just gone as `place_free` does. One that was not cached stays where it is: on the list
+/// Moves the slot whose ticket has just gone as `place_free` does. One that was not cached stays where it is: on the lists
 /// of slots without a cached ticket it lies already.
-pub fn place_gone(arena: &mut Arena<Ticket, 2>, lists: &GroupLists, slot: u32)
+pub fn place_gone(arena: &mut Arena<Ticket, 3>, lists: &GroupLists, slot: u32)
     requires lists { HasChains arena.old lists.now }
     requires slot { slot < length arena.old.payloads }
     ensures { arena.new ≡ with_placed_where (is_named (slice_get arena.old.payloads slot)) lists.now slot None arena.old }
@@ -53,22 +57,11 @@ pub fn place_gone(arena: &mut Arena<Ticket, 2>, lists: &GroupLists, slot: u32)
     }
 }
 
-/// Whether the ticket lies on a chain by cache name.
+/// Whether the ticket lies on chains by name and by context.
 fn is_named(ticket: &Ticket) -> bool
     ensures { result ≡ is_named (Some ticket.now) }
 {
     ticket.cached && ticket.cache.is_some()
-}
-
-/// One of the sixteen chains of a request context.
-pub(crate) fn context_chain(lists: &GroupLists, context: u64, step: usize) -> usize
-    requires some { lists.now.names < lists.now.unnamed }
-    requires step { step < 16 }
-    ensures chain { result ≡ context_chain lists.now context step }
-    ensures to { result < lists.now.unnamed }
-{
-    let lists = *lists;
-    lists.names + place_at(lists.unnamed - lists.names, context, step)
 }
 
 /// The chain of a cache name.
@@ -80,6 +73,15 @@ pub(crate) fn name_chain(lists: &GroupLists, context: u64, key: &Text<32>) -> us
     lists.names + place_among(lists.unnamed - lists.names, context, key)
 }
 
+/// The chain of a request context.
+pub(crate) fn context_chain(lists: &GroupLists, context: u64) -> usize
+    requires { lists.now.contexts < lists.now.outside }
+    ensures { result ≡ context_chain lists.now context }
+{
+    let lists = *lists;
+    lists.contexts + place_of_context(lists.outside - lists.contexts, context)
+}
+
 /// The list of the second family for a ticket.
 fn list_by_name(lists: &GroupLists, ticket: &Ticket) -> usize
     requires { lists.now.names < lists.now.unnamed }
@@ -88,5 +90,16 @@ fn list_by_name(lists: &GroupLists, ticket: &Ticket) -> usize
     match &ticket.cache {
         Some((context, key)) if ticket.cached => name_chain(lists, *context, key),
         _ => lists.unnamed,
+    }
+}
+
+/// The list of the third family for a ticket.
+fn list_by_context(lists: &GroupLists, ticket: &Ticket) -> usize
+    requires { lists.now.contexts < lists.now.outside }
+    ensures { result ≡ list_by_context lists.now (Some ticket.now) }
+{
+    match &ticket.cache {
+        Some((context, _)) if ticket.cached => context_chain(lists, *context),
+        _ => lists.outside,
     }
 }

@@ -1,7 +1,7 @@
 //! The lists of a group in the arena that holds the tickets of all groups.
 
 /// The numbers of one group's lists in each family of the arena: the first has its tickets by state, the second by cache
-/// name. Of chains it has the number of the first, on which the others follow.
+/// name, and the third by request context. Of chains it has the number of the first, on which the others follow.
 #[derive(Clone, Copy, Debug)]
 pub struct GroupLists {
     /// Slots that have no ticket.
@@ -16,4 +16,8 @@ pub struct GroupLists {
     pub names: usize,
     /// Of the second family: slots without a cached ticket, be it that they have none or that theirs is not cached.
     pub unnamed: usize,
+    /// Of the third family: chains of cached tickets, by request context alone: as many as go up to `outside`.
+    pub contexts: usize,
+    /// Of the third family: slots without a cached ticket, as on `unnamed`.
+    pub outside: usize,
 }

@@ -1,7 +1,7 @@
-//! How cache names are spread over the sixteen chains of their request context.
+//! How request contexts and cache names are spread.
 
-ghost use Rattle.std.specs.Prelude.{◌≡◌};
-ghost use Rattle.bh_cache.specs.Names.{place_of_name};
+ghost use Rattle.std.specs.Prelude.{◌≡◌, ◌<◌, ◌^◌};
+ghost use Rattle.bh_cache.specs.Names.{place_of_name, upper_half};
 
 use bh_base::Text;
 
@@ -9,9 +9,9 @@ use bh_base::Text;
 const BYTE_SPREAD: u64 = 1099511628211;
 
 /// An odd multiplier near 2^64 divided by the golden ratio, which brings neighbours far apart (Knuth).
-const TOP_SPREAD: u64 = 11400714819323198485;
+const HALF_SPREAD: u64 = 11400714819323198485;
 
-/// The place, from 0 to 15, of a request context and a cache key among the sixteen chains of the context.
+/// The place of a request context and a cache key, among 2^32.
 pub fn place_of_name(context: u64, key: &Text<32>) -> usize
     ensures { result ≡ place_of_name (context, key.now) }
 {
@@ -21,6 +21,14 @@ pub fn place_of_name(context: u64, key: &Text<32>) -> usize
             .wrapping_add(u64::from(*byte))
             .wrapping_mul(BYTE_SPREAD);
     }
-    let folded = hash.wrapping_add(hash >> 32);
-    (folded.wrapping_mul(TOP_SPREAD) >> 60) as usize
+    upper_half(hash)
+}
+
+/// The upper half of a number that is folded and spread: neighbours get halves that are far apart.
+pub(crate) fn upper_half(number: u64) -> usize
+    ensures half { result ≡ upper_half number }
+    ensures few { result < 2 ^ 32 }
+{
+    let folded = number.wrapping_add(number >> 32);
+    (folded.wrapping_mul(HALF_SPREAD) >> 32) as usize
 }

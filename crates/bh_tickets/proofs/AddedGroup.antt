@@ -1,16 +1,17 @@
 -- A group is added.
-use Rattle.std.proofs.Common.{◌≡◌, ℕ, zero, suc, ◌<◌, ◌⊎◌, inl, inr, List, [], ◌∷◌, ◌++◌, map, length, get_or, replicate, Some, refl, ◌∙◌, sym, ap, subst, arith, length-append}
+use Rattle.std.proofs.Common.{◌≡◌, ℕ, zero, suc, ◌<◌, ◌⊎◌, inl, inr, List, [], ◌∷◌, ◌++◌, map, length, Some, refl, ◌∙◌, sym, ap, subst, arith}
 use Rattle.std.specs.Prelude.{slice_get}
 use Rattle.bh_base.specs.declared.ticket.Ticket.{Ticket}
-use Rattle.bh_slot_arena.specs.Slots.{lists_in, slots_on}
+use Rattle.bh_slot_arena.specs.Slots.{slots_on}
 use Rattle.bh_cache.specs.Slots.{Slots, has, is_on, IsArena, Once}
 use Rattle.bh_tickets.specs.declared.group_slots.GroupSlots.{GroupSlots}
 use Rattle.bh_tickets.specs.Growth.{HasMoreLists, HasNewLists}
+use Rattle.bh_tickets.specs.Names.{names_of}
 use Rattle.bh_tickets.specs.TicketsView.{GroupTickets}
 use Rattle.bh_tickets.specs.Whole.{group_of, view_of, AreGroupSlots}
 use Rattle.bh_tickets.specs.Same.{IsSame}
 use Rattle.bh_tickets.proofs.Others.{group_same, slots_same}
-use Rattle.bh_tickets.proofs.AddedLists.{append_empty}
+use Rattle.bh_tickets.proofs.AddedLists.{count_more, names_more, on_more}
 
 -- ---- lists
 
@@ -37,12 +38,9 @@ map_same f g (y ∷ ys) same = λ i. same 0 y refl i ∷ map_same f g ys (λ j s
 
 -- ---- lists more
 
-module _ (n k : ℕ) (a b : Slots) (ss : List GroupSlots) (whole : AreGroupSlots a ss) (more : HasNewLists n k a b) where
+module _ (n k m : ℕ) (a b : Slots) (ss : List GroupSlots) (whole : AreGroupSlots a ss) (more : HasNewLists n k m a b) where
   on_first : (l : ℕ) → slots_on b 0 l ≡ slots_on a 0 l
-  on_first l = ap (λ (ls : List (List ℕ)). get_or ls l []) more.first ∙ append_empty (lists_in a 0) n l
-
-  on_second : (l : ℕ) → slots_on b 1 l ≡ slots_on a 1 l
-  on_second l = ap (λ (ls : List (List ℕ)). get_or ls l []) more.second ∙ append_empty (lists_in a 1) k l
+  on_first = on_more 0 n a b more.first
 
   on_same : (l x : ℕ) → is_on b 0 l x ≡ is_on a 0 l x
   on_same l x = ap (has x) (on_first l)
@@ -60,13 +58,10 @@ module _ (n k : ℕ) (a b : Slots) (ss : List GroupSlots) (whole : AreGroupSlots
   pub same_more : (i : ℕ) (s : GroupSlots) → slice_get ss i ≡ Some s → IsSame s.lists a b
   same_more i s e = record {
     slots = omega (arith, ap (λ (ps : List Ticket). length ps) more.payloads);
-    count = omega (arith, ap (λ (ls : List (List ℕ)). length ls) more.first, length-append (lists_in a 0) (replicate n []));
+    count = omega (arith, count_more 0 n a b more.first);
     lists = λ l own. on_first l;
     payloads = λ l x own on. ap (λ (ps : List Ticket). slice_get ps x) more.payloads;
-    names = record {
-      count = omega (arith, ap (λ (ls : List (List ℕ)). length ls) more.second, length-append (lists_in a 1) (replicate k []));
-      lists = λ l from to. on_second l;
-    };
+    chains = names_more n k m a b (names_of s.lists) more;
   }
 
   whole_new : AreGroupSlots b ss
@@ -81,8 +76,8 @@ module _ (n k : ℕ) (a b : Slots) (ss : List GroupSlots) (whole : AreGroupSlots
 
 -- with some empty lists more, the groups are as they should be
 pub whole_more : (a b : Slots) (ss : List GroupSlots) → AreGroupSlots a ss → HasMoreLists a b → AreGroupSlots b ss
-whole_more a b ss whole more = whole_new more.first more.second a b ss whole more.lists
+whole_more a b ss whole more = whole_new more.first more.second more.third a b ss whole more.lists
 
 -- with some empty lists more, contracts see of the groups what they saw before
 pub view_more : (a b : Slots) (ss : List GroupSlots) → AreGroupSlots a ss → HasMoreLists a b → view_of b ss ≡ view_of a ss
-view_more a b ss whole more = view_new more.first more.second a b ss whole more.lists
+view_more a b ss whole more = view_new more.first more.second more.third a b ss whole more.lists

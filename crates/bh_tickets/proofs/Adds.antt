@@ -27,8 +27,8 @@ use Rattle.bh_cache.proofs.Moves.{has_without, list_to}
 use Rattle.bh_tickets.proofs.Own.{come_arranged, come_tickets, live_for}
 use Rattle.bh_tickets.proofs.Others.{each_list, own_for}
 use Rattle.bh_tickets.proofs.Chained.{chains_placed, moved_keeps, placed_on, touched_placed}
-use Rattle.bh_cache.specs.Chains.{IsChainFrame, IsChained, is_named, list_by_name, with_placed_where}
-use Rattle.bh_cache.proofs.Placed.{unnamed_list}
+use Rattle.bh_cache.specs.Chains.{IsChainFrame, IsChained, is_named, with_placed_where}
+use Rattle.bh_cache.proofs.Placed.{alike_same, alike_trans, unnamed_alike}
 
 -- ---- tickets lie in live slots
 
@@ -111,7 +111,7 @@ pub not_free : (g : GroupLists) (r : TicketState) → IsNumbered g → g.free �
 not_free g r n = each_list (λ l. g.free ≢ l) g (λ e. absurd (omega (arith, e, n.queued))) (λ e. absurd (omega (arith, e, n.running))) (λ e. absurd (omega (arith, e, n.settled))) r
 
 module _ (a b : Slots) (s : GroupSlots) (x : ℕ) (v : Ticket) (arena : IsArena a 0) (group : IsGroupSlots a s) (back : slice_get (reverse (slots_on a 0 s.lists.free)) 0 ≡ Some x) (can : CanAdd s v)
-    (names : IsArena a 1) (is : b ≡ with_placed_where (is_named (Some v)) s.lists x (Some v) (with_moved 0 x (list_for s.lists v.state) (with_payload x v a))) where
+    (names : IsArena a 1) (contexts : IsArena a 2) (is : b ≡ with_placed_where (is_named (Some v)) s.lists x (Some v) (with_moved 0 x (list_for s.lists v.state) (with_payload x v a))) where
   on : is_on a 0 s.lists.free x ≡ true
   on = back_on x (slots_on a 0 s.lists.free) back
 
@@ -175,9 +175,9 @@ module _ (a b : Slots) (s : GroupSlots) (x : ℕ) (v : Ticket) (arena : IsArena 
   owned_list = or_second (eqb s.lists.free (list_for s.lists v.state)) (is_live_list s.lists (list_for s.lists v.state)) (live_for s.lists v.state)
 
   chains : IsChained b s.lists × IsChainFrame s.lists a b
-  chains = chains_placed (is_named (Some v)) a (with_moved 0 x (list_for s.lists v.state) (with_payload x v a)) b s.lists x (list_for s.lists v.state) v (Some v) before (moved_keeps a x (list_for s.lists v.state) v) names group.chained owned_slot owned_list
+  chains = chains_placed (is_named (Some v)) a (with_moved 0 x (list_for s.lists v.state) (with_payload x v a)) b s.lists x (list_for s.lists v.state) v (Some v) before (moved_keeps a x (list_for s.lists v.state) v) names contexts group.chained owned_slot owned_list
       (sym (ap (λ c. if c then Some v else None) (live_for s.lists v.state)))
-      (λ off. unnamed_list s.lists (Some v) off ∙ ap (list_by_name s.lists) (sym was)) is
+      (λ off. alike_trans s.lists (Some v) None (ticket_at a s.lists x) (unnamed_alike s.lists (Some v) off) (alike_same s.lists None (ticket_at a s.lists x) (sym was))) is
 
   recount : (q : Ticket → Bool) → count_at b s.lists q ≡ count_at a s.lists q + one (q v)
   recount q =
@@ -276,13 +276,13 @@ pub to_list : (a : Slots) (s : GroupSlots) (to : ℕ) (r : TicketState) → IsGr
 to_list a s to r group is = subst (λ l. l < length (lists_in a 0)) (sym is) (each_list (λ l. l < length (lists_in a 0)) s.lists (omega (arith, group.there, group.numbered.queued, group.numbered.settled)) (omega (arith, group.there, group.numbered.running, group.numbered.settled)) group.there r)
 
 -- as the code reads it
-pub add_from : (a b : Slots) (s : GroupSlots) (x to : ℕ) (v : Ticket) → IsArena a 0 → IsGroupSlots a s → slice_get (reverse (slots_on a 0 s.lists.free)) 0 ≡ Some x → CanAdd s v → IsArena a 1 → to ≡ list_for s.lists v.state
+pub add_from : (a b : Slots) (s : GroupSlots) (x to : ℕ) (v : Ticket) → IsArena a 0 → IsGroupSlots a s → slice_get (reverse (slots_on a 0 s.lists.free)) 0 ≡ Some x → CanAdd s v → IsArena a 1 → IsArena a 2 → to ≡ list_for s.lists v.state
     → b ≡ with_placed_where (is_named (Some v)) s.lists x (Some v) (with_moved 0 x to (with_payload x v a)) → (r : GroupSlots) (last : ℕ) (in_turn : Bool) → r ≡ record (with_submit v (counted_in v s)) { slots = record s.slots { taken = s.slots.taken + 1 }; next = s.next + 1; order = record (with_submit v s).order { last_started = last; in_turn = in_turn } }
     → IsTurned a s v.serial s.lists.free to last in_turn → IsAdded a s v b r
-add_from a b s x to v arena group back can names is moved r last in_turn made turned =
+add_from a b s x to v arena group back can names contexts is moved r last in_turn made turned =
     let placed = moved ∙ ap (λ l. with_placed_where (is_named (Some v)) s.lists x (Some v) (with_moved 0 x l (with_payload x v a))) is in
-    let turns = turns_now a b s x v arena group back can names placed last in_turn (subst (λ l. IsTurned a s v.serial s.lists.free l last in_turn) is turned) in
-    add_is a b s x v arena group back can names placed r last in_turn turns made
+    let turns = turns_now a b s x v arena group back can names contexts placed last in_turn (subst (λ l. IsTurned a s v.serial s.lists.free l last in_turn) is turned) in
+    add_is a b s x v arena group back can names contexts placed r last in_turn turns made
 
 -- a slot that was written, moved and placed, as the code reads it
 pub placed_from : (a z m b : Slots) (g : GroupLists) (x to : ℕ) (v : Ticket) → x < length a.payloads → z ≡ with_payload x v a → m ≡ with_moved 0 x to z → b ≡ with_placed_where (is_named (slice_get m.payloads x)) g x (slice_get m.payloads x) m

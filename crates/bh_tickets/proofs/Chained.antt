@@ -5,11 +5,13 @@ use Rattle.std.proofs.lemmas.Bool.{cases_eq}
 use Rattle.bh_base.specs.declared.ticket.Ticket.{Ticket}
 use Rattle.bh_slot_arena.specs.Slots.{lists_in, slots_on, with_payload, with_moved}
 use Rattle.bh_cache.specs.declared.lists.GroupLists.{GroupLists}
-use Rattle.bh_cache.specs.Chains.{IsChainFrame, AreOn, HasChains, IsChained, list_by_name, list_of_name, with_placed_where}
-use Rattle.bh_cache.specs.Slots.{Slots, has, is_live_list, is_on, is_owned, ticket_at, Once, IsApart, IsArena}
+use Rattle.bh_cache.specs.Chains.{IsChainFrame, AreOn, HasChains, IsChained, list_by_context, list_by_name, list_of_context, list_of_name, with_placed_where}
+use Rattle.bh_cache.specs.Slots.{Slots, has, is_live_list, is_on, is_owned, ticket_at, Once, IsArena}
 use Rattle.bh_cache.proofs.Moves.{families_count, family_stays}
-use Rattle.bh_cache.proofs.Placed.{IsUnplaced, chained_same, chained_where, families_where, first_where, frame_where, name_list_within}
-use Rattle.bh_tickets.specs.Same.{KeepsOwn}
+use Rattle.bh_cache.proofs.Placed.{IsUnplaced, LieAlike, alike_same, chained_same, chained_where, context_list_within, families_where, first_where, frame_where, name_list_within}
+use Rattle.bh_tickets.specs.declared.names.NameLists.{NameLists}
+use Rattle.bh_tickets.specs.Names.{AreBeside, names_of}
+use Rattle.bh_tickets.specs.Same.{KeepsNames, KeepsOwn}
 use Rattle.bh_tickets.proofs.Touched.{IsTouched, at_other, at_slot, owned_same}
 
 -- ---- what a change of one family leaves of the others
@@ -44,61 +46,67 @@ touched_placed named a b x to v g o touched = record {
 pub record KeepsChains (a b : Slots) : Type 0 where
   pub families : length b.families ≡ length a.families
   pub names : lists_in b 1 ≡ lists_in a 1
+  pub contexts : lists_in b 2 ≡ lists_in a 2
 
 -- a change in the first family leaves them so
 pub moved_keeps : (a : Slots) (x to : ℕ) (v : Ticket) → KeepsChains a (with_moved 0 x to (with_payload x v a))
 moved_keeps a x to v = record {
   families = families_count (with_payload x v a) 0 x to;
   names = family_stays (with_payload x v a) 0 1 x to (λ e. absurd (omega (arith, e)));
+  contexts = family_stays (with_payload x v a) 0 2 x to (λ e. absurd (omega (arith, e)));
 }
 
 pub freed_keeps : (a : Slots) (x to : ℕ) → KeepsChains a (with_moved 0 x to a)
 freed_keeps a x to = record {
   families = families_count a 0 x to;
   names = family_stays a 0 1 x to (λ e. absurd (omega (arith, e)));
+  contexts = family_stays a 0 2 x to (λ e. absurd (omega (arith, e)));
 }
 
 -- the lists of the chains are there where they were
-pub chains_there : (a b : Slots) (g : GroupLists) → KeepsChains a b → HasChains a g → HasChains b g
-chains_there a b g keeps has' = record {
-  unnamed = has'.unnamed;
-  names_there = omega (arith, has'.names_there, ap (λ (ls : List (List ℕ)). length ls) keeps.names);
+pub chains_there : (a b : Slots) (g : GroupLists) → length (lists_in a 1) ≤ length (lists_in b 1) → length (lists_in a 2) ≤ length (lists_in b 2) → HasChains a g → HasChains b g
+chains_there a b g second third there = record {
+  unnamed = there.unnamed;
+  names_there = omega (arith, there.names_there, second);
+  outside = there.outside;
+  contexts_there = omega (arith, there.contexts_there, third);
 }
 
 -- ---- one slot of the group changes
 
 -- a slot that was touched and then placed lies on its chains again, where it stays only on the list of what it had
-pub chains_placed : (named : Bool) (a c b : Slots) (g : GroupLists) (x to : ℕ) (v : Ticket) (o : Option Ticket) → IsTouched a c x to v → KeepsChains a c → IsArena a 1 → IsChained a g
-    → is_owned a g x ≡ true → (eqb g.free to || is_live_list g to) ≡ true → o ≡ (if is_live_list g to then Some v else None) → (named ≡ false → list_by_name g o ≡ list_by_name g (ticket_at a g x))
+pub chains_placed : (named : Bool) (a c b : Slots) (g : GroupLists) (x to : ℕ) (v : Ticket) (o : Option Ticket) → IsTouched a c x to v → KeepsChains a c → IsArena a 1 → IsArena a 2 → IsChained a g
+    → is_owned a g x ≡ true → (eqb g.free to || is_live_list g to) ≡ true → o ≡ (if is_live_list g to then Some v else None) → (named ≡ false → LieAlike g o (ticket_at a g x))
     → b ≡ with_placed_where named g x o c → IsChained b g × IsChainFrame g a b
-chains_placed named a c b g x to v o touched keeps names chained own own_to is lies made =
+chains_placed named a c b g x to v o touched keeps names contexts chained own own_to is lies made =
     subst (λ (z : Slots). IsChained z g × IsChainFrame g a z) (sym made)
-    (chained_where a c g x o chained names unplaced named lies (is ∙ sym (at_slot a c x to v touched g)), frame_where a c g x o chained names unplaced named)
+    (chained_where a c g x o chained names contexts unplaced named lies (is ∙ sym (at_slot a c x to v touched g)), frame_where a c g x o chained names contexts unplaced named)
   where
     unplaced : IsUnplaced g x a c
     unplaced = record {
       wide = keeps.families;
       names = keeps.names;
+      contexts = keeps.contexts;
       owned = owned_same a c x to v touched g own own_to;
       others = λ y ne. at_other a c x to v touched g y ne;
       here = own;
     }
 
--- a ticket that keeps its name and is cached as before belongs on the same chain
-same_name_list : (g : GroupLists) (t v : Ticket) → v.cache ≡ t.cache → v.cached ≡ t.cached → list_by_name g (Some v) ≡ list_by_name g (Some t)
-same_name_list g t v e f = λ i. if f i then list_of_name g (e i) else g.unnamed
+-- a ticket that keeps its name and is cached as before belongs on the same chains
+same_lists : (g : GroupLists) (t v : Ticket) → v.cache ≡ t.cache → v.cached ≡ t.cached → LieAlike g (Some v) (Some t)
+same_lists g t v e f = (λ i. if f i then list_of_name g (e i) else g.unnamed, λ i. if f i then list_of_context g (e i) else g.outside)
 
 -- a slot that was touched lies on its chains still, where its ticket keeps its name
 pub chains_touched : (a b : Slots) (g : GroupLists) (x to : ℕ) (t v : Ticket) → IsTouched a b x to v → KeepsChains a b → IsChained a g → is_owned a g x ≡ true → (eqb g.free to || is_live_list g to) ≡ true
     → ticket_at a g x ≡ Some t → ticket_at b g x ≡ Some v → v.cache ≡ t.cache → v.cached ≡ t.cached → IsChained b g
 chains_touched a b g x to t v touched keeps chained own own_to was now cache cached =
-    chained_same a b g chained keeps.names (owned_same a b x to v touched g own own_to)
-    (λ y. alike (list_by_name g) y (same_name_list g t v cache cached))
+    chained_same a b g chained keeps.names keeps.contexts (owned_same a b x to v touched g own own_to) alike
   where
-    alike : (to_list : Option Ticket → ℕ) (y : ℕ) → to_list (Some v) ≡ to_list (Some t) → to_list (ticket_at b g y) ≡ to_list (ticket_at a g y)
-    alike to_list y e = elim (cases_eq y x) [
-      | inl q ↦ ap (λ z. to_list (ticket_at b g z)) q ∙ ap to_list now ∙ e ∙ sym (ap to_list was) ∙ sym (ap (λ z. to_list (ticket_at a g z)) q)
-      | inr ne ↦ ap to_list (at_other a b x to v touched g y ne)
+    alike : (y : ℕ) → LieAlike g (ticket_at b g y) (ticket_at a g y)
+    alike y = elim (cases_eq y x) [
+      | inl e ↦ subst (λ z. LieAlike g (ticket_at b g z) (ticket_at a g z)) (sym e)
+          (subst (λ o. LieAlike g o (ticket_at a g x)) (sym now) (subst (LieAlike g (Some v)) (sym was) (same_lists g t v cache cached)))
+      | inr ne ↦ alike_same g (ticket_at b g y) (ticket_at a g y) (at_other a b x to v touched g y ne)
     ]
 
 -- ---- other groups change
@@ -113,20 +121,24 @@ on_kept family first last to a b g keeps within owned at are = record {
 }
 
 -- a group's slots lie on its chains still, where these, its slots and its tickets are as before
-pub chains_kept : (a b : Slots) (g : GroupLists) → KeepsOwn 1 g.names g.unnamed a b → ((x : ℕ) → is_owned b g x ≡ is_owned a g x) → ((x : ℕ) → ticket_at b g x ≡ ticket_at a g x) → IsChained a g → IsChained b g
-chains_kept a b g names owned at chained =
+pub chains_kept : (a b : Slots) (g : GroupLists) → KeepsNames (names_of g) a b → ((x : ℕ) → is_owned b g x ≡ is_owned a g x) → ((x : ℕ) → ticket_at b g x ≡ ticket_at a g x) → IsChained a g → IsChained b g
+chains_kept a b g keeps owned at chained =
     let there = chained.lists in
     record {
-      lists = record {
-        unnamed = there.unnamed;
-        names_there = omega (arith, there.names_there, names.count);
-      };
-      names = on_kept 1 g.names g.unnamed (list_by_name g) a b g names (λ o. name_list_within a g there o) owned at chained.names;
+      lists = chains_there a b g keeps.names.count keeps.contexts.count there;
+      names = on_kept 1 g.names g.unnamed (list_by_name g) a b g keeps.names (λ o. name_list_within a g there o) owned at chained.names;
+      contexts = on_kept 2 g.contexts g.outside (list_by_context g) a b g keeps.contexts (λ o. context_list_within a g there o) owned at chained.contexts;
     }
 
--- as for each group but the one that changed
-pub names_apart : (g h : GroupLists) (a b : Slots) → IsChainFrame g a b → IsApart g h → KeepsOwn 1 h.names h.unnamed a b
-names_apart g h a b frame apart = record {
-  count = omega (arith, frame.names.count);
-  lists = λ l from to. frame.names.lists l (λ other. apart.names l other (from, to));
+-- as those are that lie beside the chains of a group that changed
+pub beside_kept : (g : GroupLists) (n : NameLists) (a b : Slots) → IsChainFrame g a b → AreBeside (names_of g) n → KeepsNames n a b
+beside_kept g n a b frame beside = record {
+  names = record {
+    count = omega (arith, frame.names.count);
+    lists = λ l from to. frame.names.lists l (λ other. beside.names l other (from, to));
+  };
+  contexts = record {
+    count = omega (arith, frame.contexts.count);
+    lists = λ l from to. frame.contexts.lists l (λ other. beside.contexts l other (from, to));
+  };
 }

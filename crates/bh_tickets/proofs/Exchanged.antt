@@ -1,4 +1,4 @@
--- A place gets other chains by cache name.
+-- A place gets other chains.
 use Rattle.std.proofs.Common.{◌≡◌, ℕ, suc, ◌+◌, ◌<◌, ◌≤◌, inl, inr, Bool, true, false, List, [], ◌∷◌, ◌++◌, length, set, Some, None, refl, ◌∙◌, sym, ap, subst, arith}
 use Rattle.std.specs.Prelude.{slice_get}
 use Rattle.std.specs.Option.{option_map}
@@ -12,15 +12,16 @@ use Rattle.bh_tickets.specs.declared.group_slots.GroupSlots.{GroupSlots}
 use Rattle.bh_tickets.specs.declared.names.NameLists.{NameLists}
 use Rattle.bh_tickets.specs.GroupSlots.{IsGroupSlots, no_slot_taken}
 use Rattle.bh_tickets.specs.Growth.{HasMoreLists, HasNewLists}
-use Rattle.bh_tickets.specs.Names.{AreApart, AreEmpty, AreLeft, HasNames, IsExchanged, names_of, with_names}
-use Rattle.bh_tickets.specs.Spare.{GetsNames, GetsPlace, IsLeft, IsVacant, free_slots}
+use Rattle.bh_tickets.specs.Names.{AreBeside, AreEmpty, AreEmptyOn, AreLeft, AreMany, HasNames, IsExchanged, names_of, with_names}
+use Rattle.bh_tickets.specs.Spare.{AreFreeOn, GetsNames, GetsPlace, IsLeft, IsVacant, free_slots}
 use Rattle.bh_tickets.specs.TicketsView.{GroupTickets, TicketsView}
 use Rattle.bh_tickets.specs.Whole.{AreGroupSlots, IsWhole, group_of, rooms}
 use Rattle.bh_tickets.proofs.AddedGroup.{view_more}
+use Rattle.bh_tickets.proofs.Beside.{IsMade, apart_back, apart_beside, beside_back}
 use Rattle.bh_tickets.proofs.NamesLeft.{left_made, names_end, names_lt, names_other, names_same}
 use Rattle.bh_tickets.proofs.Ready.{more_whole}
 use Rattle.bh_tickets.proofs.Rebuilt.{entry_taken, entry_vacant, whole_group}
-use Rattle.bh_tickets.proofs.Vacant.{max_is, none_on, not_true, vacant_group}
+use Rattle.bh_tickets.proofs.Vacant.{max_is, none_free, none_on, not_true, vacant_group}
 use Rattle.bh_tickets.proofs.Whole.{get_lt, group_is, groups_in, rooms_set, set_other, set_same}
 
 -- ---- chains that no group has
@@ -30,9 +31,9 @@ pub found_names : (chains number : ℕ) (a : Slots) (ns : List NameLists) → Ha
 found_names chains number a ns there = record { there = there; whole = λ p ss w. w; view = λ p ss w. refl }
 
 -- new ones, behind the others
-pub made_names : (c : ℕ) → 0 < c → (a b : Slots) (ns : List NameLists) (x : NameLists) → HasNewLists 0 (c + 1) a b → x.names ≡ length (lists_in a 1) → x.unnamed ≡ length (lists_in a 1) + c → GetsNames c (length ns) a ns b (ns ++ x ∷ [])
-made_names c some a b ns x more names unnamed = record {
-  there = record { entry = x; here = names_end ns x; many = omega (arith, names, unnamed) };
+pub made_names : (c : ℕ) → 0 < c → (a b : Slots) (ns : List NameLists) (x : NameLists) → HasNewLists 0 (c + 1) (c + 1) a b → IsMade c a x → GetsNames c (length ns) a ns b (ns ++ x ∷ [])
+made_names c some a b ns x more made = record {
+  there = record { entry = x; here = names_end ns x; many = made.many };
   whole = λ p ss w.
       let still = more_whole a b (Some p) ss ns grown w in
       record {
@@ -40,13 +41,13 @@ made_names c some a b ns x more names unnamed = record {
         slots = still.slots;
         free = still.free;
         first = still.first;
-        names = left_made a b (p ∷ ss) ns c x some more names unnamed (λ j s e. (w.all.each j s e).chained.lists.names_there) w.names;
+        names = left_made a b (p ∷ ss) ns c x some more made (λ j s e. (w.all.each j s e).chained.lists) w.names;
       };
   view = λ p ss w. view_more a b ss (groups_in w) grown;
 }
   where
     grown : HasMoreLists a b
-    grown = record { first = 0; second = c + 1; lists = more }
+    grown = record { first = 0; second = c + 1; third = c + 1; lists = more }
 
 -- ---- an exchange
 
@@ -93,14 +94,14 @@ module _ (b : Slots) (p : GroupSlots) (ss : List GroupSlots) (ms : List NameList
     numbered = record { queued = was.numbered.queued; running = was.numbered.running; settled = was.numbered.settled };
     there = was.there;
     chains = record {
-      unnamed = lists.some;
-      names_there = lists.there;
+      unnamed = lists.names.some;
+      names_there = lists.names.there;
+      outside = lists.contexts.some;
+      contexts_there = lists.contexts.there;
     };
     live = was.live;
-    names = record {
-      placed = λ x on. absurd (not_free x on);
-      owned = λ l x low high on. absurd (not_true (ap (has x) (lists.empty l low high)) on);
-    };
+    names = none_free 1 n.names n.unnamed b h no_free lists.names.empty;
+    contexts = none_free 2 n.contexts n.outside b h no_free lists.contexts.empty;
   }
 
   group : IsGroupSlots b r
@@ -118,16 +119,12 @@ module _ (b : Slots) (p : GroupSlots) (ss : List GroupSlots) (ms : List NameList
   own_apart : (j : ℕ) (k : GroupSlots) → (j ≡ i → ⊥) → slice_get qs j ≡ Some k → IsApart h k.lists
   own_apart j k ne e =
       let apart = w.all.apart i j s k is e (λ q. ne (sym q)) in
+      let beside = beside_back (names_of k.lists) n (w.names.beside number j n k found e) in
       record {
         apart = λ l own other. apart.apart l (record { from = own.from; to = own.to }) other;
-        names = λ l own other. w.names.beside number j n k found e l other own;
+        names = beside.names;
+        contexts = beside.contexts;
       }
-
-  back : (k : GroupLists) → IsApart h k → IsApart k h
-  back k apart = record {
-    apart = λ l own other. apart.apart l other own;
-    names = λ l own other. apart.names l other own;
-  }
 
   all : AreGroupSlots b (set qs i r)
   all = record {
@@ -141,7 +138,7 @@ module _ (b : Slots) (p : GroupSlots) (ss : List GroupSlots) (ms : List NameList
           let nl : l ≡ i → ⊥ = λ z. ne (q ∙ sym z) in
           subst (λ (z : GroupSlots). IsApart z.lists m.lists) (sym (now_r j k q e)) (own_apart l m nl (old l m nl f))
       | inr nj ↦ elim (cases_eq l i) [
-        | inl q ↦ subst (λ (z : GroupSlots). IsApart k.lists z.lists) (sym (now_r l m q f)) (back k.lists (own_apart j k nj (old j k nj e)))
+        | inl q ↦ subst (λ (z : GroupSlots). IsApart k.lists z.lists) (sym (now_r l m q f)) (apart_back h k.lists (own_apart j k nj (old j k nj e)))
         | inr nl ↦ w.all.apart j l k m (old j k nj e) (old l m nl f) ne
       ]
     ];
@@ -149,16 +146,22 @@ module _ (b : Slots) (p : GroupSlots) (ss : List GroupSlots) (ms : List NameList
 
   -- ---- the chains that the group had
 
-  given : AreEmpty b (names_of g)
-  given = record {
-    some = was.chains.unnamed;
-    there = was.chains.names_there;
-    empty = λ l low high. none_on (slots_on b 1 l) (λ x. off l x low high (is_on b 1 l x) refl);
+  given_on : (f first last : ℕ) → first < last → last < length (lists_in b f) → AreFreeOn f first last b g → AreEmptyOn f first last b
+  given_on f first last some there are = record {
+    some = some;
+    there = there;
+    empty = λ l low high. none_on (slots_on b f l) (λ x. off l x low high (is_on b f l x) refl);
   }
     where
-      off : (l x : ℕ) → g.names ≤ l → l ≤ g.unnamed → (c : Bool) → is_on b 1 l x ≡ c → c ≡ false
+      off : (l x : ℕ) → first ≤ l → l ≤ last → (c : Bool) → is_on b f l x ≡ c → c ≡ false
       off l x low high false e = refl
-      off l x low high true e = absurd (not_free x (was.names.owned l x low high e))
+      off l x low high true e = absurd (not_free x (are.owned l x low high e))
+
+  given : AreEmpty b (names_of g)
+  given = record {
+    names = given_on 1 g.names g.unnamed was.chains.unnamed was.chains.names_there was.names;
+    contexts = given_on 2 g.contexts g.outside was.chains.outside was.chains.contexts_there was.contexts;
+  }
 
   there : slice_get (set ms number (names_of g)) number ≡ Some (names_of g)
   there = names_same ms number (names_of g) (names_lt ms number n found)
@@ -177,21 +180,21 @@ module _ (b : Slots) (p : GroupSlots) (ss : List GroupSlots) (ms : List NameList
       | inr ne ↦ w.names.each j k (left j k ne e)
     ];
     beside = λ j l k t e f. elim (cases_eq j number) [
-      | inl q ↦ subst (λ (z : NameLists). AreApart t.lists.names t.lists.unnamed z.names z.unnamed) (sym (now_given j k q e)) (elim (cases_eq l i) [
-        | inl z ↦ subst (λ (y : GroupSlots). AreApart y.lists.names y.lists.unnamed g.names g.unnamed) (sym (now_r l t z f)) (λ m own other. w.names.beside number i n s found is m other own)
-        | inr nl ↦ λ m own other. (w.all.apart l i t s (old l t nl f) is nl).names m own other
+      | inl q ↦ subst (AreBeside (names_of t.lists)) (sym (now_given j k q e)) (elim (cases_eq l i) [
+        | inl z ↦ subst (λ (y : GroupSlots). AreBeside (names_of y.lists) (names_of g)) (sym (now_r l t z f)) (beside_back (names_of g) n (w.names.beside number i n s found is))
+        | inr nl ↦ apart_beside t.lists g (w.all.apart l i t s (old l t nl f) is nl)
       ])
       | inr ne ↦ elim (cases_eq l i) [
-        | inl z ↦ subst (λ (y : GroupSlots). AreApart y.lists.names y.lists.unnamed k.names k.unnamed) (sym (now_r l t z f)) (w.names.apart number j n k found (left j k ne e) (λ y. ne (sym y)))
+        | inl z ↦ subst (λ (y : GroupSlots). AreBeside (names_of y.lists) k) (sym (now_r l t z f)) (w.names.apart number j n k found (left j k ne e) (λ y. ne (sym y)))
         | inr nl ↦ w.names.beside j l k t (left j k ne e) (old l t nl f)
       ]
     ];
     apart = λ j l k m e f ne. elim (cases_eq j number) [
       | inl q ↦
           let nl : l ≡ number → ⊥ = λ z. ne (q ∙ sym z) in
-          subst (λ (z : NameLists). AreApart z.names z.unnamed m.names m.unnamed) (sym (now_given j k q e)) (w.names.beside l i m s (left l m nl f) is)
+          subst (λ (z : NameLists). AreBeside z m) (sym (now_given j k q e)) (w.names.beside l i m s (left l m nl f) is)
       | inr nj ↦ elim (cases_eq l number) [
-        | inl q ↦ subst (λ (z : NameLists). AreApart k.names k.unnamed z.names z.unnamed) (sym (now_given l m q f)) (λ y own other. w.names.beside j i k s (left j k nj e) is y other own)
+        | inl q ↦ subst (AreBeside k) (sym (now_given l m q f)) (beside_back (names_of g) k (w.names.beside j i k s (left j k nj e) is))
         | inr nl ↦ w.names.apart j l k m (left j k nj e) (left l m nl f) ne
       ]
     ];
@@ -244,7 +247,5 @@ exchanged_gets chains place number a b ss rs ns ms ks left got exchanged =
     empty : s.slots.max ≡ 0
     empty = ap (λ (z : GroupSlots). z.slots.max) (some_same s left.entry (sym exchanged.here ∙ left.here)) ∙ left.empty
 
-    many : n.unnamed ≡ n.names + chains
-    many =
-        let same : n ≡ got.there.entry = same_names n got.there.entry (sym exchanged.there ∙ got.there.here) in
-        subst (λ (z : NameLists). z.unnamed ≡ z.names + chains) (sym same) got.there.many
+    many : AreMany chains n
+    many = subst (AreMany chains) (sym (same_names n got.there.entry (sym exchanged.there ∙ got.there.here))) got.there.many

@@ -1,21 +1,23 @@
 -- All slots of a group go to one without tickets.
-use Rattle.std.proofs.Common.{◌≡◌, ℕ, zero, suc, ◌+◌, ◌-◌, ◌<◌, ◌≤◌, inl, inr, Bool, true, false, List, length, refl, ◌∙◌, sym, ap, subst, arith}
+use Rattle.std.proofs.Common.{◌≡◌, ℕ, zero, suc, ◌+◌, ◌-◌, ◌<◌, ◌≤◌, inl, inr, Bool, true, false, List, [], length, Option, refl, ◌∙◌, sym, ap, subst, arith}
 use Rattle.std.specs.Prelude.{◌||◌, slice_get}
 use Rattle.std.proofs.lemmas.Bool.{cases_eq}
 use Rattle.bh_base.specs.declared.ticket.Ticket.{Ticket}
 use Rattle.bh_slot_arena.specs.Slots.{slots_on}
 use Rattle.bh_cache.specs.declared.lists.GroupLists.{GroupLists}
-use Rattle.bh_cache.specs.Chains.{list_by_name}
+use Rattle.bh_cache.specs.Chains.{AreOn, list_by_context, list_by_name}
 use Rattle.bh_cache.specs.Slots.{Slots, has, is_on, is_owned, ticket_at, count_below, one, IsApart, IsArena, IsOwn}
 use Rattle.bh_cache.proofs.Order.{count_same}
-use Rattle.bh_cache.proofs.Placed.{name_list_within}
+use Rattle.bh_cache.proofs.Placed.{context_list_within, name_list_within}
 use Rattle.bh_tickets.specs.declared.group_slots.GroupSlots.{GroupSlots}
 use Rattle.bh_tickets.specs.GroupSlots.{IsGroupSlots}
-use Rattle.bh_tickets.specs.Same.{IsSame}
+use Rattle.bh_tickets.specs.Names.{AreApart}
+use Rattle.bh_tickets.specs.Same.{IsSame, KeepsOwn}
 use Rattle.bh_tickets.specs.Spare.{IsGathered, IsGiven, IsVacant, free_slots, on_run}
 use Rattle.bh_tickets.proofs.Gathered.{IsEmptied, IsOnOne, emptied, on_run_in, on_run_out}
-use Rattle.bh_tickets.proofs.Shifted.{HasLists, live_none, own_free, own_queued, own_running, own_settled, vacant_gained}
-use Rattle.bh_tickets.proofs.Vacant.{count_list, not_true, or_true}
+use Rattle.bh_tickets.proofs.Chained.{chains_there}
+use Rattle.bh_tickets.proofs.Shifted.{HasLists, IsGained, live_none, own_free, own_queued, own_running, own_settled, vacant_gained}
+use Rattle.bh_tickets.proofs.Vacant.{count_list, none_free, not_true, or_true}
 
 both_ways : (b c : Bool) → (b ≡ true → c ≡ true) → (c ≡ true → b ≡ true) → b ≡ c
 both_ways true c f g = sym (f refl)
@@ -72,35 +74,59 @@ module _ (a : Slots) (s : GroupSlots) (group : IsGroupSlots a s) where
       by false false false true i j k l e = on_run_in a 0 s.lists.free 4 s.lists.settled x (omega (arith, group.numbered.settled)) (omega (arith, group.numbered.settled)) l
       by false false false false i j k l e = absurd cc
 
-  -- so many lists of the second family
-  abbrev named : ℕ
-  named = s.lists.unnamed - s.lists.names + 1
+-- ---- the chains of one family
 
-  named_to : s.lists.names + named ≡ s.lists.unnamed + 1
-  named_to = omega (arith, group.chained.lists.unnamed)
+module _ (f first last : ℕ) (le : first ≤ last) where
+  -- the group's slots are those on its chains
+  run_chains : (to : Option Ticket → ℕ) (a : Slots) (g : GroupLists) → ((o : Option Ticket) → (first ≤ to o) × (to o ≤ last)) → AreOn f first last to a g → (x : ℕ) → on_run a f first (last - first + 1) x ≡ is_owned a g x
+  run_chains to a g within are x = both_ways (on_run a f first (last - first + 1) x) (is_owned a g x)
+      (λ e. let r = on_run_out a f first (last - first + 1) x e in are.owned r.list x r.from (omega (arith, r.to, le)) r.on)
+      (λ e. let k = within (ticket_at a g x) in
+      on_run_in a f first (last - first + 1) (to (ticket_at a g x)) x k.0 (omega (arith, k.1, le)) (are.placed x e))
 
-  run_second : (x : ℕ) → on_run a 1 s.lists.names named x ≡ is_owned a s.lists x
-  run_second x = both_ways (on_run a 1 s.lists.names named x) (is_owned a s.lists x)
-      (λ e. let r = on_run_out a 1 s.lists.names named x e in group.chained.names.owned r.list x r.from (omega (arith, r.to, named_to)) r.on)
-      (λ e. let k = name_list_within a s.lists group.chained.lists (ticket_at a s.lists x) in
-      on_run_in a 1 s.lists.names named (list_by_name s.lists (ticket_at a s.lists x)) x k.0 (omega (arith, k.1, named_to)) (group.chained.names.placed x e))
+  module _ (from to : ℕ) (a b : Slots) (emptied : IsEmptied f first (last - first + 1) to a b) where
+    -- they have come to the last chain of the group that takes
+    gained : (come : ℕ → Bool) → ((x : ℕ) → on_run a f first (last - first + 1) x ≡ come x) → AreApart first last from to → IsGained f from to come a b
+    gained come run apart = record {
+      on = λ x. emptied.on x ∙ ap (λ z. is_on a f to x || z) (run x);
+      kept = λ l x low high ne e. sym (ap (has x) (emptied.kept l (λ p q. apart l (p, omega (arith, q, le)) (low, high)) ne)) ∙ e;
+    }
 
-module _ (a c b : Slots) (s : GroupSlots) (to : GroupLists) (group : IsGroupSlots a s) (vacant : IsVacant a to) (apart : IsApart s.lists to) (arena : IsArena a 0) (after : IsArena b 0)
-    (one_ : IsGathered 0 s.lists.free 4 to.free a c) (two : IsGathered 1 s.lists.names (named a s group) to.unnamed c b) where
+    gone : (l : ℕ) → first ≤ l → l ≤ last → slots_on b f l ≡ []
+    gone l low high = emptied.gone l low (omega (arith, high, le))
+
+    -- what lies on chains beside both lies there still
+    kept : (low high : ℕ) → from ≤ to → AreApart first last low high → AreApart from to low high → KeepsOwn f low high a b
+    kept low high fits p q = record {
+      count = omega (arith, emptied.lists);
+      lists = λ l i j. emptied.kept l (λ m n. p l (m, omega (arith, n, le)) (i, j)) (λ e. q l (omega (arith, e, fits), omega (arith, e)) (i, j));
+    }
+
+module _ (a c d b : Slots) (s : GroupSlots) (to : GroupLists) (group : IsGroupSlots a s) (vacant : IsVacant a to) (apart : IsApart s.lists to) (arena : IsArena a 0) (after : IsArena b 0)
+    (one_ : IsGathered 0 s.lists.free 4 to.free a c) (two : IsGathered 1 s.lists.names (s.lists.unnamed - s.lists.names + 1) to.unnamed c d) (three : IsGathered 2 s.lists.contexts (s.lists.outside - s.lists.contexts + 1) to.outside d b) where
   first : IsEmptied 0 s.lists.free 4 to.free a b
-  first = emptied 0 s.lists.free 4 to.free a a c b refl one_ (two.others 0 (λ e. absurd (omega (arith, e))))
+  first = emptied 0 s.lists.free 4 to.free a a c b refl one_ (three.others 0 (λ e. absurd (omega (arith, e))) ∙ two.others 0 (λ e. absurd (omega (arith, e))))
 
-  second : IsEmptied 1 s.lists.names (named a s group) to.unnamed a b
-  second = emptied 1 s.lists.names (named a s group) to.unnamed a c b b (one_.others 1 (λ e. absurd (omega (arith, e)))) two refl
+  second : IsEmptied 1 s.lists.names (s.lists.unnamed - s.lists.names + 1) to.unnamed a b
+  second = emptied 1 s.lists.names (s.lists.unnamed - s.lists.names + 1) to.unnamed a c d b (one_.others 1 (λ e. absurd (omega (arith, e)))) two (three.others 1 (λ e. absurd (omega (arith, e))))
+
+  third : IsEmptied 2 s.lists.contexts (s.lists.outside - s.lists.contexts + 1) to.outside a b
+  third = emptied 2 s.lists.contexts (s.lists.outside - s.lists.contexts + 1) to.outside a d b b (two.others 2 (λ e. absurd (omega (arith, e))) ∙ one_.others 2 (λ e. absurd (omega (arith, e)))) three refl
+
+  named : s.lists.names ≤ s.lists.unnamed
+  named = omega (arith, group.chained.lists.unnamed)
+
+  inside : s.lists.contexts ≤ s.lists.outside
+  inside = omega (arith, group.chained.lists.outside)
 
   payloads : b.payloads ≡ a.payloads
-  payloads = two.payloads ∙ one_.payloads
+  payloads = three.payloads ∙ two.payloads ∙ one_.payloads
 
   size : length b.payloads ≡ length a.payloads
   size = ap (λ (ps : List Ticket). length ps) payloads
 
   there : HasLists a b
-  there = record { first = omega (arith, first.lists); second = omega (arith, second.lists) }
+  there = record { first = omega (arith, first.lists); second = omega (arith, second.lists); third = omega (arith, third.lists) }
 
   own : (l : ℕ) → s.lists.free ≤ l → l < s.lists.free + 4 → IsOwn s.lists l
   own l low high = record { from = low; to = omega (arith, high, group.numbered.settled) }
@@ -113,36 +139,34 @@ module _ (a c b : Slots) (s : GroupSlots) (to : GroupLists) (group : IsGroupSlot
         on = λ x. first.on x ∙ ap (λ z. is_on a 0 to.free x || z) (run_first a s group x);
         kept = λ l x mine ne e. sym (ap (has x) (first.kept l (λ low high. apart.apart l (own l low high) mine) ne)) ∙ e;
       })
-      (record {
-        on = λ x. second.on x ∙ ap (λ z. is_on a 1 to.unnamed x || z) (run_second a s group x);
-        kept = λ l x low high ne e. sym (ap (has x) (second.kept l (λ from til. apart.names l (from, omega (arith, til, named_to a s group)) (low, high)) ne)) ∙ e;
-      })
+      (gained 1 s.lists.names s.lists.unnamed named to.names to.unnamed a b second (is_owned a s.lists)
+      (run_chains 1 s.lists.names s.lists.unnamed named (list_by_name s.lists) a s.lists (λ o. name_list_within a s.lists group.chained.lists o) group.chained.names) apart.names)
+      (gained 2 s.lists.contexts s.lists.outside inside to.contexts to.outside a b third (is_owned a s.lists)
+      (run_chains 2 s.lists.contexts s.lists.outside inside (list_by_context s.lists) a s.lists (λ o. context_list_within a s.lists group.chained.lists o) group.chained.contexts) apart.contexts)
 
   -- ---- the group that gives
 
   empty_first : (l x : ℕ) → IsOwn s.lists l → is_on b 0 l x ≡ false
   empty_first l x mine = ap (has x) (first.gone l mine.from (omega (arith, mine.to, group.numbered.settled)))
 
+  no_free : slots_on b 0 s.lists.free ≡ []
+  no_free = first.gone s.lists.free (omega arith) (omega arith)
+
   giver_now : IsVacant b s.lists
   giver_now = record {
     numbered = group.numbered;
     there = omega (arith, group.there, there.first);
-    chains = record {
-      unnamed = group.chained.lists.unnamed;
-      names_there = omega (arith, group.chained.lists.names_there, there.second);
-    };
+    chains = chains_there a b s.lists there.second there.third group.chained.lists;
     live = λ x. live_none b s.lists x
         (not_true (empty_first s.lists.queued x (own_queued s.lists group.numbered)))
         (not_true (empty_first s.lists.running x (own_running s.lists group.numbered)))
         (not_true (empty_first s.lists.settled x (own_settled s.lists group.numbered)));
-    names = record {
-      placed = λ x on. absurd (not_true (empty_first s.lists.free x (own_free s.lists group.numbered)) on);
-      owned = λ l x low high on. absurd (not_true (ap (has x) (second.gone l low (omega (arith, high, named_to a s group)))) on);
-    };
+    names = none_free 1 s.lists.names s.lists.unnamed b s.lists no_free (gone 1 s.lists.names s.lists.unnamed named to.names to.unnamed a b second);
+    contexts = none_free 2 s.lists.contexts s.lists.outside b s.lists no_free (gone 2 s.lists.contexts s.lists.outside inside to.contexts to.outside a b third);
   }
 
   none_left : free_slots b s.lists ≡ 0
-  none_left = ap (λ (xs : List ℕ). length xs) (first.gone s.lists.free (omega arith) (omega arith))
+  none_left = ap (λ (xs : List ℕ). length xs) no_free
 
   -- ---- how many
 
@@ -167,12 +191,12 @@ module _ (a c b : Slots) (s : GroupSlots) (to : GroupLists) (group : IsGroupSlot
     count = omega (arith, first.lists);
     lists = λ l mine. first.kept l (λ low high. p.apart l (own l low high) mine) (λ e. q.apart l (subst (IsOwn to) (sym e) (own_free to vacant.numbered)) mine);
     payloads = λ l x mine on. ap (λ (ps : List Ticket). slice_get ps x) payloads;
-    names = record {
-      count = omega (arith, second.lists);
-      lists = λ l low high. second.kept l (λ from til. p.names l (from, omega (arith, til, named_to a s group)) (low, high)) (λ e. q.names l (omega (arith, e, vacant.chains.unnamed), omega (arith, e)) (low, high));
+    chains = record {
+      names = kept 1 s.lists.names s.lists.unnamed named to.names to.unnamed a b second h.names h.unnamed (omega (arith, vacant.chains.unnamed)) p.names q.names;
+      contexts = kept 2 s.lists.contexts s.lists.outside inside to.contexts to.outside a b third h.contexts h.outside (omega (arith, vacant.chains.outside)) p.contexts q.contexts;
     };
   }
 
   -- all slots of the one group have gone to the other
   pub given_all : IsGiven s to a b
-  given_all = record { giver = giver_now; taker = taker_now; none = none_left; got = got_now; same = same_now; slots = size; limit = two.limit ∙ one_.limit }
+  given_all = record { giver = giver_now; taker = taker_now; none = none_left; got = got_now; same = same_now; slots = size; limit = three.limit ∙ two.limit ∙ one_.limit }

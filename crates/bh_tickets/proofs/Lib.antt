@@ -29,7 +29,8 @@ pub mod Rising  -- lists whose tickets lie in the order of their submits
 pub mod ReleasedAll  -- all of a group's tickets go that nobody needs
 pub mod Uncached  -- the end of a request context
 -- A group is added: new lists and new slots:
-pub mod AddedLists  -- a family gets empty lists, and then one of them the new slots
+pub mod AddedLists  -- families get empty lists, and then one of each the new slots
+pub mod Beside  -- chains of groups, and of none, that have no list in common
 pub mod AddedGroup  -- a group is added
 pub mod NewGroup  -- lists are made for a group, or slots come to one that has no ticket
 -- Slots go from one group without tickets to another:
@@ -39,8 +40,9 @@ pub mod Taken  -- slots go from one group without tickets to another
 pub mod Gathered  -- what lies on several lists of a family goes to another
 pub mod Given  -- all slots of a group go to one without tickets
 -- Groups come and go: what becomes of all of them:
-pub mod NamesLeft  -- chains by cache name that no group has stay so as groups change
-pub mod Exchanged  -- a place gets other chains by cache name
+pub mod NamesLeft  -- chains that no group has stay so as groups change
+pub mod Exchanged  -- a place gets other chains
 pub mod Rebuilt  -- slots go between the spare ones and a group: what becomes of all groups
 pub mod Ready  -- spare slots and places are made ready
 pub mod SlotCounts  -- how many slots all groups have, as contracts see them
+pub mod Chosen  -- a place is chosen for a group, and slots for it among the spare ones; then it has them

@@ -1,16 +1,16 @@
--- Chains by cache name that no group has stay so as groups change.
-use Rattle.std.proofs.Common.{◌≡◌, ℕ, zero, suc, ◌+◌, ◌<◌, ◌≤◌, inl, inr, List, [], ◌∷◌, ◌++◌, ◌⊎◌, length, set, get_or, replicate, Some, refl, ◌∙◌, sym, ap, subst, arith, length-append}
+-- Chains that no group has stay so as groups change.
+use Rattle.std.proofs.Common.{◌≡◌, ℕ, zero, suc, ◌+◌, ◌<◌, inl, inr, List, [], ◌∷◌, ◌++◌, ◌⊎◌, length, set, get_or, Some, refl, ◌∙◌, sym, ap, subst, arith}
 use Rattle.std.specs.Prelude.{slice_get}
-use Rattle.std.proofs.lemmas.List.{get_or_past, length-replicate}
-use Rattle.bh_slot_arena.specs.Slots.{lists_in}
 use Rattle.bh_cache.specs.declared.lists.GroupLists.{GroupLists}
-use Rattle.bh_cache.specs.Slots.{Slots, IsApart}
+use Rattle.bh_cache.specs.Chains.{HasChains}
+use Rattle.bh_cache.specs.Slots.{Slots}
 use Rattle.bh_tickets.specs.declared.group_slots.GroupSlots.{GroupSlots}
 use Rattle.bh_tickets.specs.declared.names.NameLists.{NameLists}
 use Rattle.bh_tickets.specs.Growth.{HasNewLists}
-use Rattle.bh_tickets.specs.Names.{AreApart, AreEmpty, AreLeft}
-use Rattle.bh_tickets.specs.Same.{KeepsOwn}
-use Rattle.bh_tickets.proofs.AddedLists.{append_empty}
+use Rattle.bh_tickets.specs.Names.{AreBeside, AreEmpty, AreEmptyOn, AreLeft, names_of}
+use Rattle.bh_tickets.specs.Same.{KeepsNames, KeepsOwn}
+use Rattle.bh_tickets.proofs.AddedLists.{empty_made, names_more}
+use Rattle.bh_tickets.proofs.Beside.{IsMade, beside_back, beside_made}
 
 -- ---- lists of chains
 
@@ -50,25 +50,6 @@ pub names_end : (ns : List NameLists) (x : NameLists) → slice_get (ns ++ x ∷
 names_end [] x = refl
 names_end (y ∷ ys) x = names_end ys x
 
--- ---- chains as the lists of a group
-
--- lists of the second family alone: what is known of those of a group is known of them
-abbrev pub lists_of : NameLists → GroupLists
-lists_of n = record {
-  free = 1;
-  queued = 1;
-  running = 1;
-  settled = 0;
-  names = n.names;
-  unnamed = n.unnamed;
-}
-
-pub apart_lists : (g : GroupLists) (n : NameLists) → AreApart g.names g.unnamed n.names n.unnamed → IsApart g (lists_of n)
-apart_lists g n apart = record {
-  apart = λ l own other. let low : 1 ≤ l = other.from in let high : l ≤ 0 = other.to in absurd (omega (arith, low, high));
-  names = apart;
-}
-
 -- ---- what stays
 
 -- the group has the lists of one that was there
@@ -78,66 +59,65 @@ pub record HadLists (ss : List GroupSlots) (r : GroupSlots) : Type 0 where
   pub there : slice_get ss number ≡ Some was
   pub lists : r.lists ≡ was.lists
 
-pub left_same : (a b : Slots) (qs rs : List GroupSlots) (ns : List NameLists) → AreLeft a qs ns → ((i : ℕ) (n : NameLists) → slice_get ns i ≡ Some n → KeepsOwn 1 n.names n.unnamed a b)
+empty_kept : (f first last : ℕ) (a b : Slots) → AreEmptyOn f first last a → KeepsOwn f first last a b → AreEmptyOn f first last b
+empty_kept f first last a b was kept = record {
+  some = was.some;
+  there = omega (arith, was.there, kept.count);
+  empty = λ l low high. kept.lists l low high ∙ was.empty l low high;
+}
+
+pub left_same : (a b : Slots) (qs rs : List GroupSlots) (ns : List NameLists) → AreLeft a qs ns → ((i : ℕ) (n : NameLists) → slice_get ns i ≡ Some n → KeepsNames n a b)
     → ((j : ℕ) (r : GroupSlots) → slice_get rs j ≡ Some r → HadLists qs r) → AreLeft b rs ns
 left_same a b qs rs ns left keeps had = record {
   each = λ i n e.
       let was = left.each i n e in
       let kept = keeps i n e in
       record {
-        some = was.some;
-        there = omega (arith, was.there, kept.count);
-        empty = λ l low high. kept.lists l low high ∙ was.empty l low high;
+        names = empty_kept 1 n.names n.unnamed a b was.names kept.names;
+        contexts = empty_kept 2 n.contexts n.outside a b was.contexts kept.contexts;
       };
   beside = λ i j n s e f.
       let h = had j s f in
-      subst (λ (g : GroupLists). AreApart g.names g.unnamed n.names n.unnamed) (sym h.lists) (left.beside i h.number n h.was e h.there);
+      subst (λ (g : GroupLists). AreBeside (names_of g) n) (sym h.lists) (left.beside i h.number n h.was e h.there);
   apart = left.apart;
 }
 
 -- with empty lists more, what lies on those that were there lies there still
-pub keeps_more : (n k : ℕ) (a b : Slots) (first last : ℕ) → HasNewLists n k a b → KeepsOwn 1 first last a b
-keeps_more n k a b first last more = record {
-  count = omega (arith, ap (λ (ls : List (List ℕ)). length ls) more.second, length-append (lists_in a 1) (replicate k []));
-  lists = λ l low high. ap (λ (ls : List (List ℕ)). get_or ls l []) more.second ∙ append_empty (lists_in a 1) k l;
-}
-
-pub left_more : (n k : ℕ) (a b : Slots) (qs : List GroupSlots) (ns : List NameLists) → HasNewLists n k a b → AreLeft a qs ns → AreLeft b qs ns
-left_more n k a b qs ns more left = left_same a b qs qs ns left (λ i x e. keeps_more n k a b x.names x.unnamed more) (λ j r e. record { number = j; was = r; there = e; lists = refl })
+pub left_more : (n k m : ℕ) (a b : Slots) (qs : List GroupSlots) (ns : List NameLists) → HasNewLists n k m a b → AreLeft a qs ns → AreLeft b qs ns
+left_more n k m a b qs ns more left = left_same a b qs qs ns left (λ i x e. names_more n k m a b x more) (λ j r e. record { number = j; was = r; there = e; lists = refl })
 
 -- chains that are made are empty, and behind those that were there
-pub left_made : (a b : Slots) (qs : List GroupSlots) (ns : List NameLists) (c : ℕ) (x : NameLists) → 0 < c → HasNewLists 0 (c + 1) a b → x.names ≡ length (lists_in a 1) → x.unnamed ≡ length (lists_in a 1) + c
-    → ((j : ℕ) (s : GroupSlots) → slice_get qs j ≡ Some s → s.lists.unnamed < length (lists_in a 1)) → AreLeft a qs ns → AreLeft b qs (ns ++ x ∷ [])
-left_made a b qs ns c x some more names unnamed there left = record {
+pub left_made : (a b : Slots) (qs : List GroupSlots) (ns : List NameLists) (c : ℕ) (x : NameLists) → 0 < c → HasNewLists 0 (c + 1) (c + 1) a b → IsMade c a x
+    → ((j : ℕ) (s : GroupSlots) → slice_get qs j ≡ Some s → HasChains a s.lists) → AreLeft a qs ns → AreLeft b qs (ns ++ x ∷ [])
+left_made a b qs ns c x some more made there left = record {
   each = λ i n e. elim (names_append ns x i n e) [
     | inl k ↦ subst (AreEmpty b) (sym k.1) fresh
     | inr k ↦ now.each i n k
   ];
   beside = λ i j n s e f. elim (names_append ns x i n e) [
-    | inl k ↦ subst (λ (z : NameLists). AreApart s.lists.names s.lists.unnamed z.names z.unnamed) (sym k.1) (λ l own other. let low : x.names ≤ l = other.0 in absurd (omega (arith, there j s f, names, own.1, low)))
+    | inl k ↦ subst (AreBeside (names_of s.lists)) (sym k.1) (let h = there j s f in beside_made c a (names_of s.lists) x h.names_there h.contexts_there made)
     | inr k ↦ now.beside i j n s k f
   ];
   apart = λ i j n m e f ne. elim (names_append ns x i n e) [
     | inl k ↦ elim (names_append ns x j m f) [
       | inl q ↦ absurd (ne (k.0 ∙ sym q.0))
-      | inr q ↦ subst (λ (z : NameLists). AreApart z.names z.unnamed m.names m.unnamed) (sym k.1) (λ l own other. let low : x.names ≤ l = own.0 in absurd (omega (arith, (left.each j m q).there, names, low, other.1)))
+      | inr q ↦ subst (λ (z : NameLists). AreBeside z m) (sym k.1) (beside_back m x (fresh_beside j m q))
     ]
     | inr k ↦ elim (names_append ns x j m f) [
-      | inl q ↦ subst (λ (z : NameLists). AreApart n.names n.unnamed z.names z.unnamed) (sym q.1) (λ l own other. let low : x.names ≤ l = other.0 in absurd (omega (arith, (left.each i n k).there, names, low, own.1)))
+      | inl q ↦ subst (AreBeside n) (sym q.1) (fresh_beside i n k)
       | inr q ↦ now.apart i j n m k q ne
     ]
   ];
 }
   where
     now : AreLeft b qs ns
-    now = left_more 0 (c + 1) a b qs ns more left
-
-    count : length (lists_in b 1) ≡ length (lists_in a 1) + (c + 1)
-    count = ap (λ (ls : List (List ℕ)). length ls) more.second ∙ length-append (lists_in a 1) (replicate (c + 1) []) ∙ ap (λ n. length (lists_in a 1) + n) (length-replicate (c + 1) [])
+    now = left_more 0 (c + 1) (c + 1) a b qs ns more left
 
     fresh : AreEmpty b x
     fresh = record {
-      some = omega (arith, names, unnamed, some);
-      there = omega (arith, unnamed, count);
-      empty = λ l low high. ap (λ (ls : List (List ℕ)). get_or ls l []) more.second ∙ append_empty (lists_in a 1) (c + 1) l ∙ get_or_past (lists_in a 1) l [] (omega (arith, names, low));
+      names = empty_made 1 c x.names x.unnamed a b some more.second made.names made.many.names;
+      contexts = empty_made 2 c x.contexts x.outside a b some more.third made.contexts made.many.contexts;
     }
+
+    fresh_beside : (i : ℕ) (n : NameLists) → slice_get ns i ≡ Some n → AreBeside n x
+    fresh_beside i n e = let was = left.each i n e in beside_made c a n x was.names.there was.contexts.there made

@@ -2,23 +2,27 @@
 use Rattle.std.proofs.Common.{◌≡◌, ℕ, zero, suc, ◌+◌, ◌<◌, ◌≤◌, List, [], ◌++◌, length, get_or, replicate, refl, ◌∙◌, sym, ap, subst, arith, length-append, length-set, get_or-set_same, get_or-set_other}
 use Rattle.std.specs.Prelude.{◌≢◌, slice_get}
 use Rattle.std.specs.List.{range_with_len}
-use Rattle.std.proofs.lemmas.List.{get_or_past, length-replicate}
+use Rattle.std.proofs.lemmas.List.{length-replicate}
 use Rattle.bh_slot_arena.specs.Lists.{list_at, put_last}
 use Rattle.bh_slot_arena.specs.Slots.{lists_in, slots_on}
 use Rattle.bh_cache.specs.declared.lists.GroupLists.{GroupLists}
+use Rattle.bh_cache.specs.Chains.{HasChains}
 use Rattle.bh_cache.specs.Slots.{Slots, has, IsApart, IsArena, IsOwn}
 use Rattle.bh_cache.proofs.Members.{has_append}
+use Rattle.bh_tickets.specs.declared.names.NameLists.{NameLists}
 use Rattle.bh_tickets.specs.Growth.{HasNewLists, IsGrown, lists_from}
-use Rattle.bh_tickets.specs.Same.{IsSame}
+use Rattle.bh_tickets.specs.Names.{AreBeside, AreEmptyOn, names_of}
+use Rattle.bh_tickets.specs.Same.{IsSame, KeepsNames, KeepsOwn}
 use Rattle.bh_tickets.specs.Spare.{IsVacant, free_slots}
 use Rattle.bh_tickets.proofs.AddedGroup.{append_before}
-use Rattle.bh_tickets.proofs.AddedLists.{append_empty, family_there, put_first, put_second}
+use Rattle.bh_tickets.proofs.AddedLists.{count_more, empty_made, empty_more, family_there, put_first, put_second, put_third}
+use Rattle.bh_tickets.proofs.Beside.{IsMade, apart_beside, beside_made}
 use Rattle.bh_tickets.proofs.Shifted.{IsGained, live_none, own_free, vacant_gained}
-use Rattle.bh_tickets.proofs.Vacant.{not_true}
+use Rattle.bh_tickets.proofs.Vacant.{none_free, not_true}
 
 -- ---- lists
 
-module _ (c : ℕ) (some : 0 < c) (a b : Slots) (g : GroupLists) (more : HasNewLists 4 (c + 1) a b) (from : g ≡ lists_from c (length (lists_in a 0)) (length (lists_in a 1))) where
+module _ (c : ℕ) (some : 0 < c) (a b : Slots) (g : GroupLists) (more : HasNewLists 4 (c + 1) (c + 1) a b) (from : g ≡ lists_from c (length (lists_in a 0)) (length (lists_in a 1)) (length (lists_in a 2))) where
   is_free : g.free ≡ length (lists_in a 0)
   is_free = ap (λ (z : GroupLists). z.free) from
 
@@ -31,23 +35,25 @@ module _ (c : ℕ) (some : 0 < c) (a b : Slots) (g : GroupLists) (more : HasNewL
   is_settled_list : g.settled ≡ length (lists_in a 0) + 3
   is_settled_list = ap (λ (z : GroupLists). z.settled) from
 
-  is_names : g.names ≡ length (lists_in a 1)
-  is_names = ap (λ (z : GroupLists). z.names) from
-
-  is_unnamed : g.unnamed ≡ length (lists_in a 1) + c
-  is_unnamed = ap (λ (z : GroupLists). z.unnamed) from
+  -- its chains are behind those that were there
+  pub new_made : IsMade c a (names_of g)
+  new_made = record {
+    names = ap (λ (z : GroupLists). z.names) from;
+    contexts = ap (λ (z : GroupLists). z.contexts) from;
+    many = record {
+      names = omega (arith, ap (λ (z : GroupLists). z.unnamed) from, ap (λ (z : GroupLists). z.names) from);
+      contexts = omega (arith, ap (λ (z : GroupLists). z.outside) from, ap (λ (z : GroupLists). z.contexts) from);
+    };
+  }
 
   empty_first : (l : ℕ) → length (lists_in a 0) ≤ l → slots_on b 0 l ≡ []
-  empty_first l le = ap (λ (ls : List (List ℕ)). get_or ls l []) more.first ∙ append_empty (lists_in a 0) 4 l ∙ get_or_past (lists_in a 0) l [] le
+  empty_first = empty_more 0 4 a b more.first
 
-  empty_second : (l : ℕ) → length (lists_in a 1) ≤ l → slots_on b 1 l ≡ []
-  empty_second l le = ap (λ (ls : List (List ℕ)). get_or ls l []) more.second ∙ append_empty (lists_in a 1) (c + 1) l ∙ get_or_past (lists_in a 1) l [] le
+  named : AreEmptyOn 1 g.names g.unnamed b
+  named = empty_made 1 c g.names g.unnamed a b some more.second new_made.names new_made.many.names
 
-  count_first : length (lists_in b 0) ≡ length (lists_in a 0) + 4
-  count_first = ap (λ (ls : List (List ℕ)). length ls) more.first ∙ length-append (lists_in a 0) (replicate 4 [])
-
-  count_second : length (lists_in b 1) ≡ length (lists_in a 1) + (c + 1)
-  count_second = ap (λ (ls : List (List ℕ)). length ls) more.second ∙ length-append (lists_in a 1) (replicate (c + 1) []) ∙ ap (λ n. length (lists_in a 1) + n) (length-replicate (c + 1) [])
+  inside : AreEmptyOn 2 g.contexts g.outside b
+  inside = empty_made 2 c g.contexts g.outside a b some more.third new_made.contexts new_made.many.contexts
 
   free_empty : slots_on b 0 g.free ≡ []
   free_empty = empty_first g.free (omega (arith, is_free))
@@ -60,34 +66,30 @@ module _ (c : ℕ) (some : 0 < c) (a b : Slots) (g : GroupLists) (more : HasNewL
   pub new_vacant : IsVacant b g
   new_vacant = record {
     numbered = record { queued = omega (arith, is_queued_list, is_free); running = omega (arith, is_running_list, is_free); settled = omega (arith, is_settled_list, is_free) };
-    there = omega (arith, is_settled_list, count_first);
+    there = omega (arith, is_settled_list, count_more 0 4 a b more.first);
     chains = record {
-      unnamed = omega (arith, is_unnamed, is_names, some);
-      names_there = omega (arith, is_unnamed, count_second);
+      unnamed = named.some;
+      names_there = named.there;
+      outside = inside.some;
+      contexts_there = inside.there;
     };
     live = λ x. live_none b g x
         (not_true (ap (has x) (empty_first g.queued (omega (arith, is_queued_list)))))
         (not_true (ap (has x) (empty_first g.running (omega (arith, is_running_list)))))
         (not_true (ap (has x) (empty_first g.settled (omega (arith, is_settled_list)))));
-    names = record {
-      placed = λ x on. absurd (not_true (ap (has x) free_empty) on);
-      owned = λ l x low high on. absurd (not_true (ap (has x) (empty_second l (omega (arith, low, is_names)))) on);
-    };
+    names = none_free 1 g.names g.unnamed b g free_empty named.empty;
+    contexts = none_free 2 g.contexts g.outside b g free_empty inside.empty;
   }
 
   -- its lists are behind those of groups that were there
-  pub new_apart : (h : GroupLists) → h.settled < length (lists_in a 0) → h.unnamed < length (lists_in a 1) → IsApart h g
-  new_apart h p r = record {
-    apart = λ l own other. absurd (omega (arith, p, is_free, own.to, other.from));
-    names = λ l own other. absurd (omega (arith, r, is_names, own.1, other.0));
-  }
-
--- two groups have no list in common, whichever is named first
-pub apart_back : (g h : GroupLists) → IsApart g h → IsApart h g
-apart_back g h apart = record {
-  apart = λ l own other. apart.apart l other own;
-  names = λ l own other. apart.names l other own;
-}
+  pub new_apart : (h : GroupLists) → h.settled < length (lists_in a 0) → HasChains a h → IsApart h g
+  new_apart h p there =
+      let beside = beside_made c a (names_of h) (names_of g) there.names_there there.contexts_there new_made in
+      record {
+        apart = λ l own other. absurd (omega (arith, p, is_free, own.to, other.from));
+        names = beside.names;
+        contexts = beside.contexts;
+      }
 
 -- ---- slots
 
@@ -99,14 +101,17 @@ module _ (count : ℕ) (g : GroupLists) (a b : Slots) (grown : IsGrown g count a
   abbrev come : List ℕ
   come = range_with_len (length a.payloads) count
 
-  wide : 1 < length a.families
-  wide = family_there a.families 1 (omega (arith, vacant.chains.names_there))
+  wide : 2 < length a.families
+  wide = family_there a.families 2 (omega (arith, vacant.chains.contexts_there))
 
   first : lists_in b 0 ≡ put_last come g.free (lists_in a 0)
-  first = ap (λ (z : Slots). lists_in z 0) grown.is ∙ put_first g.free g.unnamed come a.families wide
+  first = ap (λ (z : Slots). lists_in z 0) grown.is ∙ put_first g.free g.unnamed g.outside come a.families wide
 
   second : lists_in b 1 ≡ put_last come g.unnamed (lists_in a 1)
-  second = ap (λ (z : Slots). lists_in z 1) grown.is ∙ put_second g.free g.unnamed come a.families wide
+  second = ap (λ (z : Slots). lists_in z 1) grown.is ∙ put_second g.free g.unnamed g.outside come a.families wide
+
+  third : lists_in b 2 ≡ put_last come g.outside (lists_in a 2)
+  third = ap (λ (z : Slots). lists_in z 2) grown.is ∙ put_third g.free g.unnamed g.outside come a.families wide
 
   put_count : (f to : ℕ) → lists_in b f ≡ put_last come to (lists_in a f) → length (lists_in b f) ≡ length (lists_in a f)
   put_count f to is = ap (λ (ls : List (List ℕ)). length ls) is ∙ length-set (lists_in a f) to (list_at (lists_in a f) to ++ come)
@@ -131,9 +136,9 @@ module _ (count : ℕ) (g : GroupLists) (a b : Slots) (grown : IsGrown g count a
   grown_vacant =
       let free = gained 0 g.free g.free first free_there in
       vacant_gained (λ x. has x come) a b g vacant
-      (record { first = omega (arith, put_count 0 g.free first); second = omega (arith, put_count 1 g.unnamed second) })
+      (record { first = omega (arith, put_count 0 g.free first); second = omega (arith, put_count 1 g.unnamed second); third = omega (arith, put_count 2 g.outside third) })
       (record { on = free.on; kept = λ l x own ne on. sym (ap (has x) (put_other 0 g.free l first ne)) ∙ on })
-      (gained 1 g.names g.unnamed second vacant.chains.names_there)
+      (gained 1 g.names g.unnamed second vacant.chains.names_there) (gained 2 g.contexts g.outside third vacant.chains.contexts_there)
 
   -- and so many free slots more
   pub grown_free : free_slots b g ≡ free_slots a g + count
@@ -146,15 +151,22 @@ module _ (count : ℕ) (g : GroupLists) (a b : Slots) (grown : IsGrown g count a
   pub grown_limit : b.limit ≡ a.limit
   grown_limit = ap (λ (z : Slots). z.limit) grown.is
 
-  -- what lies on the lists of other groups lies there still
+  put_apart : (f to low high : ℕ) → lists_in b f ≡ put_last come to (lists_in a f) → ((l : ℕ) → l ≡ to → low ≤ l → l ≤ high → ⊥) → KeepsOwn f low high a b
+  put_apart f to low high is out = record { count = omega (arith, put_count f to is); lists = λ l p q. put_other f to l is (λ e. out l e p q) }
+
+  -- what lies on chains beside the group's lies there still
+  pub grown_beside : (n : NameLists) → AreBeside (names_of g) n → KeepsNames n a b
+  grown_beside n beside = record {
+    names = put_apart 1 g.unnamed n.names n.unnamed second (λ l e p q. beside.names l (omega (arith, vacant.chains.unnamed, e), omega (arith, e)) (p, q));
+    contexts = put_apart 2 g.outside n.contexts n.outside third (λ l e p q. beside.contexts l (omega (arith, vacant.chains.outside, e), omega (arith, e)) (p, q));
+  }
+
+  -- and what lies on the lists of other groups
   pub grown_same : (h : GroupLists) → IsArena a 0 → IsApart g h → IsSame h a b
   grown_same h arena apart = record {
     slots = omega (arith, grown_size);
     count = omega (arith, put_count 0 g.free first);
     lists = λ l own. put_other 0 g.free l first (λ e. apart.apart l (subst (IsOwn g) (sym e) (own_free g vacant.numbered)) own);
     payloads = λ l x own on. ap (λ (z : Slots). slice_get z.payloads x) grown.is ∙ append_before a.payloads (replicate count grown.blank) x (arena.within l x on);
-    names = record {
-      count = omega (arith, put_count 1 g.unnamed second);
-      lists = λ l low high. put_other 1 g.unnamed l second (λ e. apart.names l (omega (arith, vacant.chains.unnamed, e), omega (arith, e)) (low, high));
-    };
+    chains = grown_beside (names_of h) (apart_beside g h apart);
   }

@@ -20,7 +20,9 @@ use Rattle.bh_tickets.proofs.ByCommand.{counts_alike}
 use Rattle.bh_cache.proofs.Order.{order_same, count_same}
 use Rattle.bh_cache.specs.Chains.{IsChainFrame}
 use Rattle.bh_tickets.specs.Same.{IsSame}
-use Rattle.bh_tickets.proofs.Chained.{chains_kept, names_apart}
+use Rattle.bh_tickets.specs.Names.{names_of}
+use Rattle.bh_tickets.proofs.Beside.{apart_beside}
+use Rattle.bh_tickets.proofs.Chained.{beside_kept, chains_kept}
 
 -- what holds of the three lists holds of that for a state
 pub each_list : (P : ℕ → Type 0) (g : GroupLists) → P g.queued → P g.running → P g.settled → (s : TicketState) → P (list_for g s)
@@ -54,7 +56,7 @@ frame_same g h a b frame chains apart = record {
   count = omega (arith, frame.count);
   lists = λ l own. frame.lists l (λ other. apart.apart l other own);
   payloads = λ l x own on. frame.payloads l x (λ other. apart.apart l other own) on;
-  names = names_apart g h a b chains apart;
+  chains = beside_kept g (names_of h) a b chains (apart_beside g h apart);
 }
 
 -- numbers of which none passes count for nothing
@@ -157,7 +159,7 @@ module _ (a b : Slots) (h : GroupSlots) (same : IsSame h.lists a b) (arena : IsA
     numbered = group.numbered;
     there = omega (arith, group.there, same.count);
     arranged = arranged_same;
-    chained = chains_kept a b h.lists same.names owned_alike at_same group.chained;
+    chained = chains_kept a b h.lists same.chains owned_alike at_same group.chained;
     slots = count_same (is_owned b h.lists) (is_owned a h.lists) (length b.payloads) owned_alike ∙ count_past (is_owned a h.lists) (length a.payloads) (length b.payloads) same.slots owned_past ∙ group.slots;
     few = group.few;
     taken = group.taken ∙ sym (count_alike is_any);

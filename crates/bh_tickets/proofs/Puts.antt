@@ -171,7 +171,7 @@ module _ (a b : Slots) (s : GroupSlots) (x : ℕ) (t v : Ticket) (arena : IsAren
 
   keeps : KeepsChains a b
   keeps = elim (cases_eq (list_for s.lists t.state) (list_for s.lists v.state)) [
-    | inl e ↦ subst (KeepsChains a) (sym (same e)) (record { families = refl; names = refl })
+    | inl e ↦ subst (KeepsChains a) (sym (same e)) (record { families = refl; names = refl; contexts = refl })
     | inr ne ↦ subst (KeepsChains a) (sym (moved ne)) (moved_keeps a x (list_for s.lists v.state) v)
   ]
 
@@ -318,7 +318,7 @@ module _ (a b : Slots) (s : GroupSlots) (x : ℕ) (t v : Ticket) (arena : IsAren
         arena = touched_arena a b x (list_for s.lists v.state) v touched arena (within_slots a s.lists x t here);
         group = subst (IsGroupSlots b) (sym is) made;
         frame = touched_frame a b x (list_for s.lists v.state) v touched s.lists (list_for s.lists t.state) arena lies (own_for s.lists group.numbered t.state) (own_for s.lists group.numbered v.state);
-        chains = frame_same s.lists a b keeps.names;
+        chains = frame_same s.lists a b keeps.names keeps.contexts;
         limit = touched.limit;
         lists = ap (λ (z : GroupSlots). z.lists) is;
         room = ap (λ (z : GroupSlots). z.slots.max) is;

@@ -1,5 +1,5 @@
 -- Spare slots and places are made ready.
-use Rattle.std.proofs.Common.{◌≡◌, ℕ, zero, suc, ◌+◌, ◌-◌, ◌<◌, ◌≤◌, inl, inr, List, [], ◌∷◌, ◌++◌, length, get_or, Option, Some, None, refl, ◌∙◌, sym, ap, subst, arith}
+use Rattle.std.proofs.Common.{◌≡◌, ℕ, zero, suc, ◌+◌, ◌-◌, ◌<◌, ◌≤◌, inl, inr, List, [], ◌∷◌, ◌++◌, length, Option, Some, None, refl, ◌∙◌, sym, ap, subst, arith}
 use Rattle.std.specs.Prelude.{◌≢◌, slice_get}
 use Rattle.std.specs.Option.{option_map}
 use Rattle.std.proofs.lemmas.List.{get_or_past, length-map}
@@ -13,18 +13,19 @@ use Rattle.bh_tickets.specs.declared.group_slots.GroupSlots.{GroupSlots}
 use Rattle.bh_tickets.specs.GroupSlots.{IsGroupSlots, no_slot_taken}
 use Rattle.bh_tickets.specs.Growth.{HasMoreLists, HasNewLists, IsGrown, IsReadyFor, lists_from}
 use Rattle.bh_tickets.specs.declared.names.NameLists.{NameLists}
-use Rattle.bh_tickets.specs.Names.{AreApart, AreLeft}
-use Rattle.bh_tickets.specs.Same.{IsSame, KeepsOwn}
-use Rattle.bh_tickets.specs.Spare.{AreSpare, GetsPlace, HasRoomBeside, IsLeft, IsPlaced, IsVacant, KeepsGroups, StaysWhole, free_slots}
+use Rattle.bh_tickets.specs.Names.{AreBeside, AreLeft, AreMany, names_of}
+use Rattle.bh_tickets.specs.Same.{IsSame, KeepsNames}
+use Rattle.bh_tickets.specs.Spare.{AreSpare, GetsPlace, HasRoomBeside, IsLeft, IsVacant, KeepsGroups, StaysWhole, free_slots}
 use Rattle.bh_tickets.specs.TicketsView.{GroupTickets, TicketsView, no_tickets_in}
 use Rattle.bh_tickets.specs.Whole.{AreGroupSlots, IsWhole, group_of, groups_of, rooms, view_of, with_spare}
 use Rattle.bh_tickets.proofs.AddedGroup.{arena_more, get_append, map_same, same_more, view_more, whole_more}
-use Rattle.bh_tickets.proofs.NamesLeft.{HadLists, apart_lists, left_more, left_same, lists_of}
-use Rattle.bh_tickets.proofs.NewGroup.{apart_back, grown_free, grown_limit, grown_same, grown_size, grown_vacant, new_apart, new_none, new_vacant}
+use Rattle.bh_tickets.proofs.Beside.{apart_back, beside_back, beside_made}
+use Rattle.bh_tickets.proofs.NamesLeft.{HadLists, left_more, left_same}
+use Rattle.bh_tickets.proofs.NewGroup.{grown_beside, grown_free, grown_limit, grown_same, grown_size, grown_vacant, new_apart, new_made, new_none, new_vacant}
 use Rattle.bh_tickets.proofs.Others.{group_same, slots_same}
 use Rattle.bh_tickets.proofs.Rebuilt.{rooms_first, spare_apart, spare_max, spare_slots, spare_vacant}
 use Rattle.bh_tickets.proofs.Vacant.{vacant_group}
-use Rattle.bh_tickets.proofs.Whole.{get_is, get_lt, group_is, groups_in}
+use Rattle.bh_tickets.proofs.Whole.{group_is, groups_in}
 
 some_same : (s t : GroupSlots) → Some s ≡ Some t → s ≡ t
 some_same s t e = cc
@@ -51,7 +52,7 @@ more_whole a b p ss ns more whole = record {
   slots = ap (λ (ps : List Ticket). length ps) more.lists.payloads ∙ whole.slots;
   free = whole.free;
   first = whole.first;
-  names = left_more more.first more.second a b (with_spare p ss) ns more.lists whole.names;
+  names = left_more more.first more.second more.third a b (with_spare p ss) ns more.lists whole.names;
 }
 
 pub more_keeps : (a b : Slots) (p : Option GroupSlots) → HasMoreLists a b → KeepsGroups a p b p
@@ -68,21 +69,21 @@ more_stays a b ss ns more = record {
 
 -- ---- new lists
 
-module _ (c : ℕ) (some : 0 < c) (a b : Slots) (g : GroupLists) (more : HasNewLists 4 (c + 1) a b) (from : g ≡ lists_from c (length (lists_in a 0)) (length (lists_in a 1))) (qs : List GroupSlots) (whole : AreGroupSlots a qs) where
+module _ (c : ℕ) (some : 0 < c) (a b : Slots) (g : GroupLists) (more : HasNewLists 4 (c + 1) (c + 1) a b) (from : g ≡ lists_from c (length (lists_in a 0)) (length (lists_in a 1)) (length (lists_in a 2))) (qs : List GroupSlots) (whole : AreGroupSlots a qs) where
   new_group : IsGroupSlots b (no_slot_taken g 0)
   new_group = subst (λ n. IsGroupSlots b (no_slot_taken g n)) (new_none c some a b g more from)
-      (vacant_group b g (new_vacant c some a b g more from) (arena_more 4 (c + 1) a b qs whole more) (omega (arith, new_none c some a b g more from)))
+      (vacant_group b g (new_vacant c some a b g more from) (arena_more 4 (c + 1) (c + 1) a b qs whole more) (omega (arith, new_none c some a b g more from)))
 
   was_apart : (i : ℕ) (s : GroupSlots) → slice_get qs i ≡ Some s → IsApart s.lists g
-  was_apart i s e = let group = whole.each i s e in new_apart c some a b g more from s.lists group.there group.chained.lists.names_there
+  was_apart i s e = let group = whole.each i s e in new_apart c some a b g more from s.lists group.there group.chained.lists
 
   -- with a group more that has them, all groups are as they should be
   pub whole_added : AreGroupSlots b (qs ++ no_slot_taken g 0 ∷ [])
   whole_added = record {
-    arena = arena_more 4 (c + 1) a b qs whole more;
+    arena = arena_more 4 (c + 1) (c + 1) a b qs whole more;
     each = λ i s e. elim (get_append qs (no_slot_taken g 0) i s e) [
       | inl k ↦ subst (IsGroupSlots b) (sym k.1) new_group
-      | inr k ↦ slots_same a b s (same_more 4 (c + 1) a b qs whole more i s k.1) whole.arena (whole.each i s k.1)
+      | inr k ↦ slots_same a b s (same_more 4 (c + 1) (c + 1) a b qs whole more i s k.1) whole.arena (whole.each i s k.1)
     ];
     apart = λ i j s r e f ne. elim (get_append qs (no_slot_taken g 0) i s e) [
       | inl k ↦ elim (get_append qs (no_slot_taken g 0) j r f) [
@@ -101,21 +102,23 @@ module _ (c : ℕ) (some : 0 < c) (a b : Slots) (g : GroupLists) (more : HasNewL
   left_added ns left = record {
     each = now.each;
     beside = λ i j n s e f. elim (get_append qs (no_slot_taken g 0) j s f) [
-      | inl k ↦ subst (λ (z : GroupSlots). AreApart z.lists.names z.lists.unnamed n.names n.unnamed) (sym k.1)
-          (λ l own other. let low : g.names ≤ l = own.0 in absurd (omega (arith, (left.each i n e).there, low, other.1, ap (λ (z : GroupLists). z.names) from)))
+      | inl k ↦
+          let was = left.each i n e in
+          subst (λ (z : GroupSlots). AreBeside (names_of z.lists) n) (sym k.1)
+          (beside_back n (names_of g) (beside_made c a n (names_of g) was.names.there was.contexts.there (new_made c some a b g more from)))
       | inr k ↦ now.beside i j n s e k.1
     ];
     apart = left.apart;
   }
     where
       now : AreLeft b qs ns
-      now = left_more 4 (c + 1) a b qs ns more left
+      now = left_more 4 (c + 1) (c + 1) a b qs ns more left
 
 -- the spare slots get lists, while there is no group
-pub made_spare : (c : ℕ) → 0 < c → (a b : Slots) (g : GroupLists) (p : Option GroupSlots) → p ≡ None → HasNewLists 4 (c + 1) a b → g ≡ lists_from c (length (lists_in a 0)) (length (lists_in a 1)) → KeepsGroups a p b (Some (no_slot_taken g 0))
+pub made_spare : (c : ℕ) → 0 < c → (a b : Slots) (g : GroupLists) (p : Option GroupSlots) → p ≡ None → HasNewLists 4 (c + 1) (c + 1) a b → g ≡ lists_from c (length (lists_in a 0)) (length (lists_in a 1)) (length (lists_in a 2)) → KeepsGroups a p b (Some (no_slot_taken g 0))
 made_spare c some a b g p none more from = record {
   whole = λ ss ns w. made ss ns (w.first none) (subst (λ q. IsWhole a q ss ns) none w);
-  view = λ ss ns w. view_more a b ss (groups_in w) (record { first = 4; second = c + 1; lists = more });
+  view = λ ss ns w. view_more a b ss (groups_in w) (record { first = 4; second = c + 1; third = c + 1; lists = more });
 }
   where
     alone : (ns : List NameLists) → IsWhole a None [] ns → IsWhole b (Some (no_slot_taken g 0)) [] ns
@@ -133,7 +136,7 @@ made_spare c some a b g p none more from = record {
 -- ---- a place
 
 -- one that a retired group left, which has so many chains
-pub left_gets : (chains place : ℕ) (a : Slots) (ss : List GroupSlots) (ns : List NameLists) (left : IsLeft place ss) → left.entry.lists.unnamed ≡ left.entry.lists.names + chains → GetsPlace chains place a ss ns a ss ns
+pub left_gets : (chains place : ℕ) (a : Slots) (ss : List GroupSlots) (ns : List NameLists) (left : IsLeft place ss) → AreMany chains (names_of left.entry.lists) → GetsPlace chains place a ss ns a ss ns
 left_gets chains place a ss ns left many = record {
   gets = λ p w. record {
     entry = left.entry;
@@ -159,13 +162,13 @@ not_at_end (y ∷ ys) r zero ne = refl
 not_at_end (y ∷ ys) r (suc i) ne = not_at_end ys r i (λ e. ne (ap suc e))
 
 -- a new one behind the others
-pub new_gets : (c : ℕ) → 0 < c → (a b : Slots) (g : GroupLists) (ss : List GroupSlots) (ns : List NameLists) → HasNewLists 4 (c + 1) a b → g ≡ lists_from c (length (lists_in a 0)) (length (lists_in a 1)) → GetsPlace c (length ss) a ss ns b (ss ++ no_slot_taken g 0 ∷ []) ns
+pub new_gets : (c : ℕ) → 0 < c → (a b : Slots) (g : GroupLists) (ss : List GroupSlots) (ns : List NameLists) → HasNewLists 4 (c + 1) (c + 1) a b → g ≡ lists_from c (length (lists_in a 0)) (length (lists_in a 1)) (length (lists_in a 2)) → GetsPlace c (length ss) a ss ns b (ss ++ no_slot_taken g 0 ∷ []) ns
 new_gets c some a b g ss ns more from = record {
   gets = λ p w. record {
     entry = no_slot_taken g 0;
     here = at_end ss (no_slot_taken g 0);
     empty = refl;
-    many = omega (arith, ap (λ (z : GroupLists). z.unnamed) from, ap (λ (z : GroupLists). z.names) from);
+    many = (new_made c some a b g more from).many;
     whole = record {
       all = whole_added c some a b g more from (p ∷ ss) w.all;
       slots = omega (arith, ap (λ (ps : List Ticket). length ps) more.payloads, w.slots, rooms_first p ss, rooms_first p (ss ++ no_slot_taken g 0 ∷ []), room_same);
@@ -187,7 +190,7 @@ new_gets c some a b g ss ns more from = record {
     shown w j None e = refl
     shown w j (Some s) e =
         let all = groups_in w in
-        ap Some (group_same a b s (same_more 4 (c + 1) a b ss all more j s e) all.arena (all.each j s e))
+        ap Some (group_same a b s (same_more 4 (c + 1) (c + 1) a b ss all more j s e) all.arena (all.each j s e))
 
 -- ---- spare slots
 
@@ -229,6 +232,7 @@ module _ (slots : ℕ) (a : Slots) (g : GroupLists) (spare : Option GroupSlots) 
       record {
         first = ready_free;
         second = k.chains.names_there;
+        third = k.chains.contexts_there;
         within = omega (arith, ready.within, spare_slots a ready.part ready.groups ready.names ready.whole, ready_max, few);
       }
 
@@ -259,8 +263,8 @@ module _ (slots : ℕ) (a : Slots) (g : GroupLists) (spare : Option GroupSlots) 
           names = left_same a b (ready.part ∷ ss) (no_slot_taken g (free_slots b g) ∷ ss) ns w.names keeps had;
         }
           where
-            keeps : (k : ℕ) (n : NameLists) → slice_get ns k ≡ Some n → KeepsOwn 1 n.names n.unnamed a b
-            keeps k n e = (grown_same count g a b grown ready_vacant (lists_of n) w.all.arena (apart_lists g n (subst (λ (z : GroupLists). AreApart z.names z.unnamed n.names n.unnamed) ready.lists (w.names.beside k 0 n ready.part e refl)))).names
+            keeps : (k : ℕ) (n : NameLists) → slice_get ns k ≡ Some n → KeepsNames n a b
+            keeps k n e = grown_beside count g a b grown ready_vacant n (subst (λ (z : GroupLists). AreBeside (names_of z) n) ready.lists (w.names.beside k 0 n ready.part e refl))
 
             had : (j : ℕ) (s : GroupSlots) → slice_get (no_slot_taken g (free_slots b g) ∷ ss) j ≡ Some s → HadLists (ready.part ∷ ss) s
             had zero s e = record { number = 0; was = ready.part; there = refl; lists = ap (λ (z : GroupSlots). z.lists) (sym (some_same (no_slot_taken g (free_slots b g)) s e)) ∙ sym ready.lists }
@@ -281,29 +285,3 @@ module _ (slots : ℕ) (a : Slots) (g : GroupLists) (spare : Option GroupSlots) 
 
         shown : (ss : List GroupSlots) (ns : List NameLists) → IsWhole a (Some ready.part) ss ns → view_of b ss ≡ view_of a ss
         shown ss ns w = λ i. record { limit = grown_limit count g a b grown ready_vacant i; groups = map_same (group_of b) (group_of a) ss (λ j s e. group_same a b s (same_grown ss ns w j s e) w.all.arena (w.all.each (suc j) s e)) i }
-
--- ---- a group is added
-
--- the spare slots and the group's part, once both are ready
-pub record IsChosen (chains place slots : ℕ) (g : GroupLists) (s : GroupSlots) (a : Slots) (ss : List GroupSlots) (b : Slots) (rs : List GroupSlots) (ms : List NameLists) : Type 0 where
-  pub part : GroupSlots
-  pub placed : IsPlaced chains place a part ss b rs ms
-  pub limit : b.limit ≡ a.limit
-  pub here : slice_get rs place ≡ Some s
-  pub empty : s.slots.max ≡ 0
-  pub lists : part.lists ≡ g
-  pub enough : slots ≤ part.slots.max
-
-pub chosen : (chains place slots : ℕ) (g : GroupLists) (s : GroupSlots) (a : Slots) (ss : List GroupSlots) (ns : List NameLists) (spare : Option GroupSlots) (b : Slots) (rs : List GroupSlots) (ms : List NameLists) → IsWhole a spare ss ns → AreSpare slots g spare → GetsPlace chains place a ss ns b rs ms → s ≡ get_or rs place s → IsChosen chains place slots g s a ss b rs ms
-chosen chains place slots g s a ss ns spare b rs ms whole are got is =
-    let placed = got.gets are.part (subst (λ q. IsWhole a q ss ns) are.is whole) in
-    let here : slice_get rs place ≡ Some s = get_is rs place s (get_lt rs place placed.entry placed.here) is in
-    record {
-      part = are.part;
-      placed = placed;
-      limit = placed.limit;
-      here = here;
-      empty = ap (λ (z : GroupSlots). z.slots.max) (some_same s placed.entry (sym here ∙ placed.here)) ∙ placed.empty;
-      lists = are.lists;
-      enough = are.enough;
-    }

@@ -16,7 +16,8 @@ use Rattle.bh_tickets.specs.Whole.{AreGroupSlots, IsWhole, group_of, groups_of, 
 use Rattle.bh_tickets.specs.declared.names.NameLists.{NameLists}
 use Rattle.bh_tickets.specs.Names.{AreLeft}
 use Rattle.bh_tickets.proofs.AddedGroup.{map_same}
-use Rattle.bh_tickets.proofs.NamesLeft.{apart_lists, left_same, lists_of}
+use Rattle.bh_tickets.proofs.Beside.{apart_lists, lists_of}
+use Rattle.bh_tickets.proofs.NamesLeft.{left_same}
 use Rattle.bh_tickets.proofs.Others.{group_same, slots_same}
 use Rattle.bh_tickets.proofs.Vacant.{is_vacant, max_is, taken_few, vacant_group, vacant_shown}
 use Rattle.bh_tickets.proofs.Whole.{get_lt, set_other, set_same}
@@ -94,7 +95,7 @@ module _ (a b : Slots) (p q : GroupSlots) (ss : List GroupSlots) (i : ℕ) (s r 
   -- chains that no group has are those of none still
   pub two_left : (ns : List NameLists) → AreLeft a (p ∷ ss) ns → AreLeft b (q ∷ set ss i r) ns
   two_left ns left = left_same a b (p ∷ ss) (q ∷ set ss i r) ns left
-      (λ k n e. (same (lists_of n) (apart_lists p.lists n (left.beside k 0 n p e refl)) (apart_lists s.lists n (left.beside k (suc i) n s e is))).names)
+      (λ k n e. (same (lists_of n) (apart_lists p.lists n (left.beside k 0 n p e refl)) (apart_lists s.lists n (left.beside k (suc i) n s e is))).chains)
       (λ j t e. let part = two_parts j t e in record { number = j; was = part.was; there = part.there; lists = part.lists })
 
   -- contracts see each other group as it was

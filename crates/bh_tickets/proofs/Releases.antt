@@ -25,8 +25,8 @@ use Rattle.bh_tickets.proofs.Own.{gone_arranged, not_live_free}
 use Rattle.bh_tickets.proofs.Others.{own_for, frame_refl}
 use Rattle.bh_tickets.proofs.Puts.{held_at, within_slots}
 use Rattle.bh_tickets.proofs.Chained.{chains_placed, freed_keeps, payloads_placed, touched_placed}
-use Rattle.bh_cache.proofs.Placed.{frame_refl as chain_frame_refl, unnamed_list}
-use Rattle.bh_cache.specs.Chains.{IsChainFrame, IsChained, is_named, list_by_name, with_placed_where}
+use Rattle.bh_cache.proofs.Placed.{alike_same, alike_sym, alike_trans, frame_refl as chain_frame_refl, unnamed_alike}
+use Rattle.bh_cache.specs.Chains.{IsChainFrame, IsChained, is_named, with_placed_where}
 
 -- what is there is read
 pub there_at : (a : Slots) (s : GroupSlots) (x : ℕ) (t : Ticket) → is_some (ticket_at a s.lists x) ≡ true → Some t ≡ slice_get a.payloads x → ticket_at a s.lists x ≡ Some t
@@ -69,7 +69,7 @@ or_first : (b c : Bool) → b ≡ true → (b || c) ≡ true
 or_first b c e = ap (λ d. d || c) e
 
 module _ (a b : Slots) (s : GroupSlots) (x : ℕ) (t : Ticket) (arena : IsArena a 0) (group : IsGroupSlots a s) (many : s.needless ≡ noted.Many) (here : ticket_at a s.lists x ≡ Some t) (drops : is_kept t ≡ false)
-    (names : IsArena a 1) (is : b ≡ with_placed_where (is_named (Some t)) s.lists x None (with_moved 0 x s.lists.free a)) where
+    (names : IsArena a 1) (contexts : IsArena a 2) (is : b ≡ with_placed_where (is_named (Some t)) s.lists x None (with_moved 0 x s.lists.free a)) where
   payload : slice_get a.payloads x ≡ Some t
   payload = (held_at a s.lists x t here).1
 
@@ -89,9 +89,9 @@ module _ (a b : Slots) (s : GroupSlots) (x : ℕ) (t : Ticket) (arena : IsArena 
   owned_list = or_first (eqb s.lists.free s.lists.free) (is_live_list s.lists s.lists.free) (eq-eqb s.lists.free s.lists.free refl)
 
   chains : IsChained b s.lists × IsChainFrame s.lists a b
-  chains = chains_placed (is_named (Some t)) a (with_moved 0 x s.lists.free a) b s.lists x s.lists.free t None before (freed_keeps a x s.lists.free) names group.chained owned_slot owned_list
+  chains = chains_placed (is_named (Some t)) a (with_moved 0 x s.lists.free a) b s.lists x s.lists.free t None before (freed_keeps a x s.lists.free) names contexts group.chained owned_slot owned_list
       (sym (ap (λ c. if c then Some t else None) (not_live_free s.lists group.numbered)))
-      (λ off. sym (ap (list_by_name s.lists) here ∙ unnamed_list s.lists (Some t) off)) is
+      (λ off. alike_sym s.lists (ticket_at a s.lists x) None (alike_trans s.lists (ticket_at a s.lists x) (Some t) None (alike_same s.lists (ticket_at a s.lists x) (Some t) here) (unnamed_alike s.lists (Some t) off))) is
 
   gone : ticket_at b s.lists x ≡ None
   gone = at_slot a b x s.lists.free t touched s.lists ∙ ap (λ c. if c then Some t else None) (not_live_free s.lists group.numbered)

@@ -7,12 +7,14 @@ use Rattle.bh_cache.specs.declared.lists.GroupLists.{GroupLists}
 use Rattle.bh_cache.specs.Slots.{Slots, is_live, is_on, IsOwn}
 use Rattle.bh_tickets.specs.GroupSlots.{IsNumbered}
 use Rattle.bh_tickets.specs.Spare.{AreFreeOn, IsVacant}
+use Rattle.bh_tickets.proofs.Chained.{chains_there}
 use Rattle.bh_tickets.proofs.Vacant.{not_true, or_true}
 
 -- the lists of each family are there still
 pub record HasLists (a b : Slots) : Type 0 where
   pub first : length (lists_in a 0) ≤ length (lists_in b 0)
   pub second : length (lists_in a 1) ≤ length (lists_in b 1)
+  pub third : length (lists_in a 2) ≤ length (lists_in b 2)
 
 pub own_queued : (g : GroupLists) → IsNumbered g → IsOwn g g.queued
 own_queued g n = record { from = omega (arith, n.queued); to = omega (arith, n.queued, n.settled) }
@@ -76,19 +78,17 @@ free_gained f first last come a b g are free gained = record {
 }
 
 -- a group without tickets is one still
-pub vacant_gained : (come : ℕ → Bool) (a b : Slots) (g : GroupLists) → IsVacant a g → HasLists a b → IsGainedFree come g a b → IsGained 1 g.names g.unnamed come a b → IsVacant b g
-vacant_gained come a b g vacant there free names = record {
+pub vacant_gained : (come : ℕ → Bool) (a b : Slots) (g : GroupLists) → IsVacant a g → HasLists a b → IsGainedFree come g a b → IsGained 1 g.names g.unnamed come a b → IsGained 2 g.contexts g.outside come a b → IsVacant b g
+vacant_gained come a b g vacant there free names contexts = record {
   numbered = vacant.numbered;
   there = omega (arith, vacant.there, there.first);
-  chains = record {
-    unnamed = vacant.chains.unnamed;
-    names_there = omega (arith, vacant.chains.names_there, there.second);
-  };
+  chains = chains_there a b g there.second there.third vacant.chains;
   live = λ x. live_none b g x
       (λ on. not_true (off_live a g x (vacant.live x)).0 (free.kept g.queued x (own_queued g vacant.numbered) (λ e. absurd (omega (arith, e, vacant.numbered.queued))) on))
       (λ on. not_true (off_live a g x (vacant.live x)).1 (free.kept g.running x (own_running g vacant.numbered) (λ e. absurd (omega (arith, e, vacant.numbered.running))) on))
       (λ on. not_true (off_live a g x (vacant.live x)).2 (free.kept g.settled x (own_settled g vacant.numbered) (λ e. absurd (omega (arith, e, vacant.numbered.settled))) on));
   names = free_gained 1 g.names g.unnamed come a b g vacant.names free names;
+  contexts = free_gained 2 g.contexts g.outside come a b g vacant.contexts free contexts;
 }
 
 -- ---- a slot goes
@@ -112,14 +112,11 @@ free_lost f first last x a b g n le are free lost = record {
 }
 
 -- a group without tickets is one still
-pub vacant_lost : (x : ℕ) (a b : Slots) (g : GroupLists) → IsVacant a g → HasLists a b → IsLost 0 g.free g.settled x a b → IsLost 1 g.names g.unnamed x a b → IsVacant b g
-vacant_lost x a b g vacant there free names = record {
+pub vacant_lost : (x : ℕ) (a b : Slots) (g : GroupLists) → IsVacant a g → HasLists a b → IsLost 0 g.free g.settled x a b → IsLost 1 g.names g.unnamed x a b → IsLost 2 g.contexts g.outside x a b → IsVacant b g
+vacant_lost x a b g vacant there free names contexts = record {
   numbered = vacant.numbered;
   there = omega (arith, vacant.there, there.first);
-  chains = record {
-    unnamed = vacant.chains.unnamed;
-    names_there = omega (arith, vacant.chains.names_there, there.second);
-  };
+  chains = chains_there a b g there.second there.third vacant.chains;
   live = λ y.
       let off = off_live a g y (vacant.live y) in
       let q = own_queued g vacant.numbered in
@@ -130,4 +127,5 @@ vacant_lost x a b g vacant there free names = record {
       (λ on. gone (eqb y x) (is_on a 0 g.running y) off.1 (sym (free.on g.running y r.from r.to) ∙ on))
       (λ on. gone (eqb y x) (is_on a 0 g.settled y) off.2 (sym (free.on g.settled y s.from s.to) ∙ on));
   names = free_lost 1 g.names g.unnamed x a b g vacant.numbered (omega (arith, vacant.chains.unnamed)) vacant.names free names;
+  contexts = free_lost 2 g.contexts g.outside x a b g vacant.numbered (omega (arith, vacant.chains.outside)) vacant.contexts free contexts;
 }

@@ -6,15 +6,14 @@ use Rattle.bh_base.specs.declared.ticket.Ticket.{Ticket}
 use Rattle.bh_index_lists.specs.Lists.{without}
 use Rattle.bh_slot_arena.specs.Slots.{lists_in, slots_on, with_moved, with_payload}
 use Rattle.bh_cache.specs.declared.lists.GroupLists.{GroupLists}
-use Rattle.bh_cache.specs.Chains.{HasChains, with_placed}
+use Rattle.bh_cache.specs.Chains.{with_placed}
 use Rattle.bh_cache.specs.Slots.{Slots, has, is_on, IsApart, IsArena, IsOwn, Once}
 use Rattle.bh_cache.proofs.Along.{without_at}
-use Rattle.bh_cache.proofs.Moves.{list_not_to, list_to, lists_count, without_absent}
+use Rattle.bh_cache.proofs.Moves.{families_count, family_stays, list_not_to, list_to, lists_count, on_moved, without_absent}
 use Rattle.bh_cache.proofs.Order.{front_is, front_on}
-use Rattle.bh_cache.proofs.Placed.{on_names}
 use Rattle.bh_tickets.specs.Same.{IsSame, KeepsOwn}
 use Rattle.bh_tickets.specs.Spare.{IsTaken, IsVacant, free_slots}
-use Rattle.bh_tickets.proofs.Chained.{KeepsChains, chains_there, moved_keeps, placed_on, touched_placed}
+use Rattle.bh_tickets.proofs.Chained.{KeepsChains, moved_keeps, placed_on, touched_placed}
 use Rattle.bh_tickets.proofs.Shifted.{HasLists, IsGained, IsGainedFree, IsLost, own_free, vacant_gained, vacant_lost}
 use Rattle.bh_tickets.proofs.Touched.{IsTouched, not_on, payload_other, touched_both}
 
@@ -30,7 +29,10 @@ same_both h a b c p q = record {
   count = omega (arith, p.count, q.count);
   lists = λ l own. q.lists l own ∙ p.lists l own;
   payloads = λ l x own on. q.payloads l x own (ap (has x) (p.lists l own) ∙ on) ∙ p.payloads l x own on;
-  names = keeps_both 1 h.names h.unnamed a b c p.names q.names;
+  chains = record {
+    names = keeps_both 1 h.names h.unnamed a b c p.chains.names q.chains.names;
+    contexts = keeps_both 2 h.contexts h.outside a b c p.chains.contexts q.chains.contexts;
+  };
 }
 
 -- where nothing changes, all stays of a group
@@ -40,7 +42,7 @@ same_refl h a = record {
   count = omega arith;
   lists = λ l own. refl;
   payloads = λ l x own on. refl;
-  names = record { count = omega arith; lists = λ l from til. refl };
+  chains = record { names = record { count = omega arith; lists = λ l from til. refl }; contexts = record { count = omega arith; lists = λ l from til. refl } };
 }
 
 -- no slot has gone
@@ -71,7 +73,36 @@ if_same : (b c d : Bool) → c ≡ d → (if b then c else d) ≡ d
 if_same true c d e = e
 if_same false c d e = refl
 
-module _ (a : Slots) (g h : GroupLists) (x : ℕ) (v : Ticket) (giver : IsVacant a g) (taker : IsVacant a h) (apart : IsApart g h) (first : IsArena a 0) (second : IsArena a 1)
+-- in the family the slot has gone to the end of the list, and no other slot has moved
+record IsMovedIn (f x to : ℕ) (a b : Slots) : Type 0 where
+  pub count : length (lists_in b f) ≡ length (lists_in a f)
+  pub left : (l : ℕ) → l ≢ to → slots_on b f l ≡ without x (slots_on a f l)
+  pub on : (l y : ℕ) → is_on b f l y ≡ (if eqb y x then eqb l to else is_on a f l y)
+
+-- as where that happens between steps in other families
+moved_in : (f x to : ℕ) (a c b : Slots) → f < length c.families → to < length (lists_in a f) → lists_in c f ≡ lists_in a f → lists_in b f ≡ lists_in (with_moved f x to c) f → IsMovedIn f x to a b
+moved_in f x to a c b wide there before after = record {
+  count = ap (λ (ls : List (List ℕ)). length ls) after ∙ lists_count c f x to wide ∙ ap (λ (ls : List (List ℕ)). length ls) before;
+  left = λ l ne. ap (λ (ls : List (List ℕ)). get_or ls l []) after ∙ list_not_to c f x to wide l ne ∙ ap (λ (ls : List (List ℕ)). without x (get_or ls l [])) before;
+  on = λ l y. ap (λ (ls : List (List ℕ)). has y (get_or ls l [])) after ∙ on_moved c f x to wide (omega (arith, there, ap (λ (ls : List (List ℕ)). length ls) before)) l y
+      ∙ ap (λ (ls : List (List ℕ)). if eqb y x then eqb l to else has y (get_or ls l [])) before;
+}
+
+off : (a : Slots) (f x l m : ℕ) → IsArena a f → is_on a f l x ≡ true → m ≢ l → is_on a f m x ≡ false
+off a f x l m arena here ne = by (is_on a f m x) refl
+  where
+    by : (b : Bool) → is_on a f m x ≡ b → b ≡ false
+    by true e = absurd (ne (arena.apart m l x e here))
+    by false e = refl
+
+-- what lies on lists beside that from which it went and that to which it went lies there still
+kept_beside : (f x from to low high : ℕ) (a b : Slots) → IsMovedIn f x to a b → IsArena a f → is_on a f from x ≡ true → ((l : ℕ) → low ≤ l → l ≤ high → (l ≢ to) × (l ≢ from)) → KeepsOwn f low high a b
+kept_beside f x from to low high a b moved arena here out = record {
+  count = omega (arith, moved.count);
+  lists = λ l p q. let ne = out l p q in moved.left l ne.0 ∙ without_absent x (slots_on a f l) (off a f x from l arena here ne.1);
+}
+
+module _ (a : Slots) (g h : GroupLists) (x : ℕ) (v : Ticket) (giver : IsVacant a g) (taker : IsVacant a h) (apart : IsApart g h) (first : IsArena a 0) (second : IsArena a 1) (third : IsArena a 2)
     (front : slice_get (slots_on a 0 g.free) 0 ≡ Some x) where
   abbrev written : Slots
   written = with_payload x v a
@@ -97,24 +128,16 @@ module _ (a : Slots) (g h : GroupLists) (x : ℕ) (v : Ticket) (giver : IsVacant
   keeps : KeepsChains a moved
   keeps = moved_keeps a x h.free v
 
-  there : HasChains moved h
-  there = chains_there a moved h keeps taker.chains
+  by_name : IsMovedIn 1 x h.unnamed a now
+  by_name = moved_in 1 x h.unnamed a moved now (omega (arith, second.wide, keeps.families)) taker.chains.names_there keeps.names
+      (family_stays (with_moved 1 x h.unnamed moved) 2 1 x h.outside (λ e. absurd (omega (arith, e))))
 
-  wide : 1 < length moved.families
-  wide = omega (arith, second.wide, keeps.families)
-
-  on_second : (l y : ℕ) → is_on now 1 l y ≡ (if eqb y x then eqb l h.unnamed else is_on a 1 l y)
-  on_second l y = on_names moved h x None wide there l y ∙ ap (λ (ls : List (List ℕ)). if eqb y x then eqb l h.unnamed else has y (get_or ls l [])) keeps.names
-
-  -- in the second family
-  names_now : (l : ℕ) → l ≢ h.unnamed → slots_on now 1 l ≡ without x (slots_on a 1 l)
-  names_now l ne = list_not_to moved 1 x h.unnamed wide l ne ∙ ap (λ (ls : List (List ℕ)). without x (get_or ls l [])) keeps.names
-
-  count_second : length (lists_in now 1) ≡ length (lists_in a 1)
-  count_second = lists_count moved 1 x h.unnamed wide ∙ ap (λ (ls : List (List ℕ)). length ls) keeps.names
+  by_context : IsMovedIn 2 x h.outside a now
+  by_context = moved_in 2 x h.outside a (with_moved 1 x h.unnamed moved) now (omega (arith, third.wide, keeps.families, families_count moved 1 x h.unnamed)) taker.chains.contexts_there
+      (family_stays moved 1 2 x h.unnamed (λ e. absurd (omega (arith, e))) ∙ keeps.contexts) refl
 
   has_lists : HasLists a now
-  has_lists = record { first = omega (arith, touched.count); second = omega (arith, count_second) }
+  has_lists = record { first = omega (arith, touched.count); second = omega (arith, by_name.count); third = omega (arith, by_context.count) }
 
   -- ---- the group that gives
 
@@ -124,13 +147,17 @@ module _ (a : Slots) (g h : GroupLists) (x : ℕ) (v : Ticket) (giver : IsVacant
   own_h : IsOwn h h.free
   own_h = own_free h taker.numbered
 
-  low : h.names ≤ h.unnamed
-  low = omega (arith, taker.chains.unnamed)
+  named : h.names ≤ h.unnamed
+  named = omega (arith, taker.chains.unnamed)
+
+  inside : h.contexts ≤ h.outside
+  inside = omega (arith, taker.chains.outside)
 
   giver_now : IsVacant now g
   giver_now = vacant_lost x a now g giver has_lists
       (lost_from 0 g.free g.settled h.free (λ l y. touched.on l y) (λ l low high e. apart.apart l (record { from = low; to = high }) (subst (IsOwn h) (sym e) own_h)))
-      (lost_from 1 g.names g.unnamed h.unnamed on_second (λ l from til e. apart.names l (from, til) (omega (arith, low, e), omega (arith, e))))
+      (lost_from 1 g.names g.unnamed h.unnamed by_name.on (λ l from til e. apart.names l (from, til) (omega (arith, named, e), omega (arith, e))))
+      (lost_from 2 g.contexts g.outside h.outside by_context.on (λ l from til e. apart.contexts l (from, til) (omega (arith, inside, e), omega (arith, e))))
 
   -- ---- the group that takes
 
@@ -157,7 +184,7 @@ module _ (a : Slots) (g h : GroupLists) (x : ℕ) (v : Ticket) (giver : IsVacant
       by false c e = e
 
   taker_now : IsVacant now h
-  taker_now = vacant_gained (λ y. eqb y x) a now h taker has_lists gained_free (gained_to 1 h.names h.unnamed on_second)
+  taker_now = vacant_gained (λ y. eqb y x) a now h taker has_lists gained_free (gained_to 1 h.names h.unnamed by_name.on) (gained_to 2 h.contexts h.outside by_context.on)
 
   -- ---- how many
 
@@ -179,25 +206,19 @@ module _ (a : Slots) (g h : GroupLists) (x : ℕ) (v : Ticket) (giver : IsVacant
 
   -- ---- other groups
 
-  off : (f l m : ℕ) → IsArena a f → is_on a f l x ≡ true → m ≢ l → is_on a f m x ≡ false
-  off f l m arena here ne = by (is_on a f m x) refl
-    where
-      by : (b : Bool) → is_on a f m x ≡ b → b ≡ false
-      by true e = absurd (ne (arena.apart m l x e here))
-      by false e = refl
-
   module _ (k : GroupLists) (from_giver : IsApart g k) (from_taker : IsApart h k) where
     same_now : IsSame k a now
     same_now = record {
       slots = omega (arith, touched.slots);
       count = omega (arith, touched.count);
       lists = λ l own. touched.left l (λ e. from_taker.apart l (subst (IsOwn h) (sym e) own_h) own)
-          ∙ without_absent x (slots_on a 0 l) (off 0 g.free l first on (λ e. from_giver.apart l (subst (IsOwn g) (sym e) (own_free g giver.numbered)) own));
+          ∙ without_absent x (slots_on a 0 l) (off a 0 x g.free l first on (λ e. from_giver.apart l (subst (IsOwn g) (sym e) (own_free g giver.numbered)) own));
       payloads = λ l y own here. payload_other a now x h.free v touched y (λ e. from_giver.apart l (subst (IsOwn g) (first.apart g.free l y (subst (λ z. is_on a 0 g.free z ≡ true) (sym e) on) here) (own_free g giver.numbered)) own);
-      names = record {
-        count = omega (arith, count_second);
-        lists = λ l from til. names_now l (λ e. from_taker.names l (omega (arith, low, e), omega (arith, e)) (from, til))
-            ∙ without_absent x (slots_on a 1 l) (off 1 g.unnamed l second (giver.names.placed x on) (λ e. from_giver.names l (omega (arith, giver.chains.unnamed, e), omega (arith, e)) (from, til)));
+      chains = record {
+        names = kept_beside 1 x g.unnamed h.unnamed k.names k.unnamed a now by_name second (giver.names.placed x on)
+            (λ l p q. (λ e. from_taker.names l (omega (arith, named, e), omega (arith, e)) (p, q), λ e. from_giver.names l (omega (arith, giver.chains.unnamed, e), omega (arith, e)) (p, q)));
+        contexts = kept_beside 2 x g.outside h.outside k.contexts k.outside a now by_context third (giver.contexts.placed x on)
+            (λ l p q. (λ e. from_taker.contexts l (omega (arith, inside, e), omega (arith, e)) (p, q), λ e. from_giver.contexts l (omega (arith, giver.chains.outside, e), omega (arith, e)) (p, q)));
       };
     }
 

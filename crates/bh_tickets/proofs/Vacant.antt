@@ -7,7 +7,7 @@ use Rattle.bh_base.specs.declared.ticket.Ticket.{Ticket}
 use Rattle.bh_base.specs.Tickets.{is_queued}
 use Rattle.bh_slot_arena.specs.Slots.{slots_on}
 use Rattle.bh_cache.specs.declared.lists.GroupLists.{GroupLists}
-use Rattle.bh_cache.specs.Chains.{AreOn, list_by_name}
+use Rattle.bh_cache.specs.Chains.{AreOn, list_by_context, list_by_name}
 use Rattle.bh_cache.specs.Listed.{listed, put_in}
 use Rattle.bh_cache.specs.Slots.{Slots, has, is_live, is_on, is_owned, ticket_at, has_one, one, count_below, IsArena, InOrder, Once}
 use Rattle.bh_cache.proofs.Counts.{count_none, count_point}
@@ -72,6 +72,13 @@ nothing_slotted : (at : ℕ → Option Ticket) (n : ℕ) → ((x : ℕ) → at x
 nothing_slotted at zero none = refl
 nothing_slotted at (suc n) none = ap (λ o. slot_in n o (slotted at n)) (none n) ∙ nothing_slotted at n none
 
+-- where no slot is free, and the lists of a family are empty, they are as for a group without tickets
+pub none_free : (f first last : ℕ) (a : Slots) (g : GroupLists) → slots_on a 0 g.free ≡ [] → ((l : ℕ) → first ≤ l → l ≤ last → slots_on a f l ≡ []) → AreFreeOn f first last a g
+none_free f first last a g none empty = record {
+  placed = λ x on. absurd (not_true (ap (has x) none) on);
+  owned = λ l x low high on. absurd (not_true (ap (has x) (empty l low high)) on);
+}
+
 -- ---- what is known of a group of which no slot is taken
 
 module _ (a : Slots) (s : GroupSlots) (arena : IsArena a 0) (group : IsGroupSlots a s) (none : s.slots.taken ≡ 0) where
@@ -102,6 +109,7 @@ module _ (a : Slots) (s : GroupSlots) (arena : IsArena a 0) (group : IsGroupSlot
     chains = group.chained.lists;
     live = not_live;
     names = free_on 1 s.lists.names s.lists.unnamed (list_by_name s.lists) refl group.chained.names;
+    contexts = free_on 2 s.lists.contexts s.lists.outside (list_by_context s.lists) refl group.chained.contexts;
   }
 
   -- and has as many slots as lie on the list of free ones
@@ -166,6 +174,7 @@ module _ (a : Slots) (g : GroupLists) (vacant : IsVacant a g) where
     chained = record {
       lists = vacant.chains;
       names = chains_on 1 g.names g.unnamed (list_by_name g) refl vacant.names;
+      contexts = chains_on 2 g.contexts g.outside (list_by_context g) refl vacant.contexts;
     };
     arranged = record {
       distinct = λ x y t u e f k. absurd (no_ticket x t e);

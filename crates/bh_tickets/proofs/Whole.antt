@@ -26,9 +26,9 @@ use Rattle.bh_tickets.proofs.Puts.{owned_if, within_slots, held_at}
 use Rattle.bh_tickets.proofs.Adds.{any_is, live_within}
 use Rattle.bh_tickets.specs.declared.names.NameLists.{NameLists}
 use Rattle.bh_tickets.specs.Names.{AreLeft}
-use Rattle.bh_tickets.specs.Same.{KeepsOwn}
-use Rattle.bh_tickets.proofs.Chained.{names_apart}
-use Rattle.bh_tickets.proofs.NamesLeft.{HadLists, apart_lists, left_same, lists_of}
+use Rattle.bh_tickets.specs.Same.{KeepsNames}
+use Rattle.bh_tickets.proofs.Chained.{beside_kept}
+use Rattle.bh_tickets.proofs.NamesLeft.{HadLists, left_same}
 
 -- a group's part is at the number where it was set
 pub set_same : (ss : List GroupSlots) (i : ℕ) (x : GroupSlots) → i < length ss → slice_get (set ss i x) i ≡ Some x
@@ -136,8 +136,8 @@ groups_in {spare = Some p} whole = record {
 left_kept : (a b : Slots) (qs : List GroupSlots) (ns : List NameLists) (i : ℕ) (s r : GroupSlots) → AreLeft a qs ns → slice_get qs i ≡ Some s → IsGroupChange a s b r → AreLeft b (set qs i r) ns
 left_kept a b qs ns i s r left is change = left_same a b qs (set qs i r) ns left keeps had
   where
-    keeps : (j : ℕ) (n : NameLists) → slice_get ns j ≡ Some n → KeepsOwn 1 n.names n.unnamed a b
-    keeps j n e = names_apart s.lists (lists_of n) a b change.chains (apart_lists s.lists n (left.beside j i n s e is))
+    keeps : (j : ℕ) (n : NameLists) → slice_get ns j ≡ Some n → KeepsNames n a b
+    keeps j n e = beside_kept s.lists n a b change.chains (left.beside j i n s e is)
 
     had : (j : ℕ) (k : GroupSlots) → slice_get (set qs i r) j ≡ Some k → HadLists qs k
     had j k e = elim (cases_eq j i) [

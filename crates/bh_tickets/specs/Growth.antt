@@ -5,43 +5,48 @@ use Rattle.bh_slot_arena.specs.Slots.{lists_in, with_new_slots}
 use Rattle.bh_cache.specs.declared.lists.GroupLists.{GroupLists}
 use Rattle.bh_cache.specs.Slots.{Slots, IsArena}
 
--- a group's lists, in each family from a number on, with so many chains by cache name
-abbrev pub lists_from : ℕ → ℕ → ℕ → GroupLists
-lists_from chains n k = record {
+-- a group's lists, in each family from a number on, with so many chains by cache name and as many by request context
+abbrev pub lists_from : ℕ → ℕ → ℕ → ℕ → GroupLists
+lists_from chains n k m = record {
   free = n;
   queued = n + 1;
   running = n + 2;
   settled = n + 3;
   names = k;
   unnamed = k + chains;
+  contexts = m;
+  outside = m + chains;
 }
 
--- how many chains by cache name a group with so many slots has
+-- how many chains of each family a group with so many slots has
 abbrev pub chains_for : ℕ → ℕ
 chains_for slots = if nat_lt slots 256 then 16 else (if nat_lt slots 1024 then 64 else (if nat_lt slots 4096 then 256 else 1024))
 
 -- so many empty lists more in each family, and all else is as before
-pub record HasNewLists (n k : ℕ) (a b : Slots) : Type 0 where
+pub record HasNewLists (n k m : ℕ) (a b : Slots) : Type 0 where
   pub limit : b.limit ≡ a.limit
   pub payloads : b.payloads ≡ a.payloads
   pub families : length b.families ≡ length a.families
   pub first : lists_in b 0 ≡ lists_in a 0 ++ replicate n []
   pub second : lists_in b 1 ≡ lists_in a 1 ++ replicate k []
+  pub third : lists_in b 2 ≡ lists_in a 2 ++ replicate m []
 
 -- some empty lists more, and all else is as before
 pub record HasMoreLists (a b : Slots) : Type 0 where
   pub first : ℕ
   pub second : ℕ
-  pub lists : HasNewLists first second a b
+  pub third : ℕ
+  pub lists : HasNewLists first second third a b
 
 -- the lists of free slots are there, and so many slots more are within the limit
 pub record IsReadyFor (g : GroupLists) (count : ℕ) (a : Slots) : Type 0 where
   pub first : g.free < length (lists_in a 0)
   pub second : g.unnamed < length (lists_in a 1)
+  pub third : g.outside < length (lists_in a 2)
   pub within : length a.payloads + count ≤ a.limit
 
 -- so many slots more, on the lists of free slots
 pub record IsGrown (g : GroupLists) (count : ℕ) (a b : Slots) : Type 0 where
   pub blank : Ticket
-  pub is : b ≡ with_new_slots count (g.free ∷ g.unnamed ∷ []) blank a
+  pub is : b ≡ with_new_slots count (g.free ∷ g.unnamed ∷ g.outside ∷ []) blank a
   pub arena : IsArena b 0

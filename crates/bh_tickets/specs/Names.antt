@@ -1,4 +1,4 @@
--- Chains by cache name that no group has.
+-- Chains by cache name and by request context that no group has.
 use Rattle.std.specs.Prelude.{◌≡◌, ◌≢◌, ℕ, ◌+◌, ◌<◌, ◌≤◌, List, [], length, Some, slice_get, slice_set}
 use Rattle.bh_slot_arena.specs.Slots.{lists_in, slots_on}
 use Rattle.bh_cache.specs.declared.lists.GroupLists.{GroupLists}
@@ -7,35 +7,50 @@ use Rattle.bh_tickets.specs.declared.group_slots.GroupSlots.{GroupSlots}
 use Rattle.bh_tickets.specs.declared.names.NameLists.{NameLists}
 use Rattle.bh_tickets.specs.GroupSlots.{no_slot_taken}
 
--- the chains by cache name of a group
+-- the chains of a group
 abbrev pub names_of : GroupLists → NameLists
-names_of g = record { names = g.names; unnamed = g.unnamed }
+names_of g = record { names = g.names; unnamed = g.unnamed; contexts = g.contexts; outside = g.outside }
 
--- the lists of a group, with these chains by cache name in the place of its own
+-- the lists of a group, with these chains in the place of its own
 abbrev pub with_names : NameLists → GroupLists → GroupLists
-with_names n g = record g { names = n.names; unnamed = n.unnamed }
+with_names n g = record g { names = n.names; unnamed = n.unnamed; contexts = n.contexts; outside = n.outside }
 
 -- no number is both from the first to the last of the one and of the other
 abbrev pub AreApart : ℕ → ℕ → ℕ → ℕ → Type 0
 AreApart first last from to = (l : ℕ) → (first ≤ l) × (l ≤ last) → (from ≤ l) × (l ≤ to) → ⊥
 
--- the lists are there, and no slot lies on them
+-- they have no list in common, in either family
+pub record AreBeside (n m : NameLists) : Type 0 where
+  pub names : AreApart n.names n.unnamed m.names m.unnamed
+  pub contexts : AreApart n.contexts n.outside m.contexts m.outside
+
+-- the lists of a family from the first to the last are there, and no slot lies on them
+pub record AreEmptyOn (family first last : ℕ) (a : Slots) : Type 0 where
+  pub some : first < last
+  pub there : last < length (lists_in a family)
+  pub empty : (l : ℕ) → first ≤ l → l ≤ last → slots_on a family l ≡ []
+
+-- and so those of both families
 pub record AreEmpty (a : Slots) (n : NameLists) : Type 0 where
-  pub some : n.names < n.unnamed
-  pub there : n.unnamed < length (lists_in a 1)
-  pub empty : (l : ℕ) → n.names ≤ l → l ≤ n.unnamed → slots_on a 1 l ≡ []
+  pub names : AreEmptyOn 1 n.names n.unnamed a
+  pub contexts : AreEmptyOn 2 n.contexts n.outside a
 
 -- the chains are those of no group, and no two of them have a list in common
 pub record AreLeft (a : Slots) (ss : List GroupSlots) (ns : List NameLists) : Type 0 where
   pub each : (i : ℕ) (n : NameLists) → slice_get ns i ≡ Some n → AreEmpty a n
-  pub beside : (i j : ℕ) (n : NameLists) (s : GroupSlots) → slice_get ns i ≡ Some n → slice_get ss j ≡ Some s → AreApart s.lists.names s.lists.unnamed n.names n.unnamed
-  pub apart : (i j : ℕ) (n m : NameLists) → slice_get ns i ≡ Some n → slice_get ns j ≡ Some m → i ≢ j → AreApart n.names n.unnamed m.names m.unnamed
+  pub beside : (i j : ℕ) (n : NameLists) (s : GroupSlots) → slice_get ns i ≡ Some n → slice_get ss j ≡ Some s → AreBeside (names_of s.lists) n
+  pub apart : (i j : ℕ) (n m : NameLists) → slice_get ns i ≡ Some n → slice_get ns j ≡ Some m → i ≢ j → AreBeside n m
+
+-- they are so many in each family
+pub record AreMany (chains : ℕ) (n : NameLists) : Type 0 where
+  pub names : n.unnamed ≡ n.names + chains
+  pub contexts : n.outside ≡ n.contexts + chains
 
 -- those of the number are so many
 pub record HasNames (chains number : ℕ) (ns : List NameLists) : Type 0 where
   pub entry : NameLists
   pub here : slice_get ns number ≡ Some entry
-  pub many : entry.unnamed ≡ entry.names + chains
+  pub many : AreMany chains entry
 
 -- the group at the place, which has no slot now, and the chains of the number are exchanged
 pub record IsExchanged (place number : ℕ) (ss : List GroupSlots) (ns : List NameLists) (rs : List GroupSlots) (ms : List NameLists) : Type 0 where

@@ -7,7 +7,7 @@ use Rattle.bh_cache.specs.Slots.{Slots, is_live, is_on, IsApart}
 use Rattle.bh_tickets.specs.declared.group_slots.GroupSlots.{GroupSlots}
 use Rattle.bh_tickets.specs.declared.names.NameLists.{NameLists}
 use Rattle.bh_tickets.specs.GroupSlots.{IsNumbered}
-use Rattle.bh_tickets.specs.Names.{HasNames}
+use Rattle.bh_tickets.specs.Names.{AreMany, HasNames, names_of}
 use Rattle.bh_tickets.specs.Same.{IsSame}
 use Rattle.bh_tickets.specs.TicketsView.{group_at}
 use Rattle.bh_tickets.specs.Whole.{IsWhole, groups_of, rooms, view_of}
@@ -26,6 +26,7 @@ pub record IsVacant (a : Slots) (g : GroupLists) : Type 0 where
   pub chains : HasChains a g
   pub live : (x : ℕ) → is_live a g x ≡ false
   pub names : AreFreeOn 1 g.names g.unnamed a g
+  pub contexts : AreFreeOn 2 g.contexts g.outside a g
 
 -- how many slots of the group have no ticket
 abbrev pub free_slots : Slots → GroupLists → ℕ
@@ -96,12 +97,12 @@ pub record IsLeft (place : ℕ) (ss : List GroupSlots) : Type 0 where
   pub here : slice_get ss place ≡ Some entry
   pub empty : entry.slots.max ≡ 0
 
--- a group without slots is at the place, which no group had, with so many chains by cache name; all else is as it was
+-- a group without slots is at the place, which no group had, with so many chains of each family; all else is as it was
 pub record IsPlaced (chains place : ℕ) (a : Slots) (p : GroupSlots) (ss : List GroupSlots) (b : Slots) (rs : List GroupSlots) (ms : List NameLists) : Type 0 where
   pub entry : GroupSlots
   pub here : slice_get rs place ≡ Some entry
   pub empty : entry.slots.max ≡ 0
-  pub many : entry.lists.unnamed ≡ entry.lists.names + chains
+  pub many : AreMany chains (names_of entry.lists)
   pub whole : IsWhole b (Some p) rs ms
   pub vacant : (group_at (view_of a ss) place).room ≡ 0
   pub others : (g : ℕ) → g ≢ place → slice_get (groups_of b rs) g ≡ slice_get (groups_of a ss) g
@@ -117,7 +118,7 @@ pub record StaysWhole (a : Slots) (ss : List GroupSlots) (ns : List NameLists) (
   pub whole : (p : GroupSlots) → IsWhole a (Some p) ss ns → IsWhole b (Some p) rs ms
   pub view : (p : GroupSlots) → IsWhole a (Some p) ss ns → view_of b rs ≡ view_of a ss
 
--- whatever the spare slots and the groups are, so many chains by cache name are there that no group has, and contracts see of
+-- whatever the spare slots and the groups are, so many chains of each family are there that no group has, and contracts see of
 -- the groups what they saw
 pub record GetsNames (chains number : ℕ) (a : Slots) (ns : List NameLists) (b : Slots) (ms : List NameLists) : Type 0 where
   pub there : HasNames chains number ms

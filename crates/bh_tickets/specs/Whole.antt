@@ -49,7 +49,7 @@ with_spare None ss = ss
 with_spare (Some p) ss = p ∷ ss
 
 -- the spare slots and those of all groups: none of the spare ones has a ticket, and all are there once there is a group;
--- and the chains by cache name that no group has
+-- and the chains that no group has
 pub record IsWhole (a : Slots) (spare : Option GroupSlots) (ss : List GroupSlots) (ns : List NameLists) : Type 0 where
   pub all : AreGroupSlots a (with_spare spare ss)
   pub slots : length a.payloads ≡ rooms (with_spare spare ss)

@@ -121,7 +121,7 @@ fn note_move(group: &mut GroupSlots, serial: Serial, alone: bool, from: usize, t
 }
 
 /// Moves a slot to the end of a list, where it lies on another.
-fn move_on(arena: &mut Arena<Ticket, 2>, slot: u32, from: usize, to: usize)
+fn move_on(arena: &mut Arena<Ticket, 3>, slot: u32, from: usize, to: usize)
     requires slot { slot < length arena.old.payloads }
     requires list { to < length (lists_in arena.old 0) }
     ensures same { from ≡ to → arena.new ≡ arena.old }
@@ -136,7 +136,7 @@ fn move_on(arena: &mut Arena<Ticket, 2>, slot: u32, from: usize, to: usize)
 /// leave most of that as it is, so each gets code of its own.
 #[inline(always)]
 pub fn change(
-    arena: &mut Arena<Ticket, 2>,
+    arena: &mut Arena<Ticket, 3>,
     group: &mut GroupSlots,
     slot: u32,
     change: &TicketChange,
@@ -194,7 +194,7 @@ fn write_state(state: &TicketState, kept: &mut TicketState)
 
 /// A new ticket, in the slot of the group that was freed last, which is likely still in the processor's cache.
 #[inline(always)]
-pub fn add(arena: &mut Arena<Ticket, 2>, group: &mut GroupSlots, ticket: &Ticket)
+pub fn add(arena: &mut Arena<Ticket, 3>, group: &mut GroupSlots, ticket: &Ticket)
     requires arena { IsArena arena.old 0 }
     requires group { IsGroupSlots arena.old group.old }
     requires ticket { CanAdd group.old ticket.now }
@@ -210,6 +210,7 @@ pub fn add(arena: &mut Arena<Ticket, 2>, group: &mut GroupSlots, ticket: &Ticket
     let to = list_for(&group.lists, &ticket.state);
     let alone = arena.len_of(0, group.lists.running) == 0;
     arena.partition(1);
+    arena.partition(2);
     write(ticket, arena.get_mut(slot));
     arena.move_to_back(0, slot, to);
     place_new(arena, &group.lists, slot);
@@ -221,7 +222,7 @@ pub fn add(arena: &mut Arena<Ticket, 2>, group: &mut GroupSlots, ticket: &Ticket
 
 /// The ticket in the slot goes, where nobody needs it.
 pub fn release_at(
-    arena: &mut Arena<Ticket, 2>,
+    arena: &mut Arena<Ticket, 3>,
     group: &mut GroupSlots,
     table: &mut SerialTable,
     slot: u32,
@@ -241,12 +242,13 @@ pub fn release_at(
     count_out(group, was);
     group.slots.give();
     arena.partition(1);
+    arena.partition(2);
     arena.move_to_back(0, slot, group.lists.free);
     place_gone(arena, &group.lists, slot);
 }
 
 /// No ticket of the group is cached in the context any more; answers how many were.
-pub fn drop_cached(arena: &mut Arena<Ticket, 2>, group: &mut GroupSlots, context: u64) -> u64
+pub fn drop_cached(arena: &mut Arena<Ticket, 3>, group: &mut GroupSlots, context: u64) -> u64
     requires arena { IsArena arena.old 0 }
     requires group { IsGroupSlots arena.old group.old }
     ensures { IsUncached arena.old group.old context result arena.new group.new }
@@ -290,7 +292,7 @@ fn since_with(since: u64, ticket: &Ticket, due: &DueRule) -> u64
 /// The ticket in the slot has timed out, where it is due; answers how many did. One of the rule's command that is not due
 /// was not submitted before `since`.
 pub fn time_out_at(
-    arena: &mut Arena<Ticket, 2>,
+    arena: &mut Arena<Ticket, 3>,
     group: &mut GroupSlots,
     slot: u32,
     due: &DueRule,

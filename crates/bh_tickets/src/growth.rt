@@ -11,14 +11,14 @@ use bh_slot_arena::Arena;
 use std::alloc::{AllocError, Global};
 
 /// An arena without slots.
-pub fn new_arena(alloc: Global, limit: u32) -> Arena<Ticket, 2>
-    ensures { result ≡ record { limit = limit; payloads = []; families = [] ∷ [] ∷ [] } }
+pub fn new_arena(alloc: Global, limit: u32) -> Arena<Ticket, 3>
+    ensures { result ≡ record { limit = limit; payloads = []; families = [] ∷ [] ∷ [] ∷ [] } }
 {
     Arena::new(alloc, limit)
 }
 
-/// How many chains by cache name a group with so many slots has: from 256 slots on a quarter of the slots, or down to a
-/// sixteenth, in one of three sizes, so that the chains of retired groups fit others.
+/// How many chains a group with so many slots has by cache name, and as many by request context: from 256 slots on a
+/// quarter of the slots, or down to a sixteenth, in one of three sizes, so that the chains of retired groups fit others.
 pub fn chains_for(slots: u64) -> usize
     ensures is { result ≡ chains_for slots }
     ensures some { 0 < result }
@@ -32,18 +32,19 @@ pub fn chains_for(slots: u64) -> usize
     }
 }
 
-/// The lists of a new group, which are empty, with so many chains by cache name. In the second family slots without a
-/// ticket and those whose ticket is not cached have one list, so that most tickets come and go without a move there.
-/// Refused, the arena may have some empty lists more.
-pub fn add_lists(arena: &mut Arena<Ticket, 2>, chains: usize) -> Result<GroupLists, AllocError>
+/// The lists of a new group, which are empty, with so many chains by cache name and by request context. In either of these
+/// families slots without a ticket and those whose ticket is not cached have one list, so that most tickets come and go
+/// without a move there. Refused, the arena may have some empty lists more.
+pub fn add_lists(arena: &mut Arena<Ticket, 3>, chains: usize) -> Result<GroupLists, AllocError>
     requires { chains < 2 ^ 63 }
-    ensures lists { IfOk result (λ lists. lists ≡ lists_from chains (length (lists_in arena.old 0)) (length (lists_in arena.old 1))) }
-    ensures ok { OnOk result (HasNewLists 4 (chains + 1) arena.old arena.new) }
+    ensures lists { IfOk result (λ lists. lists ≡ lists_from chains (length (lists_in arena.old 0)) (length (lists_in arena.old 1)) (length (lists_in arena.old 2))) }
+    ensures ok { OnOk result (HasNewLists 4 (chains + 1) (chains + 1) arena.old arena.new) }
     ensures more { HasMoreLists arena.old arena.new }
 {
     arena.partition(0);
     let free = arena.add_lists(0, 4)?;
     let names = arena.add_lists(1, chains + 1)?;
+    let contexts = arena.add_lists(2, chains + 1)?;
     Ok(GroupLists {
         free,
         queued: free + 1,
@@ -51,12 +52,14 @@ pub fn add_lists(arena: &mut Arena<Ticket, 2>, chains: usize) -> Result<GroupLis
         settled: free + 3,
         names,
         unnamed: names + chains,
+        contexts,
+        outside: contexts + chains,
     })
 }
 
 /// So many free slots for a group. Refused, nothing has changed.
 pub fn add_slots(
-    arena: &mut Arena<Ticket, 2>,
+    arena: &mut Arena<Ticket, 3>,
     lists: &GroupLists,
     count: u32,
 ) -> Result<(), AllocError>
@@ -65,7 +68,11 @@ pub fn add_slots(
     ensures err { OnErr result (arena.new ≡ arena.old) }
 {
     if arena
-        .add_slots(count, [lists.free, lists.unnamed], blank_ticket())
+        .add_slots(
+            count,
+            [lists.free, lists.unnamed, lists.outside],
+            blank_ticket(),
+        )
         .is_err()
     {
         return Err(AllocError);

@@ -1,7 +1,8 @@
-//! Chains by cache name that no group has at present.
+//! Chains by cache name and by request context that no group has at present.
 
-ghost use Rattle.std.specs.Prelude.{◌≡◌, ◌≤◌, ◌+◌, ◌<◌, ◌^◌, length, IfOk, IfSome, OnErr, Some, slice_get};
-ghost use Rattle.bh_tickets.specs.Names.{IsExchanged, HasNames, names_of, with_names};
+ghost use Rattle.std.specs.Prelude.{◌≡◌, ◌≤◌, ◌+◌, ◌<◌, ◌^◌, length, IfOk, IfSome, OnErr, Some, slice_get, true};
+ghost use Rattle.bh_tickets.specs.Growth.{HasMoreLists};
+ghost use Rattle.bh_tickets.specs.Names.{AreMany, HasNames, IsExchanged, names_of, with_names};
 ghost use Rattle.bh_tickets.specs.Spare.{GetsNames};
 
 use crate::group_slots::GroupSlots;
@@ -10,25 +11,27 @@ use bh_cache::GroupLists;
 use bh_slot_arena::Arena;
 use std::alloc::AllocError;
 
-/// Chains by cache name, without a slot on them: the lists of the second family from `names` up to `unnamed`, which is
-/// that of slots without a cached ticket.
+/// The chains of a group: by cache name the lists of the second family from `names` up to `unnamed`, by request context
+/// those of the third from `contexts` up to `outside`. The last of each family is that of slots without a cached ticket.
 #[derive(Clone, Copy, Debug)]
 pub struct NameLists {
     pub names: usize,
     pub unnamed: usize,
+    pub contexts: usize,
+    pub outside: usize,
 }
 
-/// The number of chains that no group has and that are so many. They are made where there are none. Refused, nothing has
-/// changed.
+/// The number of chains that no group has and that are so many in each family. They are made where there are none.
+/// Refused, the arena may have some empty lists more.
 pub fn ready_names(
-    arena: &mut Arena<Ticket, 2>,
+    arena: &mut Arena<Ticket, 3>,
     left: &mut Vec<NameLists>,
     chains: usize,
 ) -> Result<usize, AllocError>
     requires some { 0 < chains }
     requires few { chains < 2 ^ 63 }
     ensures ok { IfOk result (λ number. GetsNames chains number arena.old left.old.items arena.new left.new.items) }
-    ensures err { OnErr result ((arena.new ≡ arena.old) × (left.new.items ≡ left.old.items)) }
+    ensures err { OnErr result (HasMoreLists arena.old arena.new × (left.new.items ≡ left.old.items)) }
 {
     if let Some(number) = number_of(left, chains) {
         return Ok(number);
@@ -36,10 +39,13 @@ pub fn ready_names(
     left.reserve(1)?;
     arena.partition(0);
     let names = arena.add_lists(1, chains + 1)?;
+    let contexts = arena.add_lists(2, chains + 1)?;
     let number = left.len();
     left.push_reserved(NameLists {
         names,
         unnamed: names + chains,
+        contexts,
+        outside: contexts + chains,
     });
     Ok(number)
 }
@@ -50,11 +56,20 @@ fn number_of(left: &[NameLists], chains: usize) -> Option<usize>
     ensures { IfSome result (λ number. HasNames chains number left.now) }
 {
     for (number, lists) in left.iter().enumerate() {
-        if lists.unnamed.saturating_sub(lists.names) == chains {
+        if are_many(lists, chains) {
             return Some(number);
         }
     }
     None
+}
+
+/// Whether there are so many chains in each family.
+pub fn are_many(lists: &NameLists, chains: usize) -> bool
+    requires { 0 < chains }
+    ensures { result ≡ true → AreMany chains lists.now }
+{
+    lists.unnamed.saturating_sub(lists.names) == chains
+        && lists.outside.saturating_sub(lists.contexts) == chains
 }
 
 /// The group at the place, which has no slot, gets the chains of the number, and its own are left to others.
@@ -74,22 +89,26 @@ pub fn exchange(
     groups[place] = GroupSlots::new(with_names(&was, &names), 0);
 }
 
-/// The chains by cache name of a group.
-fn names_of(lists: &GroupLists) -> NameLists
+/// The chains of a group.
+pub fn names_of(lists: &GroupLists) -> NameLists
     ensures { result ≡ names_of lists.now }
 {
     NameLists {
         names: lists.names,
         unnamed: lists.unnamed,
+        contexts: lists.contexts,
+        outside: lists.outside,
     }
 }
 
-/// The lists of a group, with these chains by cache name in the place of its own.
+/// The lists of a group, with these chains in the place of its own.
 fn with_names(lists: &GroupLists, names: &NameLists) -> GroupLists
     ensures { result ≡ with_names names.now lists.now }
 {
     let mut now = *lists;
     now.names = names.names;
     now.unnamed = names.unnamed;
+    now.contexts = names.contexts;
+    now.outside = names.outside;
     now
 }

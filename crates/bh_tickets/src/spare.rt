@@ -11,17 +11,17 @@ ghost use Rattle.bh_tickets.specs.Spare.{AreSpare, GetsPlace, HasRoomBeside, IsG
 
 use crate::group_slots::GroupSlots;
 use crate::growth::{add_lists, add_slots, blank_ticket, chains_for};
-use crate::names::{NameLists, exchange, ready_names};
+use crate::names::{NameLists, are_many, exchange, names_of, ready_names};
 use bh_base::Ticket;
 use bh_cache::{GroupLists, place_free};
 use bh_slot_arena::Arena;
 use std::alloc::AllocError;
 
-/// The chains by cache name among the lists of spare slots, on which no ticket ever lies.
+/// The chains of each family among the lists of spare slots, on which no ticket ever lies.
 const SPARE_CHAINS: usize = 16;
 
 /// What a group keeps that has no ticket.
-pub fn vacant(arena: &Arena<Ticket, 2>, lists: &GroupLists) -> GroupSlots
+pub fn vacant(arena: &Arena<Ticket, 3>, lists: &GroupLists) -> GroupSlots
     requires { lists.now.free < length (lists_in arena.now 0) }
     ensures { result ≡ no_slot_taken lists.now (free_slots arena.now lists.now) }
 {
@@ -31,7 +31,7 @@ pub fn vacant(arena: &Arena<Ticket, 2>, lists: &GroupLists) -> GroupSlots
 /// The lists of spare slots, of which there are so many then at least: what is missing is new. Refused, the arena may
 /// have some empty lists more.
 pub fn ready_spare(
-    arena: &mut Arena<Ticket, 2>,
+    arena: &mut Arena<Ticket, 3>,
     spare: &mut Option<GroupSlots>,
     slots: u64,
 ) -> Result<GroupLists, AllocError>
@@ -51,7 +51,7 @@ pub fn ready_spare(
 
 /// The lists of spare slots, which are made where there are none. Refused, the arena may have some empty lists more.
 fn spare_lists(
-    arena: &mut Arena<Ticket, 2>,
+    arena: &mut Arena<Ticket, 3>,
     spare: &mut Option<GroupSlots>,
 ) -> Result<GroupLists, AllocError>
     ensures keeps { KeepsGroups arena.old spare.old arena.new spare.new }
@@ -68,7 +68,7 @@ fn spare_lists(
 /// A place for a group, with lists for so many slots and no slot: the first from the place `from` on that a retired group
 /// left, else a new one behind the others. Refused, the arena may have some empty lists more.
 pub fn take_place(
-    arena: &mut Arena<Ticket, 2>,
+    arena: &mut Arena<Ticket, 3>,
     groups: &mut Vec<GroupSlots>,
     names: &mut Vec<NameLists>,
     from: usize,
@@ -84,10 +84,11 @@ pub fn take_place(
     }
 }
 
-/// The place that a retired group left, with so many chains by cache name: where its own are not, they are left to others,
-/// so that no group pays at its end for the many chains of one before it. Refused, nothing has changed.
+/// The place that a retired group left, with so many chains of each family: where its own are not, they are left to others,
+/// so that no group pays at its end for the many chains of one before it. Refused, the arena may have some empty lists
+/// more.
 fn fit_place(
-    arena: &mut Arena<Ticket, 2>,
+    arena: &mut Arena<Ticket, 3>,
     groups: &mut Vec<GroupSlots>,
     names: &mut Vec<NameLists>,
     place: usize,
@@ -100,7 +101,7 @@ fn fit_place(
     ensures err { OnErr result (StaysWhole arena.old groups.old.items names.old.items arena.new groups.new.items names.new.items) }
 {
     let lists = groups[place].lists;
-    if lists.unnamed.saturating_sub(lists.names) == chains {
+    if are_many(&names_of(&lists), chains) {
         return Ok(place);
     }
     let number = ready_names(arena, names, chains)?;
@@ -108,9 +109,9 @@ fn fit_place(
     Ok(place)
 }
 
-/// A new place behind the others, with so many chains by cache name. Refused, the arena may have some empty lists more.
+/// A new place behind the others, with so many chains of each family. Refused, the arena may have some empty lists more.
 fn new_place(
-    arena: &mut Arena<Ticket, 2>,
+    arena: &mut Arena<Ticket, 3>,
     groups: &mut Vec<GroupSlots>,
     chains: usize,
 ) -> Result<usize, AllocError>
@@ -147,7 +148,7 @@ fn has_no_slots(group: &GroupSlots) -> bool
 }
 
 /// So many slots go from one group to another, neither of which has a ticket.
-pub fn take_slots(arena: &mut Arena<Ticket, 2>, from: &GroupLists, to: &GroupLists, count: u64)
+pub fn take_slots(arena: &mut Arena<Ticket, 3>, from: &GroupLists, to: &GroupLists, count: u64)
     requires giver { IsVacant arena.old from.now }
     requires taker { IsVacant arena.old to.now }
     requires apart { IsApart from.now to.now }
@@ -160,7 +161,7 @@ pub fn take_slots(arena: &mut Arena<Ticket, 2>, from: &GroupLists, to: &GroupLis
 }
 
 /// A slot goes from one group to another, neither of which has a ticket. Nothing of the tickets that it had is left.
-fn take_slot(arena: &mut Arena<Ticket, 2>, from: &GroupLists, to: &GroupLists)
+fn take_slot(arena: &mut Arena<Ticket, 3>, from: &GroupLists, to: &GroupLists)
     requires giver { IsVacant arena.old from.now }
     requires taker { IsVacant arena.old to.now }
     requires apart { IsApart from.now to.now }
@@ -172,6 +173,7 @@ fn take_slot(arena: &mut Arena<Ticket, 2>, from: &GroupLists, to: &GroupLists)
     };
     arena.partition(0);
     arena.partition(1);
+    arena.partition(2);
     blank(arena, slot);
     arena.move_to_back(0, slot, to.free);
     place_free(arena, to, slot);
@@ -179,7 +181,7 @@ fn take_slot(arena: &mut Arena<Ticket, 2>, from: &GroupLists, to: &GroupLists)
 
 /// Nothing is left of the tickets that the slot had. One that had none since it was blank is not written again: it has the
 /// serial 0, which no ticket has.
-fn blank(arena: &mut Arena<Ticket, 2>, slot: u32)
+fn blank(arena: &mut Arena<Ticket, 3>, slot: u32)
     requires { slot < length arena.old.payloads }
     ensures { (t : Ticket) × (arena.new ≡ with_payload slot t arena.old) × (t.serial ≡ 0) }
 {
@@ -189,7 +191,7 @@ fn blank(arena: &mut Arena<Ticket, 2>, slot: u32)
 }
 
 /// All slots of a group go to one without tickets, and have none then. It takes no memory.
-pub fn give_slots(arena: &mut Arena<Ticket, 2>, group: &GroupSlots, to: &GroupLists)
+pub fn give_slots(arena: &mut Arena<Ticket, 3>, group: &GroupSlots, to: &GroupLists)
     requires giver { IsGroupSlots arena.old group.now }
     requires taker { IsVacant arena.old to.now }
     requires apart { IsApart group.now.lists to.now }
@@ -198,15 +200,13 @@ pub fn give_slots(arena: &mut Arena<Ticket, 2>, group: &GroupSlots, to: &GroupLi
     let from = group.lists;
     is_number(from.settled);
     is_number(from.unnamed);
+    is_number(from.outside);
+    let by_name = from.unnamed - from.names + 1;
+    let by_context = from.outside - from.contexts + 1;
     arena.partition(0);
     gather(arena, 0, from.free, 4, to.free);
-    gather(
-        arena,
-        1,
-        from.names,
-        from.unnamed - from.names + 1,
-        to.unnamed,
-    );
+    gather(arena, 1, from.names, by_name, to.unnamed);
+    gather(arena, 2, from.contexts, by_context, to.outside);
     arena.partition(0);
 }
 
@@ -218,8 +218,8 @@ fn is_number(number: usize)
 }
 
 /// What is on so many lists, from the first on, goes to the end of another.
-fn gather(arena: &mut Arena<Ticket, 2>, family: usize, first: usize, count: usize, to: usize)
-    requires family { family < 2 }
+fn gather(arena: &mut Arena<Ticket, 3>, family: usize, first: usize, count: usize, to: usize)
+    requires family { family < 3 }
     requires there { first + count ≤ length (lists_in arena.old family) }
     requires few { first + count ≤ 2 ^ 64 }
     requires to { to < length (lists_in arena.old family) }

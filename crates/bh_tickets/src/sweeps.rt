@@ -17,7 +17,7 @@ use bh_slot_arena::Arena;
 
 /// Each of the group's tickets that is due has timed out. How many did. It takes no walk where what is counted of the
 /// command shows that none is due.
-pub fn time_out(arena: &mut Arena<Ticket, 2>, group: &mut GroupSlots, due: &DueRule) -> u64
+pub fn time_out(arena: &mut Arena<Ticket, 3>, group: &mut GroupSlots, due: &DueRule) -> u64
     requires arena { IsArena arena.old 0 }
     requires group { IsGroupSlots arena.old group.old }
     ensures { IsTimedOut arena.old group.old due.now result arena.new group.new }
@@ -30,7 +30,7 @@ pub fn time_out(arena: &mut Arena<Ticket, 2>, group: &mut GroupSlots, due: &DueR
 
 /// Each of the group's tickets that is due has timed out, by a walk along those that are queued or running. How many did.
 /// The walk finds anew since when tickets of the command are queued or running.
-fn time_out_open(arena: &mut Arena<Ticket, 2>, group: &mut GroupSlots, due: &DueRule) -> u64
+fn time_out_open(arena: &mut Arena<Ticket, 3>, group: &mut GroupSlots, due: &DueRule) -> u64
     requires arena { IsArena arena.old 0 }
     requires group { IsGroupSlots arena.old group.old }
     requires known { due.now.command < 16 }
@@ -48,7 +48,7 @@ fn time_out_open(arena: &mut Arena<Ticket, 2>, group: &mut GroupSlots, due: &Due
 }
 
 /// Each of the group's tickets that nobody needs goes. It takes no walk where few were noted.
-pub fn release(arena: &mut Arena<Ticket, 2>, group: &mut GroupSlots, table: &mut SerialTable)
+pub fn release(arena: &mut Arena<Ticket, 3>, group: &mut GroupSlots, table: &mut SerialTable)
     requires arena { IsArena arena.old 0 }
     requires group { IsGroupSlots arena.old group.old }
     ensures released { IsReleased arena.old group.old arena.new group.new }
@@ -75,7 +75,7 @@ fn is_nothing(notes: &Noted) -> bool
 
 /// The tickets go that were noted, where nobody needs them.
 fn release_few(
-    arena: &mut Arena<Ticket, 2>,
+    arena: &mut Arena<Ticket, 3>,
     group: &mut GroupSlots,
     table: &mut SerialTable,
     few: &FewSlots,
@@ -97,7 +97,7 @@ fn release_few(
 
 /// The ticket in the slot goes, where there is one of the group and nobody needs it. The slot may be any number.
 fn release_noted(
-    arena: &mut Arena<Ticket, 2>,
+    arena: &mut Arena<Ticket, 3>,
     group: &mut GroupSlots,
     table: &mut SerialTable,
     slot: u32,
@@ -125,7 +125,7 @@ fn is_live_list(lists: &GroupLists, list: usize) -> bool
 }
 
 /// Each of the group's tickets that nobody needs goes, by a walk along all its lists.
-fn release_all(arena: &mut Arena<Ticket, 2>, group: &mut GroupSlots, table: &mut SerialTable)
+fn release_all(arena: &mut Arena<Ticket, 3>, group: &mut GroupSlots, table: &mut SerialTable)
     requires arena { IsArena arena.old 0 }
     requires group { IsGroupSlots arena.old group.old }
     requires many { group.old.needless ≡ Noted.Many }
@@ -143,7 +143,7 @@ fn release_all(arena: &mut Arena<Ticket, 2>, group: &mut GroupSlots, table: &mut
 /// were not submitted before `since`. Where the tickets lie in the order of their submits, the walk ends at the first that
 /// was submitted too late, of whatever command.
 fn time_out_on(
-    arena: &mut Arena<Ticket, 2>,
+    arena: &mut Arena<Ticket, 3>,
     group: &mut GroupSlots,
     list: usize,
     rising: bool,
@@ -179,7 +179,7 @@ fn time_out_on(
 
 /// The tickets of a list go, where nobody needs them.
 fn release_on(
-    arena: &mut Arena<Ticket, 2>,
+    arena: &mut Arena<Ticket, 3>,
     group: &mut GroupSlots,
     table: &mut SerialTable,
     list: usize,

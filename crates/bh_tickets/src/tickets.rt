@@ -29,13 +29,13 @@ use std::marker::Model;
 /// The tickets of all groups, by the numbers of the groups.
 #[derive(Drop)]
 pub struct Tickets {
-    arena: Arena<Ticket, 2>,
+    arena: Arena<Ticket, 3>,
     /// The slots of retired groups, as those of a group without tickets.
     spare: Option<GroupSlots>,
     groups: Vec<GroupSlots>,
     /// No place before it was left by a retired group, so that a registration need not look there.
     first_left: usize,
-    /// Chains by cache name that retired groups left, and that no group has.
+    /// Chains by cache name and by request context that retired groups left, and that no group has.
     names: Vec<NameLists>,
     /// Where the tickets of each group lie, by their serials.
     tables: Vec<SerialTable>,

@@ -13,7 +13,7 @@ use bh_base::Ticket;
 use bh_slot_arena::Arena;
 
 /// Whether a ticket of the list passes the test.
-fn any_on<F: Fn(&Ticket) -> bool>(arena: &Arena<Ticket, 2>, list: usize, test: F) -> bool
+fn any_on<F: Fn(&Ticket) -> bool>(arena: &Arena<Ticket, 3>, list: usize, test: F) -> bool
     requires list { list < length (lists_in arena.now 0) }
     requires test { F.IsAlwaysCallable test }
     ensures { (p : Ticket → Bool) → ((t : Ticket) (b : Bool) → FnReturnsAt F.Fn test t b → b ≡ p t) → result ≡ any_at p arena.now.payloads (slots_on arena.now 0 list) }
@@ -34,7 +34,7 @@ fn any_on<F: Fn(&Ticket) -> bool>(arena: &Arena<Ticket, 2>, list: usize, test: F
 
 /// Whether a ticket of the list is due to time out. Where the tickets lie in the order of their submits, the walk ends at
 /// the first that was submitted too late.
-pub fn any_due_on(arena: &Arena<Ticket, 2>, list: usize, rising: bool, due: &DueRule) -> bool
+pub fn any_due_on(arena: &Arena<Ticket, 3>, list: usize, rising: bool, due: &DueRule) -> bool
     requires list { list < length (lists_in arena.now 0) }
     requires rising { rising ≡ true → IsRising arena.now.payloads (slots_on arena.now 0 list) }
     ensures { result ≡ any_at (is_due_by due.now) arena.now.payloads (slots_on arena.now 0 list) }
@@ -58,7 +58,7 @@ pub fn any_due_on(arena: &Arena<Ticket, 2>, list: usize, rising: bool, due: &Due
 }
 
 /// Whether a ticket of the list is in use.
-pub fn any_used_on(arena: &Arena<Ticket, 2>, list: usize) -> bool
+pub fn any_used_on(arena: &Arena<Ticket, 3>, list: usize) -> bool
     requires { list < length (lists_in arena.now 0) }
     ensures { result ≡ any_at is_used arena.now.payloads (slots_on arena.now 0 list) }
 {

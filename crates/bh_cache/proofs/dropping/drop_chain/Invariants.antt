@@ -8,10 +8,10 @@ use Rattle.bh_cache.proofs.dropping.drop_chain.Given as goal
 
 abbrev pub invariant-loop : goal.invariant-loop
 invariant-loop l = record {
-  end : l.end ≡ length (slots_on l.initial.arena 1 l.chain);
-  here : l.counter ≤ length (slots_on l.initial.arena 1 l.chain);
-  ahead : l.ahead ≡ slice_get (slots_on l.initial.arena 1 l.chain) l.counter;
-  along : IsAlong (slots_on l.arena 1 l.chain) (slots_on l.initial.arena 1 l.chain) l.counter;
-  dropped : IsDroppedFrom l.context l.lists (take l.counter (slots_on l.initial.arena 1 l.chain)) l.initial.arena l.arena l.number;
-  noted : AreNoted l.context (λ x. has x (take l.counter (slots_on l.initial.arena 1 l.chain))) l.initial.arena l.initial.notes l.notes;
+  end : l.end ≡ length (slots_on l.initial.arena 2 l.chain);
+  here : l.counter ≤ length (slots_on l.initial.arena 2 l.chain);
+  ahead : l.ahead ≡ slice_get (slots_on l.initial.arena 2 l.chain) l.counter;
+  along : IsAlong (slots_on l.arena 2 l.chain) (slots_on l.initial.arena 2 l.chain) l.counter;
+  dropped : IsDroppedFrom l.context l.lists (take l.counter (slots_on l.initial.arena 2 l.chain)) l.initial.arena l.arena l.number;
+  noted : AreNoted l.context (λ x. has x (take l.counter (slots_on l.initial.arena 2 l.chain))) l.initial.arena l.initial.notes l.notes;
 }

@@ -1,5 +1,5 @@
 use Rattle.std.proofs.Common.{◌≡◌, ℕ, ◌+◌, ◌*◌, ◌%◌, ◌^◌, ◌<◌, List, [], length, get_or, drop, ap, sym, ◌∙◌, arith, add-one, drop-cons}
-use Rattle.bh_cache.specs.Names.{mixed, place_of_name, top_bits}
+use Rattle.bh_cache.specs.Names.{mixed, place_of_name, upper_half}
 use Rattle.bh_cache.proofs.Members.{drop_end}
 use Rattle.bh_cache.proofs.names.place_of_name.Goals as goal
 
@@ -13,7 +13,7 @@ unfolding place_of_name
 returns c =
     let e = c.loop-byte.invariant.items in
     let end : drop c.loop-byte.byte-index c.args.key.now ≡ [] = drop_end c.args.key.now c.loop-byte.byte-index (omega (arith, ap (λ (xs : List ℕ). length xs) e)) in
-    ap top_bits (sym (c.loop-byte.invariant.rest ∙ ap (mixed c.loop-byte.hash) end))
+    c.upper_half.ensures.half ∙ ap upper_half (sym (c.loop-byte.invariant.rest ∙ ap (mixed c.loop-byte.hash) end))
 
 pub loop-byte-preserved : goal.loop-byte-preserved
 loop-byte-preserved c =

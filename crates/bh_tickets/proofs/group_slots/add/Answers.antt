@@ -42,6 +42,7 @@ returns c =
     let counted = c.note_submit.ensures ∙ ap (with_submit c.args.ticket.now) c.count_in.ensures ∙ ap (λ (p : PermitCount). with_submit c.args.ticket.now (counted_in c.args.ticket.now (record c.args.group.now { slots = p }))) slots in
     add_from c.args.arena.now c.place_new.new.arena c.args.group.now c.in-Some.slot c.list_for-to.result c.args.ticket.now c.requires.arena c.requires.group (sym c.back.ensures ∙ c.in-Some.is) c.requires.ticket
     (arena_is c.args.arena.now 1 (omega (arith, c.partition.ensures.families)) c.partition.ensures.lists)
+    (arena_is c.args.arena.now 2 (omega (arith, c.partition.ensures.families)) c.partition-2.ensures.lists)
     c.list_for-to.ensures
     (placed_from c.args.arena.now (with_payload c.in-Some.slot c.write.new.kept c.args.arena.now) c.move_to_back.new.self c.place_new.new.arena c.args.group.now.lists c.in-Some.slot c.list_for-to.result c.args.ticket.now (c.requires.arena.within c.args.group.now.lists.free c.in-Some.slot (back_on c.in-Some.slot (slots_on c.args.arena.now 0 c.args.group.now.lists.free) (sym c.back.ensures ∙ c.in-Some.is))) (ap (λ (t : Ticket). with_payload c.in-Some.slot t c.args.arena.now) c.write.ensures) c.move_to_back.ensures.moved c.place_new.ensures) _ c.note_move.new.group.order.last_started c.note_move.new.group.order.in_turn
     (ap (λ (s : GroupSlots). record s { next = s.next + 1 }) c.note_move.ensures.rest ∙ ap (λ (s : GroupSlots). record s { next = s.next + 1; order = record s.order { last_started = c.note_move.new.group.order.last_started; in_turn = c.note_move.new.group.order.in_turn } }) counted)

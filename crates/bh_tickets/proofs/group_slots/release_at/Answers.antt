@@ -43,6 +43,7 @@ returns-clause-released c =
     let here = there_at c.args.arena.now c.args.group.now c.args.slot c.get-was.result.now c.requires.there c.get-was.ensures in
     gone_from c.args.arena.now c.place_gone.new.arena c.args.group.now c.args.slot c.get-was.result.now c.requires.arena c.requires.group c.requires.many here (sym c.is_kept.ensures ∙ c.if-is_kept.false)
     (arena_is c.args.arena.now 1 (omega (arith, c.partition.ensures.families)) c.partition.ensures.lists)
+    (arena_is c.args.arena.now 2 (omega (arith, c.partition.ensures.families)) c.partition-2.ensures.lists)
     (c.place_gone.ensures ∙ ap (λ (z : Slots). with_placed_where (is_named (slice_get z.payloads c.args.slot)) c.count_out.new.group.lists c.args.slot None z) c.move_to_back.ensures.moved
     ∙ ap (λ (o : Option Ticket). with_placed_where (is_named o) c.count_out.new.group.lists c.args.slot None (with_moved 0 c.args.slot c.count_out.new.group.lists.free c.args.arena.now)) (sym c.get-was.ensures)
     ∙ ap (λ (s : GroupSlots). with_placed_where (is_named (Some c.get-was.result.now)) s.lists c.args.slot None (with_moved 0 c.args.slot s.lists.free c.args.arena.now)) c.count_out.ensures) _

@@ -18,4 +18,5 @@ returns c =
     (taken_one a from to slot c.blank.ensures.0 c.requires.giver c.requires.taker c.requires.apart
     (arena_is a 0 (omega (arith, c.partition.ensures.families)) c.partition.ensures.lists)
     (arena_is a 1 (omega (arith, c.partition.ensures.families)) c.partition-2.ensures.lists)
+    (arena_is a 2 (omega (arith, c.partition.ensures.families)) c.partition-3.ensures.lists)
     (sym c.front.ensures ∙ c.in-Some.is))

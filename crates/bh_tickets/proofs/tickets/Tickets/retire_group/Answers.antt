@@ -7,7 +7,7 @@ use Rattle.bh_tickets.specs.declared.group_slots.GroupSlots.{GroupSlots}
 use Rattle.bh_tickets.specs.TicketsView.{TicketsView, no_tickets_in}
 use Rattle.bh_tickets.specs.Whole.{IsWhole, group_of, groups_of}
 use Rattle.bh_tickets.proofs.Tables.{own_table, table_lt, tables_left}
-use Rattle.bh_tickets.proofs.NewGroup.{apart_back}
+use Rattle.bh_tickets.proofs.Beside.{apart_back}
 use Rattle.bh_tickets.proofs.Rebuilt.{given_view, given_whole, spare_apart, spare_vacant, whole_group}
 use Rattle.bh_tickets.proofs.Whole.{part_is}
 use Rattle.bh_tickets.proofs.tickets.Tickets.retire_group.Goals as goal
