@@ -42,15 +42,20 @@ fn new_groups<R: Abort + AllocGlobal>(rt: &R) -> Core
     two_groups(rt.alloc(), first, second, u64::from(MOST_STEPS)).expect(rt, "memory")
 }
 
-/// A lender of the two groups, with an account or without one, that logs its steps.
-pub(crate) fn lender_of_two<R: Abort + AllocGlobal>(rt: &R, audited: bool) -> Lender {
+/// A book of the two groups, with an account or without one.
+pub(crate) fn book_of_two<R: Abort + AllocGlobal>(rt: &R, audited: bool) -> Book {
     let core = new_groups(rt);
     let audit = if audited {
         Some(u64::from(MOST_STEPS))
     } else {
         None
     };
-    let book = Book::new(rt.alloc(), core, audit).ok().expect(rt, "memory");
+    Book::new(rt.alloc(), core, audit).ok().expect(rt, "memory")
+}
+
+/// A lender of the two groups, with an account or without one, that logs its steps.
+pub(crate) fn lender_of_two<R: Abort + AllocGlobal>(rt: &R, audited: bool) -> Lender {
+    let book = book_of_two(rt, audited);
     let log = StepLog::new(rt.alloc(), MOST_STEPS).expect(rt, "memory");
     Lender::new(rt.alloc(), book, Some(log))
 }

@@ -11,3 +11,5 @@ mod random_accounts;
 mod returns;
 #[cfg(test)]
 mod samples;
+#[cfg(test)]
+mod shared_books;
