@@ -1,7 +1,9 @@
 //! One connection: what it reads and writes, and why it ends.
 
-ghost use Rattle.std.specs.Prelude.{◌≡◌, IfSome, IsErr};
+ghost use Rattle.std.specs.Prelude.{◌≡◌, IfErr, IfSome, IsErr};
 ghost use Rattle.std.specs.Io.{ReadsAtMost, WritesAtMost};
+ghost use Rattle.bh_lines.specs.declared.port_error.PortError.TheVariants as errors;
+ghost use Rattle.bh_serve.specs.declared.connection.ConnectionFault.TheVariants as faults;
 ghost use Rattle.bh_serve.specs.Idle.{end_of, fault_of_wait};
 
 use crate::acceptor::Acceptor;
@@ -66,8 +68,10 @@ fn fault_of_wait(in_vain: bool, told: bool) -> Option<ConnectionFault>
 }
 
 /// Makes a connection ready for `Incoming` and `Outgoing`: it is read from by waiting, and a write of it ends soon where
-/// there is no room.
-pub fn ready(stream: &TcpStream) -> Result<(), ConnectionFault> {
+/// there is no room. The error is `Port(Read)`, where the system refuses the limit of a write.
+pub fn ready(stream: &TcpStream) -> Result<(), ConnectionFault>
+    ensures { IfErr result (λ fault. fault ≡ faults.Port errors.Read) }
+{
     let _ = stream.set_nodelay(true);
     match stream.set_write_timeout(Some(Duration::from_millis(SOON))) {
         Ok(()) => Ok(()),

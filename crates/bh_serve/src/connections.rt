@@ -1,5 +1,8 @@
 //! The threads of connections: each accepts one connection after the other, in turn with the others, and answers it.
 
+ghost use Rattle.std.specs.Prelude.{◌≡◌, ◌⊎◌, IfErr};
+ghost use Rattle.bh_serve.specs.declared.serve.ServeError.TheVariants as errors;
+
 use crate::acceptor::Acceptor;
 use crate::connection::ConnectionFault;
 use crate::door::Door;
@@ -39,8 +42,10 @@ pub struct Connections<'e, R, L> {
 }
 
 impl<'e, R: Wait + Clock, L: OpenListener<Stream = TcpStream>> Connections<'e, R, L> {
-    /// Writes the line that says that connections are accepted.
-    pub fn announce<O: Write>(&self, output: &mut O) -> Result<(), ServeError> {
+    /// Writes the line that says that connections are accepted. The error is `Write`.
+    pub fn announce<O: Write>(&self, output: &mut O) -> Result<(), ServeError>
+        ensures { IfErr result (λ error. error ≡ errors.Write) }
+    {
         let door = self.door;
         match writeln!(output, "listening {door}") {
             Ok(()) => Ok(()),
@@ -122,20 +127,25 @@ impl<'e, R: Threads + Wait + Clock + Sync, L: OpenListener<Stream = TcpStream> +
     R,
     L,
 > {
-    /// Starts a thread for each connection that may be open at a time.
+    /// Starts a thread for each connection that may be open at a time, in the order of their numbers. The error is `Thread`
+    /// where one could not be started, and `Memory` where there was none to note one that was; those before go on.
     pub fn start<'s, A: Answering + Sync>(
         &'e self,
         scope: &'s Scope<'s, &'e ()>,
         threads: &mut Vec<JoinHandle<()>>,
         answering: &'e A,
-    ) -> Result<(), ServeError> {
+    ) -> Result<(), ServeError>
+        ensures { IfErr result (λ error. (error ≡ errors.Thread) ⊎ (error ≡ errors.Memory)) }
+    {
         for number in 0..self.acceptor.threads() as usize {
             self.acceptor.thread_begins(self.rt);
             let Ok(thread) = scope.spawn(move || self.serve(number, answering)) else {
                 self.acceptor.thread_ends(self.rt);
                 return Err(ServeError::Thread);
             };
-            threads.push(thread)?;
+            if threads.push(thread).is_err() {
+                return Err(ServeError::Memory);
+            }
         }
         Ok(())
     }
