@@ -30,6 +30,8 @@ use Rattle.bh_audit.specs.declared.asks.Said.TheVariants as said
 use Rattle.bh_audit.specs.declared.freed.Freed.{Freed}
 use Rattle.bh_audit.specs.declared.next.Next.{Next}
 use Rattle.bh_audit.specs.declared.next.Next.TheVariants as next
+use Rattle.bh_audit.specs.declared.next.Progress.{Progress}
+use Rattle.bh_audit.specs.declared.next.Progress.TheVariants as progress
 
 -- what a turn of the lock may change: the book, the stop mark, and the pass of whoever asks
 pub record Held : Type 0 where
@@ -109,6 +111,21 @@ pub record IsCollected (moments : ℕ → Type 0) (audited : Bool) (serial : ℕ
   pub was_stopped : reply ≡ replies.Pending → old.stopped ≡ true
   pub adds : AddsCollect moments audited old.pass serial reply new.pass
 
+-- a step was made that was not refused, and nobody came between it and a Collect of the serial, which met what it left
+pub record IsMadeAndCollected (moments : ℕ → Type 0) (audited : Bool) (step : Step) (serial : ℕ) (reply : Reply) (old new : Held) (freed : Freed) : Type 0 where
+  pub first : Reply
+  pub between : Held
+  pub made : IsMade audited step first old between freed
+  pub taken : is_refusal first ≡ false
+  pub collected : IsCollected moments audited serial reply between new freed
+
+-- one step was made, and a Collect of the serial behind it exactly where the step was not refused and the Collect had not
+-- to wait
+abbrev pub IsProgress : (ℕ → Type 0) → Bool → Step → ℕ → Progress → Reply → Held → Held → Freed → Type 0
+IsProgress moments audited step serial progress.Refused r old new freed = IsMade audited step r old new freed × (is_refusal r ≡ true)
+IsProgress moments audited step serial progress.Stepped r old new freed = IsMade audited step r old new freed × (is_refusal r ≡ false) × CallerWaits serial new
+IsProgress moments audited step serial progress.Collected r old new freed = IsMadeAndCollected moments audited step serial r old new freed
+
 -- an Expire of the pass's group was made, at a moment that is named, and so many tickets timed out; or nothing was done
 abbrev pub IsExpired : (ℕ → Type 0) → Bool → Option ℕ → Held → Held → Freed → Type 0
 IsExpired moments audited (Some number) old new freed =
@@ -152,6 +169,7 @@ pub record Wants (group : GroupId) (number : ℕ) (h : Held) : Type 0 where
 -- what a turn of the lock does where it does not wait, by what was asked for and what was said: that and no more
 abbrev pub Does : (ℕ → Type 0) → Bool → Ask → Held → Held → Reply → Said → Freed → Type 0
 Does moments audited (ask.Step step) old new r said.Done freed = IsMade audited step.now r old new freed
+Does moments audited (ask.StepAndCollect step serial) old new r (said.Progress progress) freed = IsProgress moments audited step.now serial progress r old new freed
 Does moments audited ask.Next old new r said.Done freed = IsStarted moments audited r old new freed
 Does moments audited ask.Next old new r said.Stopped freed = IsToldToStop old new
 Does moments audited (ask.Collect serial) old new r said.Done freed = IsCollected moments audited serial r old new freed
@@ -167,13 +185,14 @@ Does moments audited ask.Groups old new r (said.Count number) freed = IsUnchange
 Does moments audited (ask.Workers group) old new r (said.Count number) freed = IsUnchanged old new × Wants group number old
 Does moments audited _ old new r _ freed = ⊥
 
--- what was asked for may make a step, so an audited service wants a free receipt for it
-abbrev pub may_step : Ask → Bool
-may_step (ask.Step step) = true
-may_step ask.Next = true
-may_step (ask.Collect serial) = true
-may_step ask.Expire = true
-may_step _ = false
+-- the most steps that what was asked for makes, so an audited service wants as many free receipts
+abbrev pub most_steps : Ask → ℕ
+most_steps (ask.Step step) = 1
+most_steps (ask.StepAndCollect step serial) = 2
+most_steps ask.Next = 1
+most_steps (ask.Collect serial) = 1
+most_steps ask.Expire = 1
+most_steps _ = 0
 
 -- a group that is to be registered has properties in their ranges, and may do 1 to 2^40 steps
 abbrev pub IsAllowed : Ask → Type 0

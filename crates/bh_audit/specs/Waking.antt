@@ -31,6 +31,12 @@ pub record IsEverybody (freed : Freed) : Type 0 where
   pub workers : freed.workers ≡ notice.All
   pub callers : freed.callers ≡ callers.All
 
+-- whoever is notified by the one is notified by the other too
+pub record FreesToo (fewer more : Freed) : Type 0 where
+  pub worker : frees_one fewer.workers ≡ true → frees_one more.workers ≡ true
+  pub caller : (serial : ℕ) → frees_caller fewer.callers serial ≡ true → frees_caller more.callers serial ≡ true
+  pub everybody : IsEverybody fewer → IsEverybody more
+
 -- the callers whose wait a step of the operation can end, where the group is not worn after it
 abbrev pub frees_by : Op → FreedCallers
 frees_by (op.Finish serial body) = callers.Of serial

@@ -3,6 +3,7 @@
 ghost use Rattle.std.specs.Prelude.{◌≡◌};
 
 use crate::freed::Freed;
+use crate::next::Progress;
 use crate::pass::Pass;
 use bh_base::{GroupId, GroupProps, Serial, Step};
 use bh_core::{RegisterError, RetireError};
@@ -13,6 +14,8 @@ use std::alloc::Global;
 pub(crate) enum Ask<'a> {
     /// That this step is made.
     Step(&'a Step),
+    /// That this step is made and, where it was, a Collect of the serial, unless that has to wait.
+    StepAndCollect(&'a Step, Serial),
     /// What a worker is to do: it waits until there is something.
     Next,
     /// What the ticket of the serial was answered: it waits until there is an answer.
@@ -41,10 +44,12 @@ pub(crate) enum Ask<'a> {
     Workers(GroupId),
 }
 
-/// What is said to it. The reply to a step is written where the caller keeps it.
+/// What is said to it. The reply to the last step is written where the caller keeps it.
 #[derive(Clone, Copy)]
 pub(crate) enum Said {
     Done,
+    /// How far the step and the Collect behind it came.
+    Progress(Progress),
     /// To a worker: the service was stopped.
     Stopped,
     /// How many tickets timed out; None where none was due.

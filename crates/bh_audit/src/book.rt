@@ -246,7 +246,7 @@ impl Book {
 }
 
 /// Whether no step was made.
-fn is_refused(reply: &Reply) -> bool
+pub(crate) fn is_refused(reply: &Reply) -> bool
     ensures { result ≡ is_refusal reply.now }
 {
     matches!(reply, Reply::Worn | Reply::NoGroup | Reply::NoCommand)

@@ -1,7 +1,7 @@
 //! Whom a step lets go on, of those that wait in its group.
 
 ghost use Rattle.std.specs.Prelude.{◌≡◌, ◌≢◌, ℕ, ◌%◌, false, true};
-ghost use Rattle.bh_audit.specs.Waking.{IsEverybody, frees_by, frees_caller, frees_one, is_told_again};
+ghost use Rattle.bh_audit.specs.Waking.{FreesToo, IsEverybody, frees_by, frees_caller, frees_one, is_told_again};
 
 use crate::waiting::Waiting;
 use bh_base::{Op, Serial};
@@ -60,6 +60,22 @@ impl Freed {
         }
     }
 
+    /// These, and those too whom the next step of the same turn lets go on.
+    pub(crate) fn and(self, others: Freed) -> Freed
+        ensures these { FreesToo self result }
+        ensures others { FreesToo others result }
+    {
+        let Freed { workers, callers } = self;
+        let Freed {
+            workers: more_workers,
+            callers: more_callers,
+        } = others;
+        Freed {
+            workers: workers.and(more_workers),
+            callers: callers.and(more_callers),
+        }
+    }
+
     /// The same where the workers of several groups wait at one place: all of them are notified instead of one. That one
     /// may be of another group: it would wait again, and the notification would be lost.
     pub(crate) fn among_several_groups(self) -> Freed
@@ -91,7 +107,46 @@ impl Freed {
     }
 }
 
+impl Notice {
+    /// So many, and that many more: of one and one more, all.
+    fn and(self, more: Notice) -> Notice
+        ensures these { frees_one self ≡ true → frees_one result ≡ true }
+        ensures more { frees_one more ≡ true → frees_one result ≡ true }
+        ensures all { self ≡ Notice.All → result ≡ Notice.All }
+        ensures all_more { more ≡ Notice.All → result ≡ Notice.All }
+        ensures nobody { self ≡ Notice.Nobody → more ≡ Notice.Nobody → result ≡ Notice.Nobody }
+    {
+        match self {
+            Notice::Nobody => more,
+            Notice::One | Notice::All => match more {
+                Notice::Nobody => self,
+                Notice::One | Notice::All => Notice::All,
+            },
+        }
+    }
+}
+
 impl FreedCallers {
+    /// These callers, and those too: all, where they wait for two tickets.
+    fn and(self, more: FreedCallers) -> FreedCallers
+        ensures these { (serial : ℕ) → frees_caller self serial ≡ true → frees_caller result serial ≡ true }
+        ensures more { (serial : ℕ) → frees_caller more serial ≡ true → frees_caller result serial ≡ true }
+        ensures all { self ≡ FreedCallers.All → result ≡ FreedCallers.All }
+        ensures all_more { more ≡ FreedCallers.All → result ≡ FreedCallers.All }
+        ensures nobody { self ≡ FreedCallers.Nobody → more ≡ FreedCallers.Nobody → result ≡ FreedCallers.Nobody }
+    {
+        if self == more {
+            return self;
+        }
+        match self {
+            FreedCallers::Nobody => more,
+            FreedCallers::Of(_) | FreedCallers::All => match more {
+                FreedCallers::Nobody => self,
+                FreedCallers::Of(_) | FreedCallers::All => FreedCallers::All,
+            },
+        }
+    }
+
     /// The callers whose wait a step of the operation can end, where the group is not worn after it.
     pub(crate) fn after(op: &Op) -> FreedCallers
         ensures { result ≡ frees_by op.now }

@@ -1,11 +1,11 @@
 //! The lock, and the only two functions that reach what it guards.
 
-ghost use Rattle.std.specs.Prelude.{◌≡◌, ◌≢◌, ◌==◌, ◌<◌, Bool, Err, true};
+ghost use Rattle.std.specs.Prelude.{◌≡◌, ◌≢◌, ◌==◌, ◌≤◌, Bool, Err, true};
 ghost use Rattle.bh_audit.specs.declared.error.AuditError.TheVariants.{NotAudited};
 ghost use Rattle.bh_audit.specs.Accounts.{IsAccountOf};
 ghost use Rattle.bh_audit.specs.Books.{BookView};
 ghost use Rattle.bh_audit.specs.Finish.{FinishSays, OfReport};
-ghost use Rattle.bh_audit.specs.Turns.{Did, IsAllowed, may_step};
+ghost use Rattle.bh_audit.specs.Turns.{Did, IsAllowed, most_steps};
 
 use crate::account::audit;
 use crate::asks::{Answer, Ask};
@@ -71,7 +71,7 @@ impl<const A: u32> Guarded<A> {
         pass: &mut Pass,
         reply: &mut Reply,
     ) -> Answer
-        requires room { may_step ask.now ≡ true → (A == 1) ≡ true → 0 < pass.old.room }
+        requires room { (A == 1) ≡ true → most_steps ask.now ≤ pass.old.room }
         requires allowed { IsAllowed ask.now }
         ensures { Did C.moments (A == 1) ask.now pass.old pass.new reply.new result.said result.freed }
     {

@@ -19,6 +19,6 @@ pub use bh_journal::{AuditReport, Marks, Receipt};
 pub use book::Book;
 pub use clock::Clock;
 pub use error::AuditError;
-pub use next::{Next, PassError, StepError};
+pub use next::{Next, PassError, Progress, StepError};
 pub use pass::Pass;
 pub use shared::Shared;

@@ -1,6 +1,6 @@
 //! What the lock guards, and what a thread that has it does there.
 
-ghost use Rattle.std.specs.Prelude.{◌≡◌, ◌≢◌, ◌==◌, ◌<◌, ◌||◌, ℕ, Bool, IfSome, IsNone, OnSome, None, Some, true, false, is_some, length};
+ghost use Rattle.std.specs.Prelude.{◌≡◌, ◌≢◌, ◌==◌, ◌<◌, ◌≤◌, ◌||◌, ℕ, Bool, IfSome, IsNone, OnSome, None, Some, true, false, is_some, length};
 ghost use Rattle.bh_base.specs.declared.reply.Reply.{Reply};
 ghost use Rattle.bh_base.specs.declared.step.Op.TheVariants as op;
 ghost use Rattle.bh_base.specs.declared.step.Step.{Step};
@@ -16,12 +16,13 @@ ghost use Rattle.bh_audit.specs.Books.{IsAudited, IsWritten};
 ghost use Rattle.bh_audit.specs.Calls.{NeedsNoWait, is_due, workers_of};
 ghost use Rattle.bh_audit.specs.Waking.{IsEverybody, KeepsWakeUps, frees_by, frees_one, is_told_again};
 ghost use Rattle.bh_audit.specs.declared.asks.Ask.TheVariants as ask;
-ghost use Rattle.bh_audit.specs.Turns.{CallerWaits, Does, HasToWait, IsAllowed, IsMade, IsStarted, IsUnchanged, WorkerWaits, held, may_step};
+ghost use Rattle.bh_audit.specs.Turns.{CallerWaits, Does, HasToWait, IsAllowed, IsMade, IsProgress, IsStarted, IsUnchanged, WorkerWaits, held, most_steps};
 
 use crate::asks::{Answer, Ask, Said};
-use crate::book::Book;
+use crate::book::{Book, is_refused};
 use crate::clock::Clock;
 use crate::freed::{Freed, FreedCallers, Notice, is_told_again};
+use crate::next::Progress;
 use crate::pass::Pass;
 use bh_base::{GroupId, GroupProps, Moment, Op, Reply, Serial, Step, Strategy};
 use bh_journal::Receipt;
@@ -109,7 +110,7 @@ impl<const A: u32> Locked<A> {
         pass: &mut Pass,
         reply: &mut Reply,
     ) -> Option<Answer>
-        requires room { may_step ask.now ≡ true → (A == 1) ≡ true → 0 < pass.old.room }
+        requires room { (A == 1) ≡ true → most_steps ask.now ≤ pass.old.room }
         requires allowed { IsAllowed ask.now }
         ensures does { IfSome result (λ answer. Does C.moments (A == 1) ask.now (held self.old.book self.old.stopped pass.old) (held self.new.book self.new.stopped pass.new) reply.new answer.said answer.freed) }
         ensures waits { IsNone result → HasToWait ask.now (held self.old.book self.old.stopped pass.old) }
@@ -121,6 +122,11 @@ impl<const A: u32> Locked<A> {
                 said: Said::Done,
                 freed: self.step(pass, step, reply),
             }),
+            Ask::StepAndCollect(step, serial) => {
+                let (progress, freed) = self.step_and_collect(pass, step, *serial, clock, reply);
+                let said = Said::Progress(progress);
+                Some(Answer { said, freed })
+            }
             Ask::Next => self.try_next(pass, clock, reply),
             Ask::Collect(serial) => self.try_collect(pass, *serial, clock, reply),
             Ask::Expire => Some(self.expire(pass, clock)),
@@ -227,6 +233,32 @@ impl<const A: u32> Locked<A> {
             said: Said::Done,
             freed,
         })
+    }
+
+    /// Makes the step and, where it was not refused and a Collect of the serial has not to wait, that Collect too. The reply
+    /// is that to the last of them, and who goes on is told of both.
+    fn step_and_collect<C: Clock>(
+        &mut self,
+        pass: &mut Pass,
+        step: &Step,
+        serial: Serial,
+        clock: &C,
+        reply: &mut Reply,
+    ) -> (Progress, Freed)
+        requires { (A == 1) ≡ true → 2 ≤ pass.old.room }
+        ensures { IsProgress C.moments (A == 1) step.entry.now serial result.0 reply.new (held self.old.book self.old.stopped pass.old) (held self.new.book self.new.stopped pass.new) result.1 }
+    {
+        let freed = self.step(pass, step, reply);
+        if is_refused(reply) {
+            return (Progress::Refused, freed);
+        }
+        match self.try_collect(pass, serial, clock, reply) {
+            Some(Answer {
+                said: _,
+                freed: others,
+            }) => (Progress::Collected, freed.and(others)),
+            None => (Progress::Stepped, freed),
+        }
     }
 
     /// Makes an Expire where a ticket is due, and says how many timed out.

@@ -10,10 +10,10 @@ ghost use Rattle.bh_journal.specs.Passes.{Adds, PassView, blank};
 ghost use Rattle.bh_audit.specs.declared.error.AuditError.TheVariants.{NotAudited};
 ghost use Rattle.bh_audit.specs.declared.next.PassError.TheVariants.{Memory};
 ghost use Rattle.bh_audit.specs.declared.next.StepError.TheVariants.{OtherGroup, PassFull};
-ghost use Rattle.bh_audit.specs.Calls.{AddsCollect, AddsExpire, AddsNext, CanBeMissing};
+ghost use Rattle.bh_audit.specs.Calls.{AddsCollect, AddsExpire, AddsNext, AddsProgress, CanBeMissing};
 ghost use Rattle.bh_audit.specs.Finish.{FinishSays};
 ghost use Rattle.bh_audit.specs.Service.{is_audited};
-ghost use Rattle.bh_audit.specs.Turns.{Did, IsAllowed, may_step};
+ghost use Rattle.bh_audit.specs.Turns.{Did, IsAllowed, most_steps};
 ghost use Rattle.bh_audit.specs.declared.freed.Freed.{Freed};
 
 use crate::asks::{Answer, Ask, Said};
@@ -22,7 +22,7 @@ use crate::clock::{Clock, NoClock};
 use crate::error::AuditError;
 use crate::freed::Freed;
 use crate::guarded::Guarded;
-use crate::next::{Next, PassError, StepError, told_by};
+use crate::next::{Next, PassError, Progress, StepError, told_by};
 use crate::pass::Pass;
 use crate::waiting::{Place, Waiting, all_waiting};
 use bh_base::{GroupId, GroupProps, Reply, Serial, Step};
@@ -219,6 +219,50 @@ impl Shared {
         }
         self.ask(rt, group, &Ask::Step(step), &NoClock, pass, reply);
         Ok(())
+    }
+
+    /// Makes one step as `step_to` does and, where it was not refused, a Collect of the serial behind it as
+    /// `await_answer_to` does, both in one turn of the lock: nobody comes between them. It does not wait. Where the Collect
+    /// would have to, it is not made. The moment of the Collect is read under the lock.
+    ///
+    /// - `Refused`: the step was answered `Worn` or `NoGroup`, which set their marks, or `NoCommand`, which leaves the pass
+    ///   as it is. No receipt is added, and the reply is that to the step.
+    /// - `Stepped`: the receipt of the step is added alone, and the reply is that to the step.
+    /// - `Collected`: the receipt of the step is added, and behind it that of the Collect, or the mark of its refusal. The
+    ///   reply is that to the Collect; what was answered to the step is in its receipt alone.
+    ///
+    /// The errors are, in this order, `OtherGroup` where the step is of another group than the pass, and `PassFull`
+    /// where the service is audited and fewer than two receipts are free. Both come before any step: nothing has changed
+    /// then, and the reply that is there stays.
+    pub fn step_and_collect_to<R: Wait, C: Clock>(
+        &self,
+        rt: &R,
+        pass: &mut Pass,
+        step: &Step,
+        serial: Serial,
+        clock: &C,
+        reply: &mut Reply,
+    ) -> Result<Progress, StepError>
+        ensures adds { IfOk result (λ progress. AddsProgress C.moments self.now.audited pass.old step.entry.now serial progress reply.new pass.new) }
+        ensures group { OnOk result (step.entry.now.group ≡ pass.old.group) }
+        ensures room { OnOk result (self.now.audited ≡ true → 2 ≤ pass.old.room) }
+        ensures other { (result ≡ Err OtherGroup) ↔ (step.entry.now.group ≢ pass.old.group) }
+        ensures full { (result ≡ Err PassFull) ↔ ((step.entry.now.group ≡ pass.old.group) × (self.now.audited ≡ true) × (pass.old.room < 2)) }
+        ensures err { OnErr result (pass.new ≡ pass.old) }
+        ensures kept { OnErr result (reply.new ≡ reply.old) }
+    {
+        let group = pass.group();
+        if step.group != group {
+            return Err(StepError::OtherGroup);
+        }
+        if self.lacks_room(pass, 2) {
+            return Err(StepError::PassFull);
+        }
+        let ask = Ask::StepAndCollect(step, serial);
+        match self.ask(rt, group, &ask, clock, pass, reply) {
+            Said::Progress(progress) => Ok(progress),
+            _ => unreachable!(),
+        }
     }
 
     /// Waits until a worker of the pass's group has something to do, and makes the Start that says what: it waits
@@ -428,7 +472,7 @@ impl Shared {
         pass: &mut Pass,
         reply: &mut Reply,
     ) -> Said
-        requires room { may_step ask.now ≡ true → self.now.audited ≡ true → 0 < pass.old.room }
+        requires room { self.now.audited ≡ true → most_steps ask.now ≤ pass.old.room }
         requires allowed { IsAllowed ask.now }
         ensures { (freed : Freed) × Did C.moments self.now.audited ask.now pass.old pass.new reply.new result freed }
     {
@@ -447,7 +491,7 @@ impl Shared {
     /// Asks for what makes no step, with a pass that has no room for a receipt.
     #[inline(never)]
     fn look<R: Wait, C: Clock>(&self, rt: &R, group: GroupId, ask: &Ask, clock: &C) -> Said
-        requires step { may_step ask.now ≡ false }
+        requires steps { most_steps ask.now ≡ 0 }
         requires allowed { IsAllowed ask.now }
         ensures { (pass : PassView) × (pass' : PassView) × (reply : Reply) × (freed : Freed) × Did C.moments self.now.audited ask.now pass pass' reply result freed }
     {

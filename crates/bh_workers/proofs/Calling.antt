@@ -66,11 +66,11 @@ pub step_only : (moments : ℕ → Type 0) (a : Bool) (p q : PassView) (o : Op) 
 step_only moments a p q o answer result t marks = record { made = t.receipt ∷ []; gains = t.gains; marks = marks; is = (t.is, refl) }
 
 -- a step that was refused
-refused_worn : (a : Bool) (p q : PassView) → q ≡ marked_worn p → CallAdds a p (Err error.Worn) q (IsRefused (Err error.Worn))
+pub refused_worn : (a : Bool) (p q : PassView) → q ≡ marked_worn p → CallAdds a p (Err error.Worn) q (IsRefused (Err error.Worn))
 refused_worn a p q h = record { made = []; gains = none_by_worn a p q h; marks = ap (λ (x : PassView). x.marks) h; is = refl }
 
 -- and one of a group that is not registered
-refused_no_group : (a : Bool) (p q : PassView) → q ≡ marked_no_group p → CallAdds a p (Err error.NoGroup) q (IsRefused (Err error.NoGroup))
+pub refused_no_group : (a : Bool) (p q : PassView) → q ≡ marked_no_group p → CallAdds a p (Err error.NoGroup) q (IsRefused (Err error.NoGroup))
 refused_no_group a p q h = record { made = []; gains = none_by_no_group a p q h; marks = ap (λ (x : PassView). x.marks) h; is = refl }
 
 module _ (moments : ℕ → Type 0) where

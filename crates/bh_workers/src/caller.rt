@@ -3,12 +3,12 @@
 ghost use Rattle.std.specs.Prelude.{◌≡◌, ◌↔◌, ◌+◌, ◌<◌, ◌≤◌, true, Err};
 ghost use Rattle.bh_base.specs.declared.reply.CallError.TheVariants.{PassFull};
 ghost use Rattle.bh_workers.specs.Calls.{CallAdds, IsCall, IsFallenBack, IsRunInline, IsSettled, result_of};
-ghost use Rattle.bh_workers.specs.Collecting.{IsCollectMade};
+ghost use Rattle.bh_workers.specs.Collecting.{IsCollectMade, IsFallbackRun};
 
 use crate::dependency::Dependency;
 use crate::environment::Environment;
 use crate::worker::end_op;
-use bh_audit::{Clock, Pass, Shared};
+use bh_audit::{Clock, Pass, Progress, Shared};
 use bh_base::{Answer, CallError, Cause, Op, Reply, Request, Serial};
 use std::sync::Wait;
 
@@ -84,7 +84,7 @@ impl<'e, D: Dependency, C: Clock, R: Wait> Environment<'e, D, C, R> {
         }
     }
 
-    /// Runs the ticket, tells its end and waits for the answer.
+    /// Runs the ticket, tells its end and collects the answer in the same turn of the lock, or waits for it.
     fn run_inline(&self, pass: &mut Pass, serial: Serial, request: &Request, reply: &mut Reply)
         requires { self.now.shared.now.audited ≡ true → 4 ≤ pass.old.room }
         ensures { CallAdds self.now.shared.now.audited pass.old (result_of reply.new) pass.new (IsRunInline D.ends D.fallback_ends C.moments pass.old.group serial request.now (result_of reply.new)) }
@@ -92,10 +92,10 @@ impl<'e, D: Dependency, C: Clock, R: Wait> Environment<'e, D, C, R> {
         let end = self
             .dependency
             .run(pass.group(), request.command, &request.arg);
-        self.make_step(pass, &end_op(serial, end), reply);
-        match reply {
-            Reply::Worn | Reply::NoGroup => {}
-            _ => self.settle(pass, serial, request, reply),
+        match self.step_and_collect(pass, &end_op(serial, end), serial, reply) {
+            Progress::Refused => {}
+            Progress::Stepped => self.settle(pass, serial, request, reply),
+            Progress::Collected => self.fall_back_where_due(pass, serial, request, reply),
         }
     }
 
@@ -105,6 +105,20 @@ impl<'e, D: Dependency, C: Clock, R: Wait> Environment<'e, D, C, R> {
         ensures { CallAdds self.now.shared.now.audited pass.old (result_of reply.new) pass.new (IsSettled D.fallback_ends C.moments pass.old.group serial request.now (result_of reply.new)) }
     {
         self.collect(pass, serial, reply);
+        self.fall_back_where_due(pass, serial, request, reply);
+    }
+
+    /// Runs the fallback of the ticket where the reply to its Collect says so.
+    fn fall_back_where_due(
+        &self,
+        pass: &mut Pass,
+        serial: Serial,
+        request: &Request,
+        reply: &mut Reply,
+    )
+        requires { self.now.shared.now.audited ≡ true → 2 ≤ pass.old.room }
+        ensures { IsFallbackRun D.fallback_ends C.moments self.now.shared.now.audited pass.old serial request.now reply.old reply.new pass.new }
+    {
         match *reply {
             Reply::RunFallback(cause) => self.fall_back(pass, serial, cause, request, reply),
             _ => {}
@@ -127,10 +141,9 @@ impl<'e, D: Dependency, C: Clock, R: Wait> Environment<'e, D, C, R> {
         let end = self
             .dependency
             .fallback(pass.group(), request.command, cause, &request.arg);
-        self.make_step(pass, &Op::FallbackDone { serial, end }, reply);
-        match reply {
-            Reply::Worn | Reply::NoGroup => {}
-            _ => self.collect(pass, serial, reply),
+        match self.step_and_collect(pass, &Op::FallbackDone { serial, end }, serial, reply) {
+            Progress::Refused | Progress::Collected => {}
+            Progress::Stepped => self.collect(pass, serial, reply),
         }
     }
 

@@ -1,11 +1,23 @@
-use Rattle.bh_workers.specs.Calls.{result_of}
-use Rattle.bh_workers.proofs.Calling.{accepted_reply, fallback_end_known, falls_back}
+use Rattle.std.proofs.Common.{inl, inr}
+use Rattle.bh_workers.proofs.Progress.{fallback_collected, fallback_refused, fallback_stepped}
 use Rattle.bh_workers.proofs.environment.Environment.fall_back.Goals as goal
 
-pub returns-in_default : goal.returns-in_default
-returns-in_default g c =
-    let answer = c.make_step.new.reply in
-    falls_back g.D.Dependency.ends g.D.Dependency.fallback_ends g.C.Clock.moments c.args.self.now.shared.now.audited c.args.pass.now c.make_step.new.pass c.collect.new.pass c.group.result
-    c.args.serial c.args.cause c.args.request.now c.fallback-end.result answer (result_of c.collect.new.reply)
-    (accepted_reply answer c.in_default.not-Worn c.in_default.not-NoGroup (λ is. fallback_end_known c.args.serial c.fallback-end.result (c.make_step.ensures.missing is)))
-    c.group.ensures c.fallback-end.ensures.named c.make_step.ensures.adds c.collect.ensures.made.last
+pub returns-in-Refused : goal.returns-in-Refused
+returns-in-Refused g c =
+    let a = c.args.self.now.shared.now.audited in
+    let p = c.args.pass.now in
+    let q = c.step_and_collect.new.pass in
+    let adds = c.step_and_collect.ensures.adds in
+    elim c.in-Refused.is [
+      | inl is ↦
+          fallback_refused g.D.Dependency.ends g.D.Dependency.fallback_ends g.C.Clock.moments a p q c.args.serial c.args.cause c.args.request.now c.fallback-end.result c.step_and_collect.new.reply (rw is at adds)
+      | inr is ↦
+          fallback_collected g.D.Dependency.ends g.D.Dependency.fallback_ends g.C.Clock.moments a p q c.group.result c.args.serial c.args.cause c.args.request.now c.fallback-end.result c.step_and_collect.new.reply
+          c.group.ensures c.fallback-end.ensures.named (rw is at adds)
+    ]
+
+pub returns-in-Stepped : goal.returns-in-Stepped
+returns-in-Stepped g c =
+    fallback_stepped g.D.Dependency.ends g.D.Dependency.fallback_ends g.C.Clock.moments c.args.self.now.shared.now.audited c.args.pass.now c.step_and_collect.new.pass c.collect.new.pass c.group.result
+    c.args.serial c.args.cause c.args.request.now c.fallback-end.result c.step_and_collect.new.reply c.collect.new.reply
+    c.group.ensures c.fallback-end.ensures.named (rw c.in-Stepped.is at c.step_and_collect.ensures.adds) c.collect.ensures.made
