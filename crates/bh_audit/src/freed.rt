@@ -116,13 +116,13 @@ impl Notice {
         ensures all_more { more ≡ Notice.All → result ≡ Notice.All }
         ensures nobody { self ≡ Notice.Nobody → more ≡ Notice.Nobody → result ≡ Notice.Nobody }
     {
-        match self {
-            Notice::Nobody => more,
-            Notice::One | Notice::All => match more {
-                Notice::Nobody => self,
-                Notice::One | Notice::All => Notice::All,
-            },
+        if self == Notice::Nobody {
+            return more;
         }
+        if more == Notice::Nobody {
+            return self;
+        }
+        Notice::All
     }
 }
 
@@ -135,16 +135,13 @@ impl FreedCallers {
         ensures all_more { more ≡ FreedCallers.All → result ≡ FreedCallers.All }
         ensures nobody { self ≡ FreedCallers.Nobody → more ≡ FreedCallers.Nobody → result ≡ FreedCallers.Nobody }
     {
-        if self == more {
+        if self == FreedCallers::Nobody || self == more {
+            return more;
+        }
+        if more == FreedCallers::Nobody {
             return self;
         }
-        match self {
-            FreedCallers::Nobody => more,
-            FreedCallers::Of(_) | FreedCallers::All => match more {
-                FreedCallers::Nobody => self,
-                FreedCallers::Of(_) | FreedCallers::All => FreedCallers::All,
-            },
-        }
+        FreedCallers::All
     }
 
     /// The callers whose wait a step of the operation can end, where the group is not worn after it.

@@ -252,13 +252,14 @@ impl<const A: u32> Locked<A> {
         if is_refused(reply) {
             return (Progress::Refused, freed);
         }
-        match self.try_collect(pass, serial, clock, reply) {
-            Some(Answer {
-                said: _,
-                freed: others,
-            }) => (Progress::Collected, freed.and(others)),
-            None => (Progress::Stepped, freed),
-        }
+        let Some(answer) = self.try_collect(pass, serial, clock, reply) else {
+            return (Progress::Stepped, freed);
+        };
+        let Answer {
+            said: _,
+            freed: others,
+        } = answer;
+        (Progress::Collected, freed.and(others))
     }
 
     /// Makes an Expire where a ticket is due, and says how many timed out.

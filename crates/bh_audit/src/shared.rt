@@ -210,14 +210,8 @@ impl Shared {
         ensures err { OnErr result (pass.new ≡ pass.old) }
         ensures kept { OnErr result (reply.new ≡ reply.old) }
     {
-        let group = pass.group();
-        if step.group != group {
-            return Err(StepError::OtherGroup);
-        }
-        if self.lacks_room(pass, 1) {
-            return Err(StepError::PassFull);
-        }
-        self.ask(rt, group, &Ask::Step(step), &NoClock, pass, reply);
+        self.admits(pass, step, 1)?;
+        self.ask(rt, pass.group(), &Ask::Step(step), &NoClock, pass, reply);
         Ok(())
     }
 
@@ -251,15 +245,9 @@ impl Shared {
         ensures err { OnErr result (pass.new ≡ pass.old) }
         ensures kept { OnErr result (reply.new ≡ reply.old) }
     {
-        let group = pass.group();
-        if step.group != group {
-            return Err(StepError::OtherGroup);
-        }
-        if self.lacks_room(pass, 2) {
-            return Err(StepError::PassFull);
-        }
+        self.admits(pass, step, 2)?;
         let ask = Ask::StepAndCollect(step, serial);
-        match self.ask(rt, group, &ask, clock, pass, reply) {
+        match self.ask(rt, pass.group(), &ask, clock, pass, reply) {
             Said::Progress(progress) => Ok(progress),
             _ => unreachable!(),
         }
@@ -456,6 +444,23 @@ impl Shared {
         ensures { result ≡ (self.now.audited && nat_lt pass.now.room receipts) }
     {
         self.audited() && pass.room_left() < receipts
+    }
+
+    /// Whether the step is of the pass's group, and the pass has room for so many receipts where the service is audited.
+    fn admits(&self, pass: &Pass, step: &Step, receipts: u64) -> Result<(), StepError>
+        ensures group { OnOk result (step.entry.now.group ≡ pass.now.group) }
+        ensures room { OnOk result (self.now.audited ≡ true → receipts ≤ pass.now.room) }
+        ensures other { (result ≡ Err OtherGroup) ↔ (step.entry.now.group ≢ pass.now.group) }
+        ensures full { (result ≡ Err PassFull) ↔ ((step.entry.now.group ≡ pass.now.group) × (self.now.audited ≡ true) × (pass.now.room < receipts)) }
+    {
+        let group = pass.group();
+        if step.group != group {
+            return Err(StepError::OtherGroup);
+        }
+        if self.lacks_room(pass, receipts) {
+            return Err(StepError::PassFull);
+        }
+        Ok(())
     }
 
     /// Has done what is asked for in one turn of the lock, and then notifies whom that lets go on. The group is that of
