@@ -16,7 +16,7 @@ use crate::given::GivenStep;
 use crate::outcome::Outcome;
 use crate::steps::make_given;
 use crate::told::ToldReply;
-use bh_base::GroupId;
+use bh_base::{GroupId, Reply};
 use bh_faults::Fault;
 use bh_lines::lines::LINE_LIMIT;
 use bh_port::act::{LineAct, line_act};
@@ -31,7 +31,7 @@ use std::str;
 /// So many bytes of room for an answer always suffice, its line feed counted.
 pub const ANSWER_ROOM: usize = 2_048;
 
-/// A service: its settings, its groups, and what reading and answering a line takes in memory.
+/// A service: its settings, its groups, and what reading and answering a line, and the reply to a step, take in memory.
 #[derive(Drop)]
 pub struct Service {
     pub alloc: Global,
@@ -39,6 +39,7 @@ pub struct Service {
     pub groups: Groups,
     pub scratch: Scratch,
     pub answer: Vec<u8>,
+    pub reply: Reply,
 }
 
 impl Service {
@@ -59,6 +60,7 @@ impl Service {
             groups,
             scratch: Scratch::new(alloc),
             answer: Vec::new(alloc),
+            reply: Reply::Idle,
         })
     }
 
@@ -119,7 +121,7 @@ impl Service {
         ensures told { StepTold (step_in given.now) self.old.groups self.new.groups told.old told.new result }
         ensures settings { self.new.settings ≡ self.old.settings }
     {
-        make_given(&mut self.groups, given, told)
+        make_given(&mut self.groups, given, &mut self.reply, told)
     }
 
     /// Answers a line, which has no line feed, in front of the buffer, and tells the length of the answer or, where the
