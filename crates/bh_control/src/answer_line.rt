@@ -103,6 +103,7 @@ fn put_close<C: Control>(
 }
 
 /// Asks for the answer to a request, for which a caller may have to wait. No earlier answer waits with it: `out` is empty.
+#[tactic(auto, unfolding(crate::specs::AnswerLine::answer_line))]
 fn put_call<C: Control>(
     alloc: Global,
     control: &mut C,
@@ -116,8 +117,11 @@ fn put_call<C: Control>(
     ensures kept { OnErr result (out.new.items ≡ out.old.items) }
     ensures groups { C.names control.new ≡ C.names control.old }
 {
-    let answer = control.call(group, *request);
-    put_answered(alloc, out, &answer)
+    let mut reply = Reply::Idle;
+    match control.call_to(group, request, &mut reply) {
+        Ok(()) => put_reply(alloc, out, &reply, None),
+        Err(error) => put_refusal(alloc, out, error),
+    }
 }
 
 /// Puts the line of the names of the groups behind what is in `out`. It fails only for want of memory, and leaves the bytes
@@ -158,22 +162,6 @@ fn put_text(alloc: Global, listed: &mut Vec<Value>, text: &str) -> Result<(), Al
     let value = Value::try_from_str(alloc, text)?;
     listed.push(value)?;
     Ok(())
-}
-
-/// Puts the line of the answer to a call, or of why there is none, behind what is in `out`.
-#[tactic(auto, unfolding(crate::specs::AnswerLine::answer_line))]
-fn put_answered(
-    alloc: Global,
-    out: &mut Vec<u8>,
-    answer: &Result<Answer, CallError>,
-) -> Result<(), AllocError>
-    ensures ok { OnOk result (out.new.items ≡ out.old.items ++ answer_line answer.now) }
-    ensures err { OnErr result (out.new.items ≡ out.old.items) }
-{
-    match answer {
-        Ok(answer) => put_reply(alloc, out, &Reply::Answered(*answer), None),
-        Err(error) => put_refusal(alloc, out, *error),
-    }
 }
 
 /// Puts the line that says why there is no answer to a call behind what is in `out`.

@@ -1,9 +1,10 @@
 //! The service that control lines are asked of, as a trait.
 
-ghost use Rattle.std.specs.Prelude.{◌≡◌, ◌<◌, ℕ, length, Result, IfSome, option_map};
+ghost use Rattle.std.specs.Prelude.{◌≡◌, ◌<◌, ℕ, length, Result, Ok, Err, IfSome, MatchResult, option_map};
 ghost use Rattle.bh_base.specs.declared.step.GroupId.{GroupId};
 ghost use Rattle.bh_base.specs.declared.step.Request.{Request};
 ghost use Rattle.bh_base.specs.declared.reply.Reply.{Reply};
+ghost use Rattle.bh_base.specs.declared.reply.Reply.TheVariants as replies;
 ghost use Rattle.bh_base.specs.declared.reply.Answer.{Answer};
 ghost use Rattle.bh_base.specs.declared.reply.CallError.{CallError};
 ghost use Rattle.bh_lines.specs.Names.{Names, command_number};
@@ -48,6 +49,25 @@ pub trait Control {
         requires { group.0 < length (names self.old).groups }
         ensures answer { may_answer group request result }
         ensures groups { names self.new ≡ names self.old };
+
+    /// Asks as `call` does. An answer is written where the caller keeps it, as the reply that tells it: it is too long to be
+    /// copied at each return. Where there is an error, what lies there means nothing.
+    ///
+    /// This copies the answer of `call`; a control that can write it there gives a body of its own.
+    fn call_to(
+        &mut self,
+        group: GroupId,
+        request: &Request,
+        reply: &mut Reply,
+    ) -> Result<(), CallError>
+        requires { group.0 < length (names self.old).groups }
+        ensures answer { MatchResult result (λ done. (answer : Answer) × (reply.new ≡ replies.Answered answer) × may_answer group request.now (Ok answer)) (λ error. may_answer group request.now (Err error)) }
+        ensures groups { names self.new ≡ names self.old }
+    {
+        let answer = self.call(group, *request)?;
+        *reply = Reply::Answered(answer);
+        Ok(())
+    }
 
     /// Ends the request context in the group: how many tickets are cached no longer, or `Worn`.
     fn close(&mut self, group: GroupId, context: u64) -> Reply

@@ -1,7 +1,9 @@
 //! Control lines, asked of a service that threads share.
 
-ghost use Rattle.std.specs.Prelude.{◌≡◌, Err, None, true};
+ghost use Rattle.std.specs.Prelude.{◌≡◌, Ok, Err, MatchResult, None, true};
+ghost use Rattle.bh_base.specs.declared.reply.Answer.{Answer};
 ghost use Rattle.bh_base.specs.declared.reply.CallError.TheVariants.{PassFull};
+ghost use Rattle.bh_base.specs.declared.reply.Reply.TheVariants as replies;
 ghost use Rattle.bh_base.specs.declared.step.Op.TheVariants as op;
 ghost use Rattle.bh_base.specs.Replies.{can_reply};
 ghost use Rattle.bh_audit.specs.Calls.{CanBeMissing};
@@ -11,7 +13,7 @@ use crate::names::GroupNames;
 use bh_audit::{Clock, Pass, Shared};
 use bh_base::{Answer, CallError, GroupId, Op, Reply, Request, Step, Text};
 use bh_control::Control;
-use bh_workers::{Dependency, MOST_RECEIPTS, call};
+use bh_workers::{Dependency, MOST_RECEIPTS, call_to};
 use std::alloc::Global;
 use std::marker::Model;
 use std::sync::Wait;
@@ -127,20 +129,40 @@ impl<'e, R: Wait, D: Dependency, C: Clock> Control for ServiceControl<'e, R, D, 
         ensures made { IsCalled D.ends D.fallback_ends C.moments self.old.service group request result self.new.last }
         ensures full { result ≡ Err PassFull → self.old.service.audited ≡ true }
     {
+        let mut reply = Reply::Idle;
+        self.call_to(group, &request, &mut reply)?;
+        match reply {
+            Reply::Answered(answer) => Ok(answer),
+            _ => unreachable!(),
+        }
+    }
+
+    fn call_to(
+        &mut self,
+        group: GroupId,
+        request: &Request,
+        reply: &mut Reply,
+    ) -> Result<(), CallError>
+        ensures answer { MatchResult result (λ done. (answer : Answer) × (reply.new ≡ replies.Answered answer) × MayAnswer D.ends D.fallback_ends C.moments group request.now (Ok answer)) (λ error. MayAnswer D.ends D.fallback_ends C.moments group request.now (Err error)) }
+        ensures groups { self.new.names ≡ self.old.names }
+        ensures made { MatchResult result (λ done. (answer : Answer) × (reply.new ≡ replies.Answered answer) × IsCalled D.ends D.fallback_ends C.moments self.old.service group request.now (Ok answer) self.new.last) (λ error. IsCalled D.ends D.fallback_ends C.moments self.old.service group request.now (Err error) self.new.last) }
+        ensures full { result ≡ Err PassFull → self.old.service.audited ≡ true }
+    {
         let Ok(mut pass) = self.shared.blank_pass(self.alloc, group, MOST_RECEIPTS) else {
             self.last = None;
             return Err(CallError::PassFull);
         };
-        let answer = call(
+        let told = call_to(
             self.rt,
             self.shared,
             &mut pass,
             self.dependency,
             self.clock,
             request,
+            reply,
         );
         self.last = Some(pass);
-        answer
+        told
     }
 
     fn close(&mut self, group: GroupId, context: u64) -> Reply

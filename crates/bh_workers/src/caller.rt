@@ -1,7 +1,9 @@
 //! One call: a request, from its Submit to its answer.
 
-ghost use Rattle.std.specs.Prelude.{◌≡◌, ◌↔◌, ◌+◌, ◌<◌, ◌≤◌, true, Err};
+ghost use Rattle.std.specs.Prelude.{◌≡◌, ◌↔◌, ◌+◌, ◌<◌, ◌≤◌, true, Ok, Err, IfErr, MatchResult, OnOk};
+ghost use Rattle.bh_base.specs.declared.reply.Answer.{Answer};
 ghost use Rattle.bh_base.specs.declared.reply.CallError.TheVariants.{PassFull};
+ghost use Rattle.bh_base.specs.declared.reply.Reply.TheVariants as replies;
 ghost use Rattle.bh_workers.specs.Calls.{CallAdds, IsCall, IsFallenBack, IsRunInline, IsSettled, result_of};
 ghost use Rattle.bh_workers.specs.Collecting.{IsCollectMade, IsFallbackRun};
 
@@ -42,30 +44,57 @@ pub fn call<D: Dependency, C: Clock, R: Wait>(
     ensures full { (result ≡ Err PassFull) ↔ ((shared.now.audited ≡ true) × (pass.old.room < 5)) }
     ensures unchanged { result ≡ Err PassFull → pass.new ≡ pass.old }
 {
+    let mut reply = Reply::Idle;
+    call_to(rt, shared, pass, dependency, clock, &request, &mut reply)?;
+    match reply {
+        Reply::Answered(answer) => Ok(answer),
+        _ => unreachable!(),
+    }
+}
+
+/// Makes a call as `call` does, and writes an answer where the caller keeps it, as the reply that tells it: it is too long
+/// to be copied at each return. Where there is an error, what lies there means nothing.
+pub fn call_to<D: Dependency, C: Clock, R: Wait>(
+    rt: &R,
+    shared: &Shared,
+    pass: &mut Pass,
+    dependency: &D,
+    clock: &C,
+    request: &Request,
+    reply: &mut Reply,
+) -> Result<(), CallError>
+    ensures call { MatchResult result (λ done. (answer : Answer) × (reply.new ≡ replies.Answered answer) × CallAdds shared.now.audited pass.old (Ok answer) pass.new (IsCall D.ends D.fallback_ends C.moments pass.old.group request.now (Ok answer))) (λ error. CallAdds shared.now.audited pass.old (Err error) pass.new (IsCall D.ends D.fallback_ends C.moments pass.old.group request.now (Err error))) }
+    ensures full { (result ≡ Err PassFull) ↔ ((shared.now.audited ≡ true) × (pass.old.room < 5)) }
+    ensures unchanged { result ≡ Err PassFull → pass.new ≡ pass.old }
+{
     let environment = Environment {
         rt,
         shared,
         dependency,
         clock,
     };
-    environment.call(pass, &request)
+    environment.call(pass, request, reply)
 }
 
 /// The steps of a call write their replies into one place, which the caller keeps: a reply is too long to be copied at each
 /// return. The last of them tells the result.
 impl<'e, D: Dependency, C: Clock, R: Wait> Environment<'e, D, C, R> {
-    /// Submits the request and waits for its answer, as the public `call` says.
-    pub(crate) fn call(&self, pass: &mut Pass, request: &Request) -> Result<Answer, CallError>
-        ensures call { CallAdds self.now.shared.now.audited pass.old result pass.new (IsCall D.ends D.fallback_ends C.moments pass.old.group request.now result) }
+    /// Submits the request and waits for its answer, as the public `call_to` says.
+    pub(crate) fn call(
+        &self,
+        pass: &mut Pass,
+        request: &Request,
+        reply: &mut Reply,
+    ) -> Result<(), CallError>
+        ensures call { MatchResult result (λ done. (answer : Answer) × (reply.new ≡ replies.Answered answer) × CallAdds self.now.shared.now.audited pass.old (Ok answer) pass.new (IsCall D.ends D.fallback_ends C.moments pass.old.group request.now (Ok answer))) (λ error. CallAdds self.now.shared.now.audited pass.old (Err error) pass.new (IsCall D.ends D.fallback_ends C.moments pass.old.group request.now (Err error))) }
         ensures full { (result ≡ Err PassFull) ↔ ((self.now.shared.now.audited ≡ true) × (pass.old.room < 5)) }
         ensures unchanged { result ≡ Err PassFull → pass.new ≡ pass.old }
     {
         if self.shared.audited() && pass.room_left() < MOST_RECEIPTS {
             return Err(CallError::PassFull);
         }
-        let mut reply = Reply::Idle;
-        self.submit(pass, request, &mut reply);
-        result_of(&reply)
+        self.submit(pass, request, reply);
+        told_in(reply)
     }
 
     /// Submits the request, and goes on as the reply says.
@@ -162,12 +191,13 @@ impl<'e, D: Dependency, C: Clock, R: Wait> Environment<'e, D, C, R> {
     }
 }
 
-/// The result of a call of which this is the last reply.
-fn result_of(reply: &Reply) -> Result<Answer, CallError>
-    ensures { result ≡ result_of reply.now }
+/// Whether a call of which this is the last reply has an answer, or why it has none.
+fn told_in(reply: &Reply) -> Result<(), CallError>
+    ensures answered { OnOk result ((answer : Answer) × (reply.now ≡ replies.Answered answer)) }
+    ensures refused { IfErr result (λ error. result_of reply.now ≡ Err error) }
 {
     let error = match reply {
-        Reply::Answered(answer) => return Ok(*answer),
+        Reply::Answered(_) => return Ok(()),
         Reply::NoTicket => CallError::Taken,
         Reply::GroupFull => CallError::GroupFull,
         Reply::Worn => CallError::Worn,

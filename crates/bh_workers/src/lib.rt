@@ -12,7 +12,7 @@ mod threads;
 pub mod timer;
 pub mod worker;
 
-pub use caller::{MOST_RECEIPTS, call};
+pub use caller::{MOST_RECEIPTS, call, call_to};
 pub use dependency::{Dependency, Pace};
 pub use driving::{DriveError, Driven, RequestList, drive};
 pub use laws::calls_collect_their_own_tickets;
