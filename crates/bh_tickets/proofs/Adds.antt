@@ -1,5 +1,5 @@
 -- A ticket comes.
-use Rattle.std.proofs.Common.{◌≡◌, ℕ, zero, suc, ◌+◌, ◌<◌, ◌≤◌, inl, inr, Bool, true, false, List, [], ◌∷◌, ◌++◌, length, Option, Some, None, refl, ◌∙◌, sym, ap, subst, arith}
+use Rattle.std.proofs.Common.{◌≡◌, ℕ, zero, suc, ◌+◌, ◌<◌, ◌≤◌, ◌^◌, inl, inr, Bool, true, false, List, [], ◌∷◌, ◌++◌, length, Option, Some, None, refl, ◌∙◌, sym, ap, subst, arith}
 use Rattle.std.specs.Prelude.{◌||◌, ◌≢◌, max, eqb, reverse, slice_get, is_some, if◌then◌else◌}
 use Rattle.std.proofs.lemmas.Bool.{cases_eq, eq-eqb, ne_eqb}
 use Rattle.std.proofs.lemmas.List.{nil_from_length, length-reverse, length-set}
@@ -11,6 +11,8 @@ use Rattle.bh_cache.specs.declared.lists.GroupLists.{GroupLists}
 use Rattle.bh_tickets.specs.declared.group_slots.GroupSlots.{GroupSlots}
 use Rattle.bh_slot_arena.specs.Slots.{lists_in, slots_on, with_payload, with_moved}
 use Rattle.bh_cache.specs.Slots.{Slots, has, is_on, is_live_list, is_live, is_owned, ticket_at, list_for, serial_in, InOrder, count_below, has_one, one, IsArena}
+use Rattle.bh_tickets.specs.declared.new_ticket.NewTicket.{NewTicket}
+use Rattle.bh_tickets.specs.NewTicket.{is_busy_from, ticket_of}
 use Rattle.bh_tickets.specs.GroupSlots.{AreInTurn, IsNumbered, IsGroupSlots, CanAdd, IsAdded, count_at, counted_in, is_any, with_submit}
 use Rattle.bh_tickets.specs.declared.counts.CommandCounts.{CommandCounts}
 use Rattle.bh_tickets.specs.Counts.{HasRoomFor, all_more, counts_of, is_open, open_since}
@@ -29,6 +31,33 @@ use Rattle.bh_tickets.proofs.Others.{each_list, own_for}
 use Rattle.bh_tickets.proofs.Chained.{chains_placed, moved_keeps, placed_on, touched_placed}
 use Rattle.bh_cache.specs.Chains.{IsChainFrame, IsChained, is_named, with_placed_where}
 use Rattle.bh_cache.proofs.Placed.{alike_same, alike_trans, unnamed_alike}
+
+-- a ticket of the next serial and of a command below 16 that somebody needs, where a slot is free
+pub record IsNew (s : GroupSlots) (v : Ticket) : Type 0 where
+  pub room : s.slots.taken < s.slots.max
+  pub serial : v.serial ≡ s.next
+  pub few : s.next < 2 ^ 63
+  pub command : v.command < 16
+  pub needed : is_kept v ≡ true
+
+-- a new ticket is needed by whoever asked for it
+new_needed : (new : NewTicket) (serial : ℕ) → is_kept (ticket_of new serial) ≡ true
+new_needed new serial = by (is_busy_from new.start)
+  where
+    by : (b : Bool) → (b || true || new.cached) ≡ true
+    by true = refl
+    by false = refl
+
+-- a new ticket that can be added is such a one
+pub is_new : (s : GroupSlots) (new : NewTicket) → CanAdd s new → IsNew s (ticket_of new s.next)
+is_new s new can = record { room = can.room; serial = refl; few = can.few; command = can.command; needed = new_needed new s.next }
+
+-- what is read from the slot in which it was written is the ticket of the next serial
+pub read_new : (a : Slots) (s : GroupSlots) (new : NewTicket) (x : ℕ) (kept got : Ticket) → x < length a.payloads → kept ≡ ticket_of new s.next → Some got ≡ slice_get (with_payload x kept a).payloads x → got ≡ ticket_of new s.next
+read_new a s new x kept got lt written read =
+    let e : Some got ≡ Some kept = read ∙ get_set a.payloads x x kept lt ∙ ap (λ c. if c then Some kept else slice_get a.payloads x) (eq-eqb x x refl) in
+    let f : got ≡ kept = cc in
+    f ∙ written
 
 -- ---- tickets lie in live slots
 
@@ -96,7 +125,7 @@ count_few a s q group = omega (arith, group.taken, count_le (λ x. has_one q (ti
     any (Some t) e = refl
 
 -- there is room in the counts for a ticket that can be added
-pub room_for : (a : Slots) (s : GroupSlots) (v : Ticket) → IsGroupSlots a s → CanAdd s v → HasRoomFor v (counts_of s.commands v.command)
+pub room_for : (a : Slots) (s : GroupSlots) (v : Ticket) → IsGroupSlots a s → IsNew s v → HasRoomFor v (counts_of s.commands v.command)
 room_for a s v group can = has_room (count_at a s.lists) v (counts_of s.commands v.command) (group.counts v.command can.command) (λ q. omega (arith, count_few a s q group, can.room, group.few))
 
 or_first : (b c : Bool) → b ≡ true → (b || c) ≡ true
@@ -110,7 +139,7 @@ or_second false c e = e
 pub not_free : (g : GroupLists) (r : TicketState) → IsNumbered g → g.free ≢ list_for g r
 not_free g r n = each_list (λ l. g.free ≢ l) g (λ e. absurd (omega (arith, e, n.queued))) (λ e. absurd (omega (arith, e, n.running))) (λ e. absurd (omega (arith, e, n.settled))) r
 
-module _ (a b : Slots) (s : GroupSlots) (x : ℕ) (v : Ticket) (arena : IsArena a 0) (group : IsGroupSlots a s) (back : slice_get (reverse (slots_on a 0 s.lists.free)) 0 ≡ Some x) (can : CanAdd s v)
+module _ (a b : Slots) (s : GroupSlots) (x : ℕ) (v : Ticket) (arena : IsArena a 0) (group : IsGroupSlots a s) (back : slice_get (reverse (slots_on a 0 s.lists.free)) 0 ≡ Some x) (can : IsNew s v)
     (names : IsArena a 1) (contexts : IsArena a 2) (is : b ≡ with_placed_where (is_named (Some v)) s.lists x (Some v) (with_moved 0 x (list_for s.lists v.state) (with_payload x v a))) where
   on : is_on a 0 s.lists.free x ≡ true
   on = back_on x (slots_on a 0 s.lists.free) back
@@ -268,7 +297,7 @@ module _ (a b : Slots) (s : GroupSlots) (x : ℕ) (v : Ticket) (arena : IsArena 
     }
 
 -- where a ticket can be added, there is a last free slot
-pub not_full : (a : Slots) (s : GroupSlots) (v : Ticket) → IsArena a 0 → IsGroupSlots a s → CanAdd s v → slice_get (reverse (slots_on a 0 s.lists.free)) 0 ≡ None → ⊥
+pub not_full : (a : Slots) (s : GroupSlots) (v : Ticket) → IsArena a 0 → IsGroupSlots a s → IsNew s v → slice_get (reverse (slots_on a 0 s.lists.free)) 0 ≡ None → ⊥
 not_full a s v arena group can none = absurd (omega (arith, can.room, all_taken a s arena group none))
 
 -- the list for a state is there
@@ -276,7 +305,7 @@ pub to_list : (a : Slots) (s : GroupSlots) (to : ℕ) (r : TicketState) → IsGr
 to_list a s to r group is = subst (λ l. l < length (lists_in a 0)) (sym is) (each_list (λ l. l < length (lists_in a 0)) s.lists (omega (arith, group.there, group.numbered.queued, group.numbered.settled)) (omega (arith, group.there, group.numbered.running, group.numbered.settled)) group.there r)
 
 -- as the code reads it
-pub add_from : (a b : Slots) (s : GroupSlots) (x to : ℕ) (v : Ticket) → IsArena a 0 → IsGroupSlots a s → slice_get (reverse (slots_on a 0 s.lists.free)) 0 ≡ Some x → CanAdd s v → IsArena a 1 → IsArena a 2 → to ≡ list_for s.lists v.state
+pub add_from : (a b : Slots) (s : GroupSlots) (x to : ℕ) (v : Ticket) → IsArena a 0 → IsGroupSlots a s → slice_get (reverse (slots_on a 0 s.lists.free)) 0 ≡ Some x → IsNew s v → IsArena a 1 → IsArena a 2 → to ≡ list_for s.lists v.state
     → b ≡ with_placed_where (is_named (Some v)) s.lists x (Some v) (with_moved 0 x to (with_payload x v a)) → (r : GroupSlots) (last : ℕ) (in_turn : Bool) → r ≡ record (with_submit v (counted_in v s)) { slots = record s.slots { taken = s.slots.taken + 1 }; next = s.next + 1; order = record (with_submit v s).order { last_started = last; in_turn = in_turn } }
     → IsTurned a s v.serial s.lists.free to last in_turn → IsAdded a s v b r
 add_from a b s x to v arena group back can names contexts is moved r last in_turn made turned =
@@ -285,8 +314,9 @@ add_from a b s x to v arena group back can names contexts is moved r last in_tur
     add_is a b s x v arena group back can names contexts placed r last in_turn turns made
 
 -- a slot that was written, moved and placed, as the code reads it
-pub placed_from : (a z m b : Slots) (g : GroupLists) (x to : ℕ) (v : Ticket) → x < length a.payloads → z ≡ with_payload x v a → m ≡ with_moved 0 x to z → b ≡ with_placed_where (is_named (slice_get m.payloads x)) g x (slice_get m.payloads x) m
+pub placed_from : (a z m b : Slots) (g h : GroupLists) (x to : ℕ) (v : Ticket) → x < length a.payloads → h ≡ g → z ≡ with_payload x v a → m ≡ with_moved 0 x to z → b ≡ with_placed_where (is_named (slice_get m.payloads x)) h x (slice_get m.payloads x) m
     → b ≡ with_placed_where (is_named (Some v)) g x (Some v) (with_moved 0 x to (with_payload x v a))
-placed_from a z m b g x to v lt written moved placed =
-    placed ∙ ap (λ (y : Slots). with_placed_where (is_named (slice_get y.payloads x)) g x (slice_get y.payloads x) y) (moved ∙ ap (λ (y : Slots). with_moved 0 x to y) written)
+placed_from a z m b g h x to v lt same written moved placed =
+    placed ∙ ap (λ (l : GroupLists). with_placed_where (is_named (slice_get m.payloads x)) l x (slice_get m.payloads x) m) same
+    ∙ ap (λ (y : Slots). with_placed_where (is_named (slice_get y.payloads x)) g x (slice_get y.payloads x) y) (moved ∙ ap (λ (y : Slots). with_moved 0 x to y) written)
     ∙ ap (λ (o : Option Ticket). with_placed_where (is_named o) g x o (with_moved 0 x to (with_payload x v a))) (get_set a.payloads x x v lt ∙ ap (λ c. if c then Some v else slice_get a.payloads x) (eq-eqb x x refl))

@@ -2,6 +2,7 @@
 use Rattle.std.proofs.Common.{◌≡◌, true, refl}
 use Rattle.bh_base.specs.declared.ticket.Ticket.{Ticket}
 use Rattle.bh_base.specs.Tickets.{is_queued}
+use Rattle.bh_tickets.specs.declared.changes.RunEnd.TheVariants as run
 use Rattle.bh_tickets.specs.declared.changes.TicketChange.{TicketChange}
 use Rattle.bh_tickets.specs.declared.changes.TicketChange.TheVariants as change
 use Rattle.bh_tickets.specs.Changes.{IsAllowed, changed_by}
@@ -9,7 +10,7 @@ use Rattle.bh_tickets.specs.Changes.{IsAllowed, changed_by}
 -- a ticket keeps its serial, whatever happens to it
 pub serial_kept : (c : TicketChange) (t : Ticket) → (changed_by c t).serial ≡ t.serial
 serial_kept change.StartRun t = refl
-serial_kept (change.EndRun s) t = refl
+serial_kept (change.EndRun end) t = refl
 serial_kept change.StopRun t = refl
 serial_kept change.ReleaseHolder t = refl
 serial_kept (change.AnswerHolder a) t = refl
@@ -21,7 +22,7 @@ serial_kept change.TimeOut t = refl
 -- a ticket keeps its command
 pub command_kept : (c : TicketChange) (t : Ticket) → (changed_by c t).command ≡ t.command
 command_kept change.StartRun t = refl
-command_kept (change.EndRun s) t = refl
+command_kept (change.EndRun end) t = refl
 command_kept change.StopRun t = refl
 command_kept change.ReleaseHolder t = refl
 command_kept (change.AnswerHolder a) t = refl
@@ -33,7 +34,7 @@ command_kept change.TimeOut t = refl
 -- a ticket keeps the moment of its submit
 pub submitted_kept : (c : TicketChange) (t : Ticket) → (changed_by c t).submitted ≡ t.submitted
 submitted_kept change.StartRun t = refl
-submitted_kept (change.EndRun s) t = refl
+submitted_kept (change.EndRun end) t = refl
 submitted_kept change.StopRun t = refl
 submitted_kept change.ReleaseHolder t = refl
 submitted_kept (change.AnswerHolder a) t = refl
@@ -45,7 +46,7 @@ submitted_kept change.TimeOut t = refl
 -- a ticket keeps its cache name
 pub cache_kept : (c : TicketChange) (t : Ticket) → (changed_by c t).cache ≡ t.cache
 cache_kept change.StartRun t = refl
-cache_kept (change.EndRun s) t = refl
+cache_kept (change.EndRun end) t = refl
 cache_kept change.StopRun t = refl
 cache_kept change.ReleaseHolder t = refl
 cache_kept (change.AnswerHolder a) t = refl
@@ -57,7 +58,7 @@ cache_kept change.TimeOut t = refl
 -- a ticket is cached afterwards if it was before
 pub cached_kept : (c : TicketChange) (t : Ticket) → (changed_by c t).cached ≡ t.cached
 cached_kept change.StartRun t = refl
-cached_kept (change.EndRun s) t = refl
+cached_kept (change.EndRun end) t = refl
 cached_kept change.StopRun t = refl
 cached_kept change.ReleaseHolder t = refl
 cached_kept (change.AnswerHolder a) t = refl
@@ -69,7 +70,9 @@ cached_kept change.TimeOut t = refl
 -- a ticket waits afterwards only if it did before
 pub waits_kept : (c : TicketChange) (t : Ticket) → IsAllowed c t → is_queued (changed_by c t) ≡ true → is_queued t ≡ true
 waits_kept change.StartRun t ok e = cc
-waits_kept (change.EndRun s) t ok e = cc
+waits_kept (change.EndRun (run.Value body)) t ok e = cc
+waits_kept (change.EndRun run.BadRequest) t ok e = cc
+waits_kept (change.EndRun run.Failure) t ok e = cc
 waits_kept change.StopRun t ok e = e
 waits_kept change.ReleaseHolder t ok e = e
 waits_kept (change.AnswerHolder a) t ok e = cc

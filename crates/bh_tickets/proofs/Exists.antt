@@ -16,12 +16,12 @@ use Rattle.bh_cache.proofs.Members.{drop_at, drop_past, drop_end}
 use Rattle.bh_cache.proofs.Earliest.{earliest_first, none_first as no_first}
 use Rattle.bh_tickets.specs.declared.group_slots.GroupSlots.{GroupSlots}
 use Rattle.bh_tickets.specs.declared.states.DueRule.{DueRule}
-use Rattle.bh_tickets.specs.Changes.{is_due_by, queued_in}
+use Rattle.bh_tickets.specs.Changes.{is_due_by}
 use Rattle.bh_tickets.specs.GroupSlots.{any_at}
 use Rattle.bh_tickets.specs.TicketsView.{GroupTickets, group_at, IsFirstAt}
 use Rattle.bh_tickets.specs.Whole.{view_of, AreGroupSlots}
 use Rattle.bh_tickets.proofs.Finds.{is_in, found_first, other_first, none_first, first_at, none_at, ticket_of}
-use Rattle.bh_tickets.proofs.Puts.{held_at}
+use Rattle.bh_tickets.proofs.Puts.{held_at, queued_in}
 use Rattle.bh_tickets.proofs.Whole.{group_is}
 
 -- whether a ticket in the state runs

@@ -9,13 +9,12 @@ use Rattle.bh_tickets.specs.declared.group_slots.GroupSlots.{GroupSlots}
 use Rattle.bh_slot_arena.specs.Slots.{slots_on}
 use Rattle.bh_cache.specs.Slots.{Slots, is_on, ticket_at, tickets_of, list_for, has_serial_in, serial_in, has, InOrder, IsArena, HasLists}
 use Rattle.bh_tickets.specs.GroupSlots.{IsGroupSlots}
-use Rattle.bh_tickets.specs.Changes.{queued_in}
 use Rattle.bh_tickets.specs.TicketsView.{GroupTickets, group_at, IsFirstAt}
 use Rattle.bh_tickets.specs.Whole.{view_of, AreGroupSlots}
 use Rattle.bh_cache.proofs.Listed.{IsIn, from_listed, in_listed, find_least, find_none}
 use Rattle.bh_cache.proofs.Order.{front_is, front_none, front_on, first_least}
 use Rattle.bh_tickets.proofs.Own.{tickets_rising}
-use Rattle.bh_tickets.proofs.Puts.{held_at, was_is, within_slots, queued_list, queued_state}
+use Rattle.bh_tickets.proofs.Puts.{held_at, was_is, within_slots, queued_in, queued_list, queued_state}
 use Rattle.bh_tickets.proofs.Adds.{payload_some}
 use Rattle.bh_tickets.proofs.Whole.{shows, group_is}
 

@@ -22,7 +22,6 @@ use Rattle.bh_tickets.proofs.InTurn.{IsTurned, turns_kept, turns_less, turns_mor
 use Rattle.bh_cache.proofs.Moves.{list_to}
 use Rattle.bh_tickets.proofs.Since.{since_less, since_more, since_own}
 use Rattle.bh_index_lists.specs.Lists.{without}
-use Rattle.bh_tickets.specs.Changes.{queued_in}
 use Rattle.bh_cache.proofs.Order.{order_same, order_without, count_le, count_same, one_le}
 use Rattle.bh_cache.proofs.Counts.{count_point}
 use Rattle.bh_tickets.proofs.Touched.{IsTouched, touched_both, touched_set, payload_other, payload_slot, at_other, at_slot, touched_arena, touched_frame, owned_same}
@@ -121,6 +120,10 @@ queued_list g ticket.Running n e = absurd (omega (arith, n.queued, n.running, e)
 queued_list g (ticket.NeedsFallback c) n e = absurd (omega (arith, n.queued, n.settled, e))
 queued_list g (ticket.InFallback c) n e = absurd (omega (arith, n.queued, n.settled, e))
 queued_list g (ticket.Answered c) n e = absurd (omega (arith, n.queued, n.settled, e))
+
+-- whether a ticket in the state waits
+abbrev pub queued_in : TicketState → Bool
+queued_in s = elim s [ ticket.Queued ↦ true | _ ↦ false ]
 
 -- a ticket waits in one state only
 pub queued_state : (s : TicketState) → queued_in s ≡ true → s ≡ ticket.Queued

@@ -15,12 +15,13 @@ use Rattle.bh_cache.proofs.Members.{has_append, take_one_more}
 use Rattle.bh_tickets.specs.declared.counts.CommandCounts.{CommandCounts}
 use Rattle.bh_tickets.specs.declared.group_slots.GroupSlots.{GroupSlots}
 use Rattle.bh_tickets.specs.declared.states.DueRule.{DueRule}
-use Rattle.bh_tickets.specs.Changes.{is_due_by, queued_in, timed_out_by}
+use Rattle.bh_tickets.specs.Changes.{is_due_by, timed_out_by}
 use Rattle.bh_tickets.specs.Counts.{AreCounts, counts_of, is_open, zero_counts, open_since}
 use Rattle.bh_tickets.specs.GroupSlots.{IsGroupSlots, IsSinceAt, count_at, may_be_due, with_since}
 use Rattle.bh_tickets.specs.Sweeps.{IsSinceFrom, IsTimedFrom, IsTimedOut}
 use Rattle.bh_tickets.proofs.Along.{has_one_slot}
 use Rattle.bh_tickets.proofs.Exists.{running_in}
+use Rattle.bh_tickets.proofs.Puts.{queued_in}
 use Rattle.bh_tickets.proofs.Releases.{change_none}
 use Rattle.bh_tickets.proofs.TimedAll.{all_timed, timed_out_all}
 use Rattle.bh_tickets.proofs.Times.{with_timeout}

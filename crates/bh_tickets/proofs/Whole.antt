@@ -13,6 +13,7 @@ use Rattle.bh_tickets.specs.declared.group_slots.GroupSlots.{GroupSlots}
 use Rattle.bh_cache.specs.Slots.{Slots, is_live, is_owned, ticket_at, tickets_of, has_one, IsArena, IsApart}
 use Rattle.bh_tickets.specs.GroupSlots.{IsGroupSlots, IsGroupChange, IsPut, CanBe, CanAdd, count_at, is_any}
 use Rattle.bh_tickets.specs.declared.changes.TicketChange.{TicketChange}
+use Rattle.bh_tickets.specs.declared.new_ticket.NewTicket.{NewTicket}
 use Rattle.bh_tickets.specs.Changes.{changed_by}
 use Rattle.bh_tickets.specs.TicketsView.{TicketsView, GroupTickets, ChangesOnly, CanPush, at_in, in_slot, group_at}
 use Rattle.bh_tickets.specs.Whole.{group_of, groups_of, rooms, view_of, slotted, slot_in, AreGroupSlots, IsWhole, IsChanged, CanChange}
@@ -279,18 +280,20 @@ changed_is a b ss i x s r change whole is can done = record {
   left = let put = done can.ticket (there_is a ss i x s can.ticket whole is can.here) in else_is a b ss i s r whole is put.change put.next;
 }
 
--- a ticket that can be pushed, as contracts see the group, can be added to the group's part
-pub can_add_at : (a : Slots) (ss : List GroupSlots) (i : ℕ) (s : GroupSlots) (v : Ticket) → AreGroupSlots a ss → slice_get ss i ≡ Some s → CanPush (group_at (view_of a ss) i) v → CanAdd s v
-can_add_at a ss i s v whole is can =
+-- a new ticket that can be pushed, as contracts see the group, can be added to the group's part
+pub can_add_at : (a : Slots) (ss : List GroupSlots) (i : ℕ) (s : GroupSlots) (new : NewTicket) → AreGroupSlots a ss → slice_get ss i ≡ Some s → CanPush (group_at (view_of a ss) i) new → CanAdd s new
+can_add_at a ss i s new whole is can =
     let store = group_is a ss i s is in
     let room : length (tickets_of a s.lists) < s.slots.max = subst (λ (z : GroupTickets). length z.items < z.room) store can.room in
     record {
       room = omega (arith, room, taken_is a s (whole.each i s is));
-      serial = can.serial ∙ ap (λ (z : GroupTickets). z.next) store;
       few = subst (λ (z : GroupTickets). z.next < 2 ^ 63) store can.few;
       command = can.command;
-      needed = can.needed;
     }
+
+-- the next serial as contracts see it
+pub next_is : (a : Slots) (ss : List GroupSlots) (i : ℕ) (s : GroupSlots) → slice_get ss i ≡ Some s → s.next ≡ (group_at (view_of a ss) i).next
+next_is a ss i s is = sym (ap (λ (z : GroupTickets). z.next) (group_is a ss i s is))
 
 -- as many slots are taken as contracts see tickets in the group
 pub len_is : (a : Slots) (ss : List GroupSlots) (i : ℕ) (s : GroupSlots) → AreGroupSlots a ss → slice_get ss i ≡ Some s → s.slots.taken ≡ length (group_at (view_of a ss) i).items

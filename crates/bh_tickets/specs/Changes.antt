@@ -1,12 +1,15 @@
 -- What an operation changes of a ticket.
-use Rattle.std.specs.Prelude.{◌≡◌, ◌+◌, ◌-◌, ◌<◌, ◌^◌, Bool, true, false, ◌&&◌, ◌||◌, nat_le, nat_lt, if◌then◌else◌}
+use Rattle.std.specs.Prelude.{◌+◌, ◌-◌, ◌<◌, ◌^◌, Bool, true, false, ◌&&◌, ◌||◌, nat_le, nat_lt, if◌then◌else◌}
 use Rattle.bh_base.specs.declared.ticket.Ticket.{Ticket}
 use Rattle.bh_base.specs.declared.ticket.TicketState.{TicketState}
 use Rattle.bh_base.specs.declared.ticket.TicketState.TheVariants as ticket
 use Rattle.bh_base.specs.declared.reply.Answer.{Answer}
+use Rattle.bh_base.specs.declared.reply.Answer.TheVariants as answer
 use Rattle.bh_base.specs.declared.reply.Cause.{Cause}
 use Rattle.bh_base.specs.declared.reply.Cause.TheVariants as cause
 use Rattle.bh_base.specs.Tickets.{in_state, is_of, is_queued, is_running}
+use Rattle.bh_tickets.specs.declared.changes.RunEnd.{RunEnd}
+use Rattle.bh_tickets.specs.declared.changes.RunEnd.TheVariants as run
 use Rattle.bh_tickets.specs.declared.changes.TicketChange.{TicketChange}
 use Rattle.bh_tickets.specs.declared.changes.TicketChange.TheVariants as change
 use Rattle.bh_tickets.specs.declared.states.DueRule.{DueRule}
@@ -15,6 +18,12 @@ use Rattle.bh_base.specs.Machine.{released_by_one}
 -- a worker begins with its run
 abbrev pub run_started : Ticket → Ticket
 run_started t = record t { state = ticket.Running; busy = true }
+
+-- how far a ticket is whose run ended so, in time
+abbrev pub state_after : RunEnd → TicketState
+state_after (run.Value body) = ticket.Answered (answer.Value body.now)
+state_after run.BadRequest = ticket.Answered answer.BadRequest
+state_after run.Failure = ticket.NeedsFallback cause.Failure
 
 -- its run ended, and it goes on to the state
 abbrev pub run_settled : TicketState → Ticket → Ticket
@@ -48,14 +57,10 @@ is_young_by due t = nat_lt (due.moment - t.submitted) due.timeout_ms
 abbrev pub timed_out_by : DueRule → Ticket → Ticket
 timed_out_by due t = if is_due_by due t then in_state (ticket.NeedsFallback cause.Timeout) t else t
 
--- whether a ticket in the state waits
-abbrev pub queued_in : TicketState → Bool
-queued_in s = elim s [ ticket.Queued ↦ true | _ ↦ false ]
-
 -- what a change makes of a ticket
 abbrev pub changed_by : TicketChange → Ticket → Ticket
 changed_by change.StartRun t = run_started t
-changed_by (change.EndRun state) t = run_settled state.now t
+changed_by (change.EndRun end) t = run_settled (state_after end) t
 changed_by change.StopRun t = run_stopped t
 changed_by change.ReleaseHolder t = released_by_one t
 changed_by (change.AnswerHolder a) t = answered a.now t
@@ -64,9 +69,8 @@ changed_by (change.StartFallback c) t = fallback_started c t
 changed_by change.AddHolder t = joined t
 changed_by change.TimeOut t = in_state (ticket.NeedsFallback cause.Timeout) t
 
--- a run that ended does not wait for a worker, a holder that goes was there, and there are not too many
+-- a holder that goes was there, and there are not too many
 abbrev pub IsAllowed : TicketChange → Ticket → Type 0
-IsAllowed (change.EndRun state) t = queued_in state.now ≡ false
 IsAllowed change.ReleaseHolder t = 0 < t.holders
 IsAllowed (change.AnswerHolder a) t = 0 < t.holders
 IsAllowed change.AddHolder t = t.holders < 2 ^ 64 - 1

@@ -6,6 +6,7 @@ use Rattle.bh_base.specs.Tickets.{is_queued, is_kept, is_cached_in}
 use Rattle.bh_index_lists.specs.Lists.{without}
 use Rattle.bh_tickets.specs.declared.states.DueRule.{DueRule}
 use Rattle.bh_tickets.specs.declared.changes.TicketChange.{TicketChange}
+use Rattle.bh_tickets.specs.declared.new_ticket.NewTicket.{NewTicket}
 use Rattle.bh_tickets.specs.Changes.{IsAllowed, is_due_by, timed_out_by}
 use Rattle.bh_tickets.specs.Counts.{AreCounts, all_less, all_more, all_since, counts_of, is_open, no_counts, open_since}
 use Rattle.std.specs.Option.{option_map}
@@ -150,13 +151,11 @@ pub record IsPut (a : Slots) (s : GroupSlots) (x : ℕ) (v : Ticket) (b : Slots)
   pub here : ticket_at b s.lists x ≡ Some v
   pub others : (y : ℕ) → (y ≡ x → ⊥) → ticket_at b s.lists y ≡ ticket_at a s.lists y
 
--- a ticket of the next serial and of a command below 16 that somebody needs, where a slot is free
-pub record CanAdd (s : GroupSlots) (v : Ticket) : Type 0 where
+-- a new ticket of a command below 16, where a slot is free
+pub record CanAdd (s : GroupSlots) (new : NewTicket) : Type 0 where
   pub room : s.slots.taken < s.slots.max
-  pub serial : v.serial ≡ s.next
   pub few : s.next < 2 ^ 63
-  pub command : v.command < 16
-  pub needed : is_kept v ≡ true
+  pub command : new.request.now.command < 16
 
 -- the ticket is in the last free slot, and all else of the group's tickets is as it was
 pub record ComesTo (a : Slots) (s : GroupSlots) (v : Ticket) (b : Slots) : Type 0 where

@@ -1,6 +1,7 @@
 pub mod TicketsView
 pub mod Tables
 pub mod Changes
+pub mod NewTicket
 pub mod Counts
 pub mod GroupSlots
 pub mod Names

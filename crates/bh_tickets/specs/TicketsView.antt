@@ -1,7 +1,7 @@
 -- What contracts see of the tickets of all groups.
-use Rattle.std.specs.Prelude.{◌≡◌, ◌≢◌, ℕ, ◌+◌, ◌^◌, ◌<◌, ◌||◌, Bool, true, nat_lt, List, [], length, find, sum_by, Option, Some, None, slice_get, slice_index_or, eqb, if◌then◌else◌, ◌∷◌}
+use Rattle.std.specs.Prelude.{◌≡◌, ◌≢◌, ℕ, ◌+◌, ◌^◌, ◌<◌, ◌||◌, Bool, nat_lt, List, [], length, find, sum_by, Option, Some, None, slice_get, slice_index_or, eqb, if◌then◌else◌, ◌∷◌}
 use Rattle.bh_base.specs.declared.ticket.Ticket.{Ticket}
-use Rattle.bh_base.specs.Tickets.{is_kept}
+use Rattle.bh_tickets.specs.declared.new_ticket.NewTicket.{NewTicket}
 
 -- the tickets of a group
 pub record GroupTickets : Type 0 where
@@ -71,10 +71,8 @@ pub record HasPlace (place count : ℕ) (old new : TicketsView) : Type 0 where
   pub limit : new.limit ≡ old.limit
   pub slots : slots_of new ≡ slots_of old + count
 
--- a ticket of the next serial and of a command below 16 that somebody needs, where a slot is free
-pub record CanPush (g : GroupTickets) (v : Ticket) : Type 0 where
+-- a new ticket of a command below 16, where a slot is free
+pub record CanPush (g : GroupTickets) (new : NewTicket) : Type 0 where
   pub room : length g.items < g.room
-  pub serial : v.serial ≡ g.next
   pub few : g.next < 2 ^ 63
-  pub command : v.command < 16
-  pub needed : is_kept v ≡ true
+  pub command : new.request.now.command < 16

@@ -1,17 +1,27 @@
 //! What the steps of a group do to one ticket.
 
 ghost use Rattle.std.specs.Prelude.{◌≡◌};
-ghost use Rattle.bh_tickets.specs.Changes.{IsAllowed, changed_by};
+ghost use Rattle.bh_tickets.specs.Changes.{IsAllowed, changed_by, state_after};
 
-use bh_base::{Answer, Cause, Ticket, TicketState};
+use bh_base::{Answer, Cause, Text, Ticket, TicketState};
+
+/// How a run ended that ended in time. The body is held by whoever told the end.
+#[derive(Clone, Copy)]
+pub enum RunEnd<'a> {
+    /// It gave a body.
+    Value(&'a Text<256>),
+    /// It told that the request was a bad one.
+    BadRequest,
+    Failure,
+}
 
 /// What happens to a ticket.
 #[derive(Clone, Copy)]
 pub enum TicketChange<'a> {
     /// A worker begins with its run.
     StartRun,
-    /// Its run ended in time, and it goes on to the state.
-    EndRun(&'a TicketState),
+    /// Its run ended in time.
+    EndRun(RunEnd<'a>),
     /// Its run ended, too late.
     StopRun,
     /// One holder has collected the answer.
@@ -37,8 +47,8 @@ pub fn apply(change: &TicketChange, ticket: &mut Ticket)
             ticket.state = TicketState::Running;
             ticket.busy = true;
         }
-        TicketChange::EndRun(state) => {
-            ticket.state = **state;
+        TicketChange::EndRun(end) => {
+            settle(end, &mut ticket.state);
             ticket.busy = false;
         }
         TicketChange::StopRun => ticket.busy = false,
@@ -51,5 +61,17 @@ pub fn apply(change: &TicketChange, ticket: &mut Ticket)
         TicketChange::StartFallback(cause) => ticket.state = TicketState::InFallback(*cause),
         TicketChange::AddHolder => ticket.holders += 1,
         TicketChange::TimeOut => ticket.state = TicketState::NeedsFallback(Cause::Timeout),
+    }
+}
+
+/// The state of a ticket whose run has ended so is written where it is kept: only a body is copied, and only once.
+#[inline(always)]
+fn settle(end: &RunEnd, state: &mut TicketState)
+    ensures { state.new ≡ state_after end.now }
+{
+    match end {
+        RunEnd::Value(body) => *state = TicketState::Answered(Answer::Value(**body)),
+        RunEnd::BadRequest => *state = TicketState::Answered(Answer::BadRequest),
+        RunEnd::Failure => *state = TicketState::NeedsFallback(Cause::Failure),
     }
 }

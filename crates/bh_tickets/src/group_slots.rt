@@ -7,11 +7,13 @@ ghost use Rattle.bh_slot_arena.specs.Slots.{lists_in, with_moved};
 ghost use Rattle.bh_cache.specs.Slots.{IsArena, list_for, ticket_at, one};
 ghost use Rattle.bh_tickets.specs.GroupSlots.{IsGroupSlots, CanBe, IsPut, CanAdd, IsAdded, IsReleasedAt, IsSinceAt, IsTimed, IsUncached, counted_in, counted_out, may_be_due, no_slot_taken, with_since, with_start, with_submit};
 ghost use Rattle.bh_tickets.specs.Changes.{changed_by};
+ghost use Rattle.bh_tickets.specs.NewTicket.{ticket_of};
 ghost use Rattle.bh_tickets.specs.Whole.{KeepsTable};
 ghost use Rattle.bh_tickets.specs.Counts.{HasRoomFor, IsCounted, counts_of};
 
 use crate::changes::{TicketChange, apply};
 use crate::counts::{CommandCounts, one};
+use crate::new_ticket::{NewTicket, write};
 use crate::order::TicketOrder;
 use crate::states::{DueRule, is_due, is_kept, is_queued};
 use bh_admit::Permits;
@@ -162,43 +164,13 @@ pub fn change(
     }
 }
 
-/// The ticket is written where it is kept, field by field: of what lies there, the room for an answer is left alone where
-/// the ticket has none.
-fn write(ticket: &Ticket, kept: &mut Ticket)
-    ensures { kept.new ≡ ticket.now }
-{
-    kept.serial = ticket.serial;
-    kept.command = ticket.command;
-    kept.arg = ticket.arg;
-    kept.cache = ticket.cache;
-    kept.submitted = ticket.submitted;
-    write_state(&ticket.state, &mut kept.state);
-    kept.busy = ticket.busy;
-    kept.holders = ticket.holders;
-    kept.cached = ticket.cached;
-    kept.test = ticket.test;
-}
-
-/// The state is written where it is kept.
-fn write_state(state: &TicketState, kept: &mut TicketState)
-    ensures { kept.new ≡ state.now }
-{
-    match state {
-        TicketState::Queued => *kept = TicketState::Queued,
-        TicketState::Running => *kept = TicketState::Running,
-        TicketState::NeedsFallback(cause) => *kept = TicketState::NeedsFallback(*cause),
-        TicketState::InFallback(cause) => *kept = TicketState::InFallback(*cause),
-        TicketState::Answered(answer) => *kept = TicketState::Answered(*answer),
-    }
-}
-
 /// A new ticket, in the slot of the group that was freed last, which is likely still in the processor's cache.
 #[inline(always)]
-pub fn add(arena: &mut Arena<Ticket, 3>, group: &mut GroupSlots, ticket: &Ticket)
+pub fn add(arena: &mut Arena<Ticket, 3>, group: &mut GroupSlots, new: &NewTicket)
     requires arena { IsArena arena.old 0 }
     requires group { IsGroupSlots arena.old group.old }
-    requires ticket { CanAdd group.old ticket.now }
-    ensures { IsAdded arena.old group.old ticket.now arena.new group.new }
+    requires ticket { CanAdd group.old new.now }
+    ensures { IsAdded arena.old group.old (ticket_of new.now group.old.next) arena.new group.new }
 {
     if !group.slots.try_take() {
         return;
@@ -207,16 +179,17 @@ pub fn add(arena: &mut Arena<Ticket, 3>, group: &mut GroupSlots, ticket: &Ticket
         return;
     };
     let from = group.lists.free;
-    let to = list_for(&group.lists, &ticket.state);
     let alone = arena.len_of(0, group.lists.running) == 0;
     arena.partition(1);
     arena.partition(2);
-    write(ticket, arena.get_mut(slot));
-    arena.move_to_back(0, slot, to);
-    place_new(arena, &group.lists, slot);
+    write(new, group.next, arena.get_mut(slot));
+    let ticket = arena.get(slot);
+    let to = list_for(&group.lists, &ticket.state);
     count_in(group, ticket);
     note_submit(group, ticket);
     note_move(group, ticket.serial, alone, from, to);
+    arena.move_to_back(0, slot, to);
+    place_new(arena, &group.lists, slot);
     group.next += 1;
 }
 

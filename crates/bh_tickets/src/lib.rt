@@ -7,6 +7,7 @@ mod counts;
 mod group_slots;
 mod growth;
 mod names;
+mod new_ticket;
 mod order;
 mod spare;
 mod states;
@@ -14,5 +15,7 @@ mod sweeps;
 mod tickets;
 mod walks;
 
+pub use changes::RunEnd;
+pub use new_ticket::{NewTicket, TicketStart};
 pub use states::{DueRule, is_running, is_unanswered};
 pub use tickets::Tickets;

@@ -7,20 +7,22 @@ ghost use Rattle.bh_base.specs.declared.ticket.TicketState.TheVariants as ticket
 ghost use Rattle.bh_base.specs.Machine.{released_by_one};
 ghost use Rattle.bh_base.specs.Tickets.{changed_first, in_state, is_busy_at, is_cached_as, is_cached_in, is_held_at, is_in_fallback, is_in_fallback_at, is_kept, is_of, is_queued};
 ghost use Rattle.bh_cache.specs.Cache.{uncached_in};
-ghost use Rattle.bh_tickets.specs.Changes.{answered, fallback_started, is_due_by, joined, queued_in, run_settled, run_started, run_stopped, timed_out_by};
+ghost use Rattle.bh_tickets.specs.Changes.{answered, fallback_started, is_due_by, joined, run_settled, run_started, run_stopped, state_after, timed_out_by};
+ghost use Rattle.bh_tickets.specs.NewTicket.{ticket_of};
 ghost use Rattle.bh_tickets.specs.TicketsView.{CanPush, ChangesOnly, HasPlace, IsFirstAt, IsThere, group_at, in_slot, is_used, no_tickets_in, slots_of};
 ghost use Rattle.bh_serials.specs.TableView.{TableView, with_entry};
 ghost use Rattle.bh_tickets.specs.Whole.{CanChange, IsChanged, IsSerialAt};
 
-use crate::changes::TicketChange;
+use crate::changes::{RunEnd, TicketChange};
 use crate::group_slots::{self, GroupSlots, add, drop_cached, may_be_due};
 use crate::growth::new_arena;
 use crate::names::NameLists;
+use crate::new_ticket::NewTicket;
 use crate::spare::{give_slots, ready_spare, take_place, take_slots, vacant};
 use crate::states::{DueRule, is_due, is_held, is_in_fallback};
 use crate::sweeps::{release, time_out};
 use crate::walks::{any_due_on, any_used_on};
-use bh_base::{Answer, Cause, Serial, Text, Ticket, TicketState};
+use bh_base::{Answer, Cause, Serial, Text, Ticket};
 use bh_serials::SerialTable;
 use bh_slot_arena::Arena;
 use std::alloc::{AllocError, Global};
@@ -329,14 +331,13 @@ impl Tickets {
 
     /// The run of the ticket has ended in time.
     #[inline(always)]
-    pub fn end_run(&mut self, group: usize, slot: u32, state: &TicketState)
+    pub fn end_run(&mut self, group: usize, slot: u32, end: RunEnd)
         requires group { group < length self.old.groups }
         requires there { IsThere (group_at self.old group) slot }
-        requires ended { queued_in state.now ≡ false }
-        ensures items { (p : Ticket → Bool) → IsFirstAt p (group_at self.old group) slot → (group_at self.new group).items ≡ changed_first p (run_settled state.now) (group_at self.old group).items }
+        ensures items { (p : Ticket → Bool) → IsFirstAt p (group_at self.old group) slot → (group_at self.new group).items ≡ changed_first p (run_settled (state_after end.entry)) (group_at self.old group).items }
         ensures left { ChangesOnly group self.old self.new }
     {
-        self.change(group, slot, &TicketChange::EndRun(state));
+        self.change(group, slot, &TicketChange::EndRun(end));
     }
 
     /// The run of the ticket has ended, too late.
@@ -402,12 +403,12 @@ impl Tickets {
         self.change(group, slot, &TicketChange::AddHolder);
     }
 
-    /// A ticket of the next serial, behind the others.
+    /// A new ticket, which gets the next serial and comes behind the others.
     #[inline(always)]
-    pub fn push(&mut self, group: usize, ticket: &Ticket)
+    pub fn push(&mut self, group: usize, new: &NewTicket)
         requires group { group < length self.old.groups }
-        requires ticket { CanPush (group_at self.old group) ticket.now }
-        ensures items { (group_at self.new group).items ≡ (group_at self.old group).items ++ ticket.now ∷ [] }
+        requires ticket { CanPush (group_at self.old group) new.now }
+        ensures items { (group_at self.new group).items ≡ (group_at self.old group).items ++ ticket_of new.now (group_at self.old group).next ∷ [] }
         ensures next { (group_at self.new group).next ≡ (group_at self.old group).next + 1 }
         ensures room { (group_at self.new group).room ≡ (group_at self.old group).room }
         ensures others { (g : ℕ) → g ≢ group → slice_get self.new.groups g ≡ slice_get self.old.groups g }
@@ -416,8 +417,8 @@ impl Tickets {
     {
         let entry = &mut self.groups[group];
         let slot = self.arena.back(0, entry.lists.free);
-        put_slot(&mut self.tables[group], ticket.serial, slot);
-        add(&mut self.arena, entry, ticket);
+        put_slot(&mut self.tables[group], entry.next, slot);
+        add(&mut self.arena, entry, new);
     }
 
     /// No ticket of the context is cached any more; answers how many were.

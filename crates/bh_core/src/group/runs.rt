@@ -1,6 +1,6 @@
 //! Start, finish and fail: the runs of the dependency.
 
-ghost use Rattle.std.specs.Prelude.{◌≡◌, ◌<◌, ◌≤◌, find, false};
+ghost use Rattle.std.specs.Prelude.{◌≡◌, ◌<◌, ◌≤◌, find};
 ghost use Rattle.bh_base.specs.declared.step.Op.TheVariants as op;
 ghost use Rattle.bh_base.specs.Commands.{command_count};
 ghost use Rattle.bh_base.specs.Machine.{pool_busy_count, run_ended};
@@ -8,12 +8,12 @@ ghost use Rattle.bh_base.specs.Order.{AreKnown};
 ghost use Rattle.bh_base.specs.Tickets.{is_busy_at};
 ghost use Rattle.bh_core.specs.Stepping.{IsBounded, IsDone, IsDoneBy, worker_count};
 ghost use Rattle.bh_core.specs.GroupView.{HasTickets, Leaves, view_in};
-ghost use Rattle.bh_tickets.specs.Changes.{queued_in};
+ghost use Rattle.bh_tickets.specs.Changes.{state_after};
 ghost use Rattle.bh_tickets.specs.TicketsView.{group_at};
 
 use super::Group;
-use bh_base::{Answer, Cause, End, EventKind, Reply, Serial, Strategy, Text, TicketState};
-use bh_tickets::{Tickets, is_running};
+use bh_base::{End, EventKind, Reply, Serial, Strategy, Text};
+use bh_tickets::{RunEnd, Tickets, is_running};
 
 impl Group {
     /// The first queued ticket runs, where a worker is free.
@@ -80,11 +80,10 @@ impl Group {
         ensures done { IsDone (view_in tickets.old self.old) (op.Finish serial body.now) reply.new (view_in tickets.new self.new) }
         ensures left { Leaves tickets.old self.old tickets.new self.new }
     {
-        let state = TicketState::Answered(Answer::Value(*body));
         self.end_run(
             tickets,
             serial,
-            &state,
+            RunEnd::Value(body),
             End::Success,
             EventKind::Success,
             reply,
@@ -99,43 +98,40 @@ impl Group {
         ensures left { Leaves tickets.old self.old tickets.new self.new }
     {
         if bad {
-            let state = TicketState::Answered(Answer::BadRequest);
             self.end_run(
                 tickets,
                 serial,
-                &state,
+                RunEnd::BadRequest,
                 End::BadRequest,
                 EventKind::BadRequest,
                 reply,
             );
             return;
         }
-        let state = TicketState::NeedsFallback(Cause::Failure);
         self.end_run(
             tickets,
             serial,
-            &state,
+            RunEnd::Failure,
             End::Error,
             EventKind::Failure,
             reply,
         );
     }
 
-    /// The run of the ticket has ended, and the ticket goes on to the state, unless it had timed out.
+    /// The run of the ticket has ended, and the ticket goes on to what its end brings, unless it had timed out.
     #[inline(always)]
     fn end_run(
         &mut self,
         tickets: &mut Tickets,
         serial: Serial,
-        state: &TicketState,
+        run_end: RunEnd,
         end: End,
         kind: EventKind,
         reply: &mut Reply,
     )
         requires has { HasTickets tickets.old self.old }
         requires bounded { IsBounded (view_in tickets.old self.old) }
-        requires ended { queued_in state.now ≡ false }
-        ensures done { IsDoneBy (view_in tickets.old self.old) (run_ended (find (is_busy_at serial) (view_in tickets.old self.old).present.tickets) serial state.now end kind (view_in tickets.old self.old).present) reply.new (view_in tickets.new self.new) }
+        ensures done { IsDoneBy (view_in tickets.old self.old) (run_ended (find (is_busy_at serial) (view_in tickets.old self.old).present.tickets) serial (state_after run_end.entry) end kind (view_in tickets.old self.old).present) reply.new (view_in tickets.new self.new) }
         ensures left { Leaves tickets.old self.old tickets.new self.new }
     {
         match tickets.find_busy(self.place, serial) {
@@ -148,7 +144,7 @@ impl Group {
                     *reply = Reply::Late;
                     return;
                 }
-                tickets.end_run(self.place, slot, state);
+                tickets.end_run(self.place, slot, run_end);
                 self.record(command, kind);
                 self.tell_circuit(command, serial, end);
                 *reply = Reply::Done;

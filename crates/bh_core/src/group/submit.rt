@@ -7,14 +7,13 @@ ghost use Rattle.bh_base.specs.Order.{AreKnown};
 ghost use Rattle.bh_base.specs.Machine.{due_fallback, is_admitted, placed, rejected, submitted};
 ghost use Rattle.bh_core.specs.Stepping.{IsBounded, IsDone, IsDoneBy, IsJoinable, asked_with, rolling_now, view_with_ticket};
 ghost use Rattle.bh_core.specs.GroupView.{HasTickets, Leaves, view_in};
+ghost use Rattle.bh_tickets.specs.NewTicket.{is_busy_from, state_from};
 ghost use Rattle.bh_tickets.specs.TicketsView.{group_at};
 
 use super::Group;
 use bh_admit::pool_admits;
-use bh_base::{
-    Admit, Cause, End, EventKind, Health, Reply, Request, Serial, Strategy, Ticket, TicketState,
-};
-use bh_tickets::Tickets;
+use bh_base::{Admit, Cause, End, EventKind, Health, Reply, Request, Serial, Strategy};
+use bh_tickets::{NewTicket, TicketStart, Tickets};
 
 impl Group {
     /// A request comes in: it joins a cached ticket, or asks for one of its own.
@@ -137,12 +136,12 @@ impl Group {
         let serial = tickets.next_serial(self.place);
         match self.props.command(request.command).strategy {
             Strategy::Semaphore => {
-                self.add_ticket(tickets, request, &TicketState::Running, true, test);
+                self.add_ticket(tickets, request, TicketStart::Running, test);
                 write_inline(serial, reply);
                 return;
             }
             Strategy::Thread => {
-                self.add_ticket(tickets, request, &TicketState::Queued, false, test);
+                self.add_ticket(tickets, request, TicketStart::Queued, test);
                 write_queued(serial, reply);
                 return;
             }
@@ -223,47 +222,29 @@ impl Group {
         ensures left { Leaves tickets.old self.old tickets.new self.new }
     {
         let serial = tickets.next_serial(self.place);
-        self.add_ticket(
-            tickets,
-            request,
-            &TicketState::NeedsFallback(cause),
-            false,
-            test,
-        );
+        self.add_ticket(tickets, request, TicketStart::NeedsFallback(cause), test);
         self.record(request.command, event);
         *reply = Reply::FallbackDue { serial, cause };
     }
 
     /// Makes the ticket of a request.
     #[inline(always)]
-    fn add_ticket(
-        &self,
-        tickets: &mut Tickets,
-        request: &Request,
-        state: &TicketState,
-        busy: bool,
-        test: bool,
-    )
+    fn add_ticket(&self, tickets: &mut Tickets, request: &Request, start: TicketStart, test: bool)
         requires has { HasTickets tickets.old self.now }
         requires bounded { IsBounded (view_in tickets.old self.now) }
         requires known { request.now.command < command_count self.now.props }
         requires free { length (view_in tickets.old self.now).present.tickets < (view_in tickets.old self.now).present.props.slots }
-        ensures view { view_in tickets.new self.now ≡ view_with_ticket request.now state.now busy test (view_in tickets.old self.now) }
+        ensures view { view_in tickets.new self.now ≡ view_with_ticket request.now (state_from start) (is_busy_from start) test (view_in tickets.old self.now) }
         ensures left { Leaves tickets.old self.now tickets.new self.now }
     {
-        let ticket = Ticket {
-            serial: tickets.next_serial(self.place),
-            command: request.command,
-            arg: request.arg,
-            cache: request.cache,
+        let new = NewTicket {
+            request,
             submitted: self.latest,
-            state: *state,
-            busy,
-            holders: 1,
+            start,
             cached: self.props.command(request.command).cache_on && request.cache.is_some(),
             test,
         };
-        tickets.push(self.place, &ticket);
+        tickets.push(self.place, &new);
     }
 }
 
