@@ -8,14 +8,14 @@ use Rattle.bh_base.specs.Tickets.{is_cached_as, is_cached_in}
 use Rattle.bh_slot_arena.specs.Slots.{slots_on}
 use Rattle.bh_cache.specs.declared.lists.GroupLists.{GroupLists}
 use Rattle.bh_cache.specs.Cache.{earliest}
-use Rattle.bh_cache.specs.Chains.{AreOn, IsChained, context_chain, list_by_context, list_by_name, list_of_context, list_of_name, name_chain}
+use Rattle.bh_cache.specs.Chains.{AreOn, IsChained, context_chain, list_by_context, list_by_name, list_of_context, list_of_name, name_chain, unchained}
 use Rattle.bh_cache.specs.Slots.{Slots, IsArena, has, has_one, is_on, is_live, ticket_at}
 use Rattle.bh_cache.proofs.Earliest.{IsBest, best_among, earliest_best}
-use Rattle.bh_cache.proofs.Placed.{context_chain_not_outside, name_chain_not_unnamed}
+use Rattle.bh_cache.proofs.Placed.{context_chain_before_end, name_chain_before_end}
 
-module _ (a : Slots) (g : GroupLists) (f first last : ℕ) (to : Option Ticket → ℕ) (are : AreOn f first last to a g) where
-  -- a slot of the group that lies on another list than those without a ticket has one
-  pub live_on : IsArena a f → (l x : ℕ) → first ≤ l → l ≤ last → (l ≡ to None → ⊥) → is_on a f l x ≡ true → is_live a g x ≡ true
+module _ (a : Slots) (g : GroupLists) (f first end : ℕ) (to : Option Ticket → ℕ) (are : AreOn f first end to a g) where
+  -- a slot of the group that lies on a chain has a ticket
+  pub live_on : IsArena a f → (l x : ℕ) → first ≤ l → l < end → (l ≡ to None → ⊥) → is_on a f l x ≡ true → is_live a g x ≡ true
   live_on arena l x from til ne on = by (is_live a g x) refl
     where
       by : (b : Bool) → is_live a g x ≡ b → b ≡ true
@@ -59,7 +59,7 @@ module _ (g : GroupLists) (name : ℕ × List ℕ) where
   on_name : (command : ℕ) (t : Ticket) → is_cached_as command name t ≡ true → list_by_name g (Some t) ≡ name_chain g name
   on_name command t e = of (t.command == command) e
     where
-      by : (b : Bool) (o : Option (ℕ × List ℕ)) → (b && elim o [ None ↦ false | Some given ↦ (given.0 == name.0) && pointwise nat_eq given.1 name.1 ]) ≡ true → (if b then list_of_name g o else g.unnamed) ≡ name_chain g name
+      by : (b : Bool) (o : Option (ℕ × List ℕ)) → (b && elim o [ None ↦ false | Some given ↦ (given.0 == name.0) && pointwise nat_eq given.1 name.1 ]) ≡ true → (if b then list_of_name g o else unchained) ≡ name_chain g name
       by false o e = absurd cc
       by true None e = absurd cc
       by true (Some given) e = ap (name_chain g) (same_name name given e)
@@ -73,17 +73,17 @@ pub name_best : (a : Slots) (g : GroupLists) (command : ℕ) (name : ℕ × List
     → IsBest (is_cached_as command name) a.payloads (is_live a g) r
 name_best a g command name chained arena r is =
     let p : Ticket → Bool = is_cached_as command name in
-    let k = name_chain_not_unnamed a g chained.lists name in
+    let k = name_chain_before_end a g chained.lists name in
     let nothing : IsBest p a.payloads (λ y. false) None = λ y e. absurd cc in
     let along : IsBest p a.payloads (λ y. is_on a 1 (name_chain g name) y) r = subst (IsBest p a.payloads (λ y. is_on a 1 (name_chain g name) y)) (sym is) (earliest_best p a.payloads (slots_on a 1 (name_chain g name)) (λ y. false) None nothing) in
     best_among p a.payloads (λ y. is_on a 1 (name_chain g name) y) (is_live a g)
-    (λ x on. live_on a g 1 g.names g.unnamed (list_by_name g) chained.names arena (name_chain g name) x (omega arith) (omega (arith, k, chained.lists.unnamed)) (λ q. absurd (omega (arith, k, q, chained.lists.unnamed))) on)
+    (λ x on. live_on a g 1 g.names g.names_end (list_by_name g) chained.names arena (name_chain g name) x (omega arith) k (λ q. absurd (omega (arith, q, chained.lists.names_behind))) on)
     (λ x live q. back x (slice_get a.payloads x) live refl q)
     r along
   where
     back : (x : ℕ) (o : Option Ticket) → is_live a g x ≡ true → slice_get a.payloads x ≡ o → has_one (is_cached_as command name) o ≡ true → is_on a 1 (name_chain g name) x ≡ true
     back x None live is e = absurd cc
-    back x (Some t) live is e = ap (λ l. is_on a 1 l x) (sym (on_name g name command t e)) ∙ on_live a g 1 g.names g.unnamed (list_by_name g) chained.names x t live is
+    back x (Some t) live is e = ap (λ l. is_on a 1 l x) (sym (on_name g name command t e)) ∙ on_live a g 1 g.names g.names_end (list_by_name g) chained.names x t live is
 
 -- ---- by request context
 
@@ -102,23 +102,23 @@ on_context g context t e = by t.cached t.cache e
       | inr ne ↦ let k : false ≡ true = sym (ne_eqb name.0 context ne) ∙ e in absurd cc
     ]
 
-    by : (b : Bool) (o : Option (ℕ × List ℕ)) → (b && elim o [ None ↦ false | Some given ↦ given.0 == context ]) ≡ true → (if b then list_of_context g o else g.outside) ≡ context_chain g context
+    by : (b : Bool) (o : Option (ℕ × List ℕ)) → (b && elim o [ None ↦ false | Some given ↦ given.0 == context ]) ≡ true → (if b then list_of_context g o else unchained) ≡ context_chain g context
     by false o e = absurd cc
     by true None e = absurd cc
     by true (Some name) e = ap (context_chain g) (of name e)
 
 module _ (a : Slots) (g : GroupLists) (chained : IsChained a g) (arena : IsArena a 2) where
   -- a slot on a chain by context has a ticket
-  pub live_on_chain : (l x : ℕ) → g.contexts ≤ l → l < g.outside → is_on a 2 l x ≡ true → is_live a g x ≡ true
-  live_on_chain l x from to on = live_on a g 2 g.contexts g.outside (list_by_context g) chained.contexts arena l x from (omega (arith, to)) (λ q. absurd (omega (arith, to, q))) on
+  pub live_on_chain : (l x : ℕ) → g.contexts ≤ l → l < g.contexts_end → is_on a 2 l x ≡ true → is_live a g x ≡ true
+  live_on_chain l x from to on = live_on a g 2 g.contexts g.contexts_end (list_by_context g) chained.contexts arena l x from to (λ q. absurd (omega (arith, from, q, chained.lists.contexts_behind))) on
 
   -- the chain of a context has each slot whose ticket is cached in it
   pub chain_has_all : (context : ℕ) → HaveAllCached context a g (slots_on a 2 (context_chain g context))
   chain_has_all context = record {
-    live = λ x on. live_on_chain (context_chain g context) x (omega arith) (context_chain_not_outside a g chained.lists context) on;
+    live = λ x on. live_on_chain (context_chain g context) x (omega arith) (context_chain_before_end a g chained.lists context) on;
     all = λ x live cached. by x (slice_get a.payloads x) live refl cached;
   }
     where
       by : (x : ℕ) (o : Option Ticket) → is_live a g x ≡ true → slice_get a.payloads x ≡ o → has_one (is_cached_in context) o ≡ true → is_on a 2 (context_chain g context) x ≡ true
       by x None live is e = absurd cc
-      by x (Some t) live is e = ap (λ l. is_on a 2 l x) (sym (on_context g context t e)) ∙ on_live a g 2 g.contexts g.outside (list_by_context g) chained.contexts x t live is
+      by x (Some t) live is e = ap (λ l. is_on a 2 l x) (sym (on_context g context t e)) ∙ on_live a g 2 g.contexts g.contexts_end (list_by_context g) chained.contexts x t live is

@@ -1,13 +1,13 @@
 -- The chains of a group: where its slots lie, and what stays as one of them is placed.
 use Rattle.std.proofs.lemmas.Nat.{and_le_r}
-use Rattle.std.proofs.Common.{◌≡◌, ℕ, ◌-◌, ◌<◌, ◌≤◌, inl, inr, Bool, true, false, List, [], length, get_or, Option, Some, None, refl, ◌∙◌, sym, ap, subst, arith}
+use Rattle.std.proofs.Common.{◌≡◌, ℕ, ◌-◌, ◌<◌, ◌≤◌, ◌⊎◌, inl, inr, Bool, true, false, List, [], length, get_or, Option, Some, None, refl, ◌∙◌, sym, ap, subst, arith}
 use Rattle.std.specs.Prelude.{◌||◌, ◌&&◌, eqb, is_some, slice_get, if◌then◌else◌}
 use Rattle.std.proofs.lemmas.Bool.{cases_eq, eq-eqb, ne_eqb}
 use Rattle.bh_base.specs.declared.ticket.Ticket.{Ticket}
 use Rattle.bh_index_lists.specs.Lists.{without}
 use Rattle.bh_slot_arena.specs.Slots.{lists_in, slots_on, with_moved}
 use Rattle.bh_cache.specs.declared.lists.GroupLists.{GroupLists}
-use Rattle.bh_cache.specs.Chains.{AreOn, HasChains, IsChained, IsChainFrame, KeepsLists, context_chain, is_named, list_by_context, list_by_name, list_of_context, list_of_name, name_chain, with_placed, with_placed_where}
+use Rattle.bh_cache.specs.Chains.{AreOn, HasChains, IsChained, IsChainFrame, KeepsLists, context_chain, is_named, list_by_context, list_by_name, list_of_context, list_of_name, name_chain, unchained, with_placed, with_placed_where}
 use Rattle.bh_cache.specs.Names.{place_of_name}
 use Rattle.bh_cache.specs.Places.{home_of, place_among, place_of_context}
 use Rattle.bh_cache.specs.Slots.{Slots, IsArena, has, is_on, is_live, is_owned, ticket_at}
@@ -26,35 +26,51 @@ home_within n context some = let k = and_le_r (home_of context) (n - 1) in omega
 
 -- ---- the lists on which slots are placed
 
--- where a list is one of the lists up to the last, so is that or the last
-either_within : (first last l : ℕ) (b : Bool) → first ≤ last → (first ≤ l) × (l ≤ last) → (first ≤ (if b then l else last)) × ((if b then l else last) ≤ last)
-either_within first last l true some k = k
-either_within first last l false some k = (some, omega arith)
+-- the list is the shared one, or one of the chains
+abbrev pub IsListOf : ℕ → ℕ → ℕ → Type 0
+IsListOf first end l = (l ≡ unchained) ⊎ ((first ≤ l) × (l < end))
+
+-- it is there where the chains are, behind the shared one
+pub list_there : (first end l count : ℕ) → IsListOf first end l → unchained < first → first < end → end ≤ count → l < count
+list_there first end l count (inl e) behind some there = omega (arith, e, behind, some, there)
+list_there first end l count (inr k) behind some there = omega (arith, k.1, there)
+
+-- where a list is one of the group's, so is that or the shared one
+either_within : (first end l : ℕ) (b : Bool) → IsListOf first end l → IsListOf first end (if b then l else unchained)
+either_within first end l true k = k
+either_within first end l false k = inl refl
 
 module _ (a : Slots) (g : GroupLists) (chains : HasChains a g) where
-  pub name_chain_not_unnamed : (name : ℕ × List ℕ) → name_chain g name < g.unnamed
-  name_chain_not_unnamed name = let k = place_within (g.unnamed - g.names) name (omega (arith, chains.unnamed)) in omega (arith, k, chains.unnamed)
+  pub name_chain_before_end : (name : ℕ × List ℕ) → name_chain g name < g.names_end
+  name_chain_before_end name = let k = place_within (g.names_end - g.names) name (omega (arith, chains.names_some)) in omega (arith, k, chains.names_some)
 
-  pub context_chain_not_outside : (context : ℕ) → context_chain g context < g.outside
-  context_chain_not_outside context = let k = home_within (g.outside - g.contexts) context (omega (arith, chains.outside)) in omega (arith, k, chains.outside)
+  pub context_chain_before_end : (context : ℕ) → context_chain g context < g.contexts_end
+  context_chain_before_end context = let k = home_within (g.contexts_end - g.contexts) context (omega (arith, chains.contexts_some)) in omega (arith, k, chains.contexts_some)
 
-  of_name_within : (o : Option (ℕ × List ℕ)) → (g.names ≤ list_of_name g o) × (list_of_name g o ≤ g.unnamed)
-  of_name_within None = (omega (arith, chains.unnamed), omega arith)
-  of_name_within (Some name) = let k = name_chain_not_unnamed name in (omega arith, omega (arith, k))
+  of_name_within : (o : Option (ℕ × List ℕ)) → IsListOf g.names g.names_end (list_of_name g o)
+  of_name_within None = inl refl
+  of_name_within (Some name) = let k = name_chain_before_end name in inr (omega arith, omega (arith, k))
 
-  of_context_within : (o : Option (ℕ × List ℕ)) → (g.contexts ≤ list_of_context g o) × (list_of_context g o ≤ g.outside)
-  of_context_within None = (omega (arith, chains.outside), omega arith)
-  of_context_within (Some name) = let k = context_chain_not_outside name.0 in (omega arith, omega (arith, k))
+  of_context_within : (o : Option (ℕ × List ℕ)) → IsListOf g.contexts g.contexts_end (list_of_context g o)
+  of_context_within None = inl refl
+  of_context_within (Some name) = let k = context_chain_before_end name.0 in inr (omega arith, omega (arith, k))
 
-  -- a slot is placed on one of the group's lists of the second family
-  pub name_list_within : (o : Option Ticket) → (g.names ≤ list_by_name g o) × (list_by_name g o ≤ g.unnamed)
-  name_list_within None = (omega (arith, chains.unnamed), omega arith)
-  name_list_within (Some t) = either_within g.names g.unnamed (list_of_name g t.cache) t.cached (omega (arith, chains.unnamed)) (of_name_within t.cache)
+  -- a slot is placed on the shared list of the second family or on one of the group's chains
+  pub name_list_within : (o : Option Ticket) → IsListOf g.names g.names_end (list_by_name g o)
+  name_list_within None = inl refl
+  name_list_within (Some t) = either_within g.names g.names_end (list_of_name g t.cache) t.cached (of_name_within t.cache)
 
-  -- and on one of the third
-  pub context_list_within : (o : Option Ticket) → (g.contexts ≤ list_by_context g o) × (list_by_context g o ≤ g.outside)
-  context_list_within None = (omega (arith, chains.outside), omega arith)
-  context_list_within (Some t) = either_within g.contexts g.outside (list_of_context g t.cache) t.cached (omega (arith, chains.outside)) (of_context_within t.cache)
+  -- and so in the third
+  pub context_list_within : (o : Option Ticket) → IsListOf g.contexts g.contexts_end (list_by_context g o)
+  context_list_within None = inl refl
+  context_list_within (Some t) = either_within g.contexts g.contexts_end (list_of_context g t.cache) t.cached (of_context_within t.cache)
+
+  -- that list is there
+  pub name_list_there : (o : Option Ticket) → list_by_name g o < length (lists_in a 1)
+  name_list_there o = list_there g.names g.names_end (list_by_name g o) (length (lists_in a 1)) (name_list_within o) chains.names_behind chains.names_some chains.names_there
+
+  pub context_list_there : (o : Option Ticket) → list_by_context g o < length (lists_in a 2)
+  context_list_there o = list_there g.contexts g.contexts_end (list_by_context g o) (length (lists_in a 2)) (context_list_within o) chains.contexts_behind chains.contexts_some chains.contexts_there
 
 -- slots that have these tickets, or none, are placed on the same lists
 abbrev pub LieAlike : GroupLists → Option Ticket → Option Ticket → Type 0
@@ -74,7 +90,7 @@ pub unnamed_alike : (g : GroupLists) (o : Option Ticket) → is_named o ≡ fals
 unnamed_alike g None e = (refl, refl)
 unnamed_alike g (Some t) e = by t.cached t.cache e
   where
-    by : (b : Bool) (o : Option (ℕ × List ℕ)) → (b && is_some o) ≡ false → ((if b then list_of_name g o else g.unnamed) ≡ g.unnamed) × ((if b then list_of_context g o else g.outside) ≡ g.outside)
+    by : (b : Bool) (o : Option (ℕ × List ℕ)) → (b && is_some o) ≡ false → ((if b then list_of_name g o else unchained) ≡ unchained) × ((if b then list_of_context g o else unchained) ≡ unchained)
     by false o f = (refl, refl)
     by true None f = (refl, refl)
     by true (Some name) f = absurd cc
@@ -96,7 +112,7 @@ module _ (a b : Slots) (g : GroupLists) (same : lists_in b 0 ≡ lists_in a 0) w
 
 -- ---- one family
 
-module _ (f first last : ℕ) (to : Option Ticket → ℕ) (a b : Slots) (g : GroupLists) (was : AreOn f first last to a g)
+module _ (f first end : ℕ) (to : Option Ticket → ℕ) (a b : Slots) (g : GroupLists) (was : AreOn f first end to a g)
     (owned : (y : ℕ) → is_owned b g y ≡ is_owned a g y) where
   module _ (x : ℕ) (here : is_owned a g x ≡ true) (others : (y : ℕ) → (y ≡ x → ⊥) → ticket_at b g y ≡ ticket_at a g y)
       (on : (l y : ℕ) → is_on b f l y ≡ (if eqb y x then eqb l (to (ticket_at b g x)) else is_on a f l y)) where
@@ -107,7 +123,7 @@ module _ (f first last : ℕ) (to : Option Ticket → ℕ) (a b : Slots) (g : Gr
     stay l y ne = on l y ∙ ap (λ c. if c then eqb l (to (ticket_at b g x)) else is_on a f l y) (ne_eqb y x ne)
 
     -- where one slot of the group is put on the list for what it has, and all others stay, each lies on the list for what it has
-    pub rechained : AreOn f first last to b g
+    pub rechained : AreOn f first end to b g
     rechained = record {
       placed = λ y own. elim (cases_eq y x) [
         | inl e ↦ subst (λ z. is_on b f (to (ticket_at b g z)) z ≡ true) (sym e) there
@@ -120,40 +136,52 @@ module _ (f first last : ℕ) (to : Option Ticket → ℕ) (a b : Slots) (g : Gr
     }
 
   -- where the lists of the family are the same, and for each slot the list for what it has, each lies on it
-  pub chained_still : lists_in b f ≡ lists_in a f → ((y : ℕ) → to (ticket_at b g y) ≡ to (ticket_at a g y)) → AreOn f first last to b g
+  pub chained_still : lists_in b f ≡ lists_in a f → ((y : ℕ) → to (ticket_at b g y) ≡ to (ticket_at a g y)) → AreOn f first end to b g
   chained_still same lists = record {
     placed = λ y own. ap (λ (ls : List (List ℕ)). has y (get_or ls (to (ticket_at b g y)) [])) same ∙ ap (λ l. is_on a f l y) (lists y) ∙ was.placed y (sym (owned y) ∙ own);
     owned = λ l y from til on. owned y ∙ was.owned l y from til (sym (ap (λ (ls : List (List ℕ)). has y (get_or ls l [])) same) ∙ on);
   }
 
--- a move of a slot of the group among the group's lists leaves the others
-pub keeps_moved : (f first last : ℕ) (to : Option Ticket → ℕ) (a b : Slots) (g : GroupLists) (x l : ℕ) → AreOn f first last to a g → IsArena a f → f < length b.families → lists_in b f ≡ lists_in a f
-    → ((o : Option Ticket) → (first ≤ to o) × (to o ≤ last)) → is_owned a g x ≡ true → first ≤ l → l ≤ last → KeepsLists f first last a (with_moved f x l b)
-keeps_moved f first last to a b g x l was arena wide same within here from til = record {
+-- a move of a slot of the group among the shared list and the group's chains leaves the others
+pub keeps_moved : (f first end : ℕ) (to : Option Ticket → ℕ) (a b : Slots) (g : GroupLists) (x l : ℕ) → AreOn f first end to a g → IsArena a f → f < length b.families → lists_in b f ≡ lists_in a f
+    → ((o : Option Ticket) → IsListOf first end (to o)) → is_owned a g x ≡ true → IsListOf first end l → l < length (lists_in b f) → KeepsLists f first end g a (with_moved f x l b)
+keeps_moved f first end to a b g x l was arena wide same within here list there = record {
   count = lists_count b f x l wide ∙ ap (λ (ls : List (List ℕ)). length ls) same;
-  lists = λ m out.
-      list_not_to b f x l wide m (λ e. out (omega (arith, e, from), omega (arith, e, til)))
+  lists = λ m ne out.
+      list_not_to b f x l wide m (λ e. neither m ne out l list e)
       ∙ ap (λ (ls : List (List ℕ)). without x (get_or ls m [])) same
-      ∙ without_absent x (slots_on a f m) (away m out (is_on a f m x) refl);
+      ∙ without_absent x (slots_on a f m) (away m ne out (is_on a f m x) refl);
+  others = λ y out.
+      on_moved b f x l wide there unchained y
+      ∙ ap (λ c. if c then eqb unchained l else is_on b f unchained y) (ne_eqb y x (other y out))
+      ∙ ap (λ (ls : List (List ℕ)). has y (get_or ls unchained [])) same;
 }
   where
-    away : (m : ℕ) → ((first ≤ m) × (m ≤ last) → ⊥) → (c : Bool) → is_on a f m x ≡ c → c ≡ false
-    away m out false e = refl
-    away m out true e =
-        let k : m ≡ to (ticket_at a g x) = arena.apart m (to (ticket_at a g x)) x e (was.placed x here) in
-        let w = within (ticket_at a g x) in
-        absurd (out (omega (arith, k, w.0), omega (arith, k, w.1)))
+    neither : (m : ℕ) → (m ≡ unchained → ⊥) → ((first ≤ m) × (m < end) → ⊥) → (k : ℕ) → IsListOf first end k → m ≡ k → ⊥
+    neither m ne out k (inl q) e = ne (e ∙ q)
+    neither m ne out k (inr w) e = out (omega (arith, e, w.0), omega (arith, e, w.1))
 
-keeps_same : (f first last : ℕ) (a b : Slots) → lists_in b f ≡ lists_in a f → KeepsLists f first last a b
-keeps_same f first last a b same = record {
+    away : (m : ℕ) → (m ≡ unchained → ⊥) → ((first ≤ m) × (m < end) → ⊥) → (c : Bool) → is_on a f m x ≡ c → c ≡ false
+    away m ne out false e = refl
+    away m ne out true e =
+        let k : m ≡ to (ticket_at a g x) = arena.apart m (to (ticket_at a g x)) x e (was.placed x here) in
+        absurd (neither m ne out (to (ticket_at a g x)) (within (ticket_at a g x)) k)
+
+    other : (y : ℕ) → is_owned a g y ≡ false → y ≡ x → ⊥
+    other y out e = let k : true ≡ false = sym here ∙ ap (is_owned a g) (sym e) ∙ out in absurd cc
+
+keeps_same : (f first end : ℕ) (g : GroupLists) (a b : Slots) → lists_in b f ≡ lists_in a f → KeepsLists f first end g a b
+keeps_same f first end g a b same = record {
   count = ap (λ (ls : List (List ℕ)). length ls) same;
-  lists = λ l out. ap (λ (ls : List (List ℕ)). get_or ls l []) same;
+  lists = λ l ne out. ap (λ (ls : List (List ℕ)). get_or ls l []) same;
+  others = λ x out. ap (λ (ls : List (List ℕ)). has x (get_or ls unchained [])) same;
 }
 
-keeps_both : (f first last : ℕ) (a b c : Slots) → KeepsLists f first last a b → KeepsLists f first last b c → KeepsLists f first last a c
-keeps_both f first last a b c p q = record {
+keeps_both : (f first end : ℕ) (g : GroupLists) (a b c : Slots) → ((x : ℕ) → is_owned b g x ≡ is_owned a g x) → KeepsLists f first end g a b → KeepsLists f first end g b c → KeepsLists f first end g a c
+keeps_both f first end g a b c owned p q = record {
   count = q.count ∙ p.count;
-  lists = λ l out. q.lists l out ∙ p.lists l out;
+  lists = λ l ne out. q.lists l ne out ∙ p.lists l ne out;
+  others = λ x out. q.others x (owned x ∙ out) ∙ p.others x out;
 }
 
 -- ---- chains that stay
@@ -161,36 +189,40 @@ keeps_both f first last a b c p q = record {
 -- the lists of the chains are there, where there are as many lists as before
 still_there : (a b : Slots) (g : GroupLists) → HasChains a g → length (lists_in b 1) ≡ length (lists_in a 1) → length (lists_in b 2) ≡ length (lists_in a 2) → HasChains b g
 still_there a b g there names contexts = record {
-  unnamed = there.unnamed;
+  names_behind = there.names_behind;
+  names_some = there.names_some;
   names_there = omega (arith, there.names_there, names);
-  outside = there.outside;
+  contexts_behind = there.contexts_behind;
+  contexts_some = there.contexts_some;
   contexts_there = omega (arith, there.contexts_there, contexts);
 }
 
--- where the second and the third family stay, so do the chains of other groups
-pub frame_same : (g : GroupLists) (a b : Slots) → lists_in b 1 ≡ lists_in a 1 → lists_in b 2 ≡ lists_in a 2 → IsChainFrame g a b
-frame_same g a b names contexts = record {
-  names = keeps_same 1 g.names g.unnamed a b names;
-  contexts = keeps_same 2 g.contexts g.outside a b contexts;
+-- where the group's slots are the same, and the second and the third family stay, so do the chains of other groups
+pub frame_same : (g : GroupLists) (a b : Slots) → ((y : ℕ) → is_owned b g y ≡ is_owned a g y) → lists_in b 1 ≡ lists_in a 1 → lists_in b 2 ≡ lists_in a 2 → IsChainFrame g a b
+frame_same g a b owned names contexts = record {
+  owned = owned;
+  names = keeps_same 1 g.names g.names_end g a b names;
+  contexts = keeps_same 2 g.contexts g.contexts_end g a b contexts;
 }
 
 pub frame_refl : (g : GroupLists) (a : Slots) → IsChainFrame g a a
-frame_refl g a = frame_same g a a refl refl
+frame_refl g a = frame_same g a a (λ y. refl) refl refl
 
 -- what stays twice stays
 pub frame_trans : (g : GroupLists) (a b c : Slots) → IsChainFrame g a b → IsChainFrame g b c → IsChainFrame g a c
 frame_trans g a b c p q = record {
-  names = keeps_both 1 g.names g.unnamed a b c p.names q.names;
-  contexts = keeps_both 2 g.contexts g.outside a b c p.contexts q.contexts;
+  owned = λ x. q.owned x ∙ p.owned x;
+  names = keeps_both 1 g.names g.names_end g a b c p.owned p.names q.names;
+  contexts = keeps_both 2 g.contexts g.contexts_end g a b c p.owned p.contexts q.contexts;
 }
 
 -- where no slot's lists change, each slot still lies where it is placed
 pub chained_same : (a b : Slots) (g : GroupLists) → IsChained a g → lists_in b 1 ≡ lists_in a 1 → lists_in b 2 ≡ lists_in a 2 → ((y : ℕ) → is_owned b g y ≡ is_owned a g y)
     → ((y : ℕ) → LieAlike g (ticket_at b g y) (ticket_at a g y)) → IsChained b g
-chained_same a b g was names contexts owned alike = let frame = frame_same g a b names contexts in record {
+chained_same a b g was names contexts owned alike = let frame = frame_same g a b owned names contexts in record {
   lists = still_there a b g was.lists frame.names.count frame.contexts.count;
-  names = chained_still 1 g.names g.unnamed (list_by_name g) a b g was.names owned names (λ y. (alike y).0);
-  contexts = chained_still 2 g.contexts g.outside (list_by_context g) a b g was.contexts owned contexts (λ y. (alike y).1);
+  names = chained_still 1 g.names g.names_end (list_by_name g) a b g was.names owned names (λ y. (alike y).0);
+  contexts = chained_still 2 g.contexts g.contexts_end (list_by_context g) a b g was.contexts owned contexts (λ y. (alike y).1);
 }
 
 -- ---- a slot is placed
@@ -236,16 +268,15 @@ module _ (a : Slots) (g : GroupLists) (x : ℕ) (o : Option Ticket) where
       -- in the second family the slot lies on its list and on no other, and all others lie as they did
       pub on_names : (l y : ℕ) → is_on (with_placed g x o a) 1 l y ≡ (if eqb y x then eqb l (list_by_name g o) else is_on a 1 l y)
       on_names l y =
-          let k = name_list_within a g chains o in
           ap (λ (ls : List (List ℕ)). has y (get_or ls l [])) names_placed
-          ∙ on_moved a 1 x (list_by_name g o) (omega (arith, wide)) (omega (arith, k.1, chains.names_there)) l y
+          ∙ on_moved a 1 x (list_by_name g o) (omega (arith, wide)) (name_list_there a g chains o) l y
 
       -- and so in the third
       pub on_contexts : (l y : ℕ) → is_on (with_placed g x o a) 2 l y ≡ (if eqb y x then eqb l (list_by_context g o) else is_on a 2 l y)
       on_contexts l y =
-          let k = context_list_within a g chains o in
+          let k = context_list_there a g chains o in
           let count = ap (λ (ls : List (List ℕ)). length ls) contexts_before in
-          on_moved named 2 x (list_by_context g o) (omega (arith, wide, families_named)) (omega (arith, k.1, chains.contexts_there, count)) l y
+          on_moved named 2 x (list_by_context g o) (omega (arith, wide, families_named)) (omega (arith, k, count)) l y
           ∙ ap (λ (ls : List (List ℕ)). if eqb y x then eqb l (list_by_context g o) else has y (get_or ls l [])) contexts_before
 
 module _ (a b : Slots) (g : GroupLists) (x : ℕ) (o : Option Ticket) (was : IsChained a g) (names : IsArena a 1) (contexts : IsArena a 2) (unplaced : IsUnplaced g x a b) where
@@ -256,25 +287,27 @@ module _ (a b : Slots) (g : GroupLists) (x : ℕ) (o : Option Ticket) (was : IsC
   wide = omega (arith, contexts.wide, unplaced.wide)
 
   chains : HasChains b g
-  chains = let same = frame_same g a b unplaced.names unplaced.contexts in still_there a b g was.lists same.names.count same.contexts.count
-
-  -- the chains of other groups are as before
-  pub frame_placed : IsChainFrame g a after
-  frame_placed =
-      let n = name_list_within a g was.lists o in
-      let k = context_list_within a g was.lists o in
-      let by_name = keeps_moved 1 g.names g.unnamed (list_by_name g) a b g x (list_by_name g o) was.names names (omega (arith, wide)) unplaced.names (name_list_within a g was.lists) unplaced.here n.0 n.1 in
-      let other : KeepsLists 1 g.names g.unnamed (with_moved 1 x (list_by_name g o) b) after = keeps_same 1 g.names g.unnamed (with_moved 1 x (list_by_name g o) b) after (names_placed b g x o) in
-      record {
-        names = keeps_both 1 g.names g.unnamed a (with_moved 1 x (list_by_name g o) b) after by_name other;
-        contexts =
-            keeps_moved 2 g.contexts g.outside (list_by_context g) a (with_moved 1 x (list_by_name g o) b) g x (list_by_context g o) was.contexts contexts (omega (arith, wide, families_named b g x o))
-            (contexts_before b g x o ∙ unplaced.contexts) (context_list_within a g was.lists) unplaced.here k.0 k.1;
-      }
+  chains = let same = frame_same g a b unplaced.owned unplaced.names unplaced.contexts in still_there a b g was.lists same.names.count same.contexts.count
 
   -- the slots of the group are those before it was placed
   owned_placed : (y : ℕ) → is_owned after g y ≡ is_owned a g y
   owned_placed y = owned_same b after g (first_placed b g x o) y ∙ unplaced.owned y
+
+  -- the chains of other groups are as before
+  pub frame_placed : IsChainFrame g a after
+  frame_placed =
+      let middle : Slots = with_moved 1 x (list_by_name g o) b in
+      let there : list_by_context g o < length (lists_in middle 2) = subst (λ (ls : List (List ℕ)). list_by_context g o < length ls) (sym (contexts_before b g x o)) (context_list_there b g chains o) in
+      let by_name = keeps_moved 1 g.names g.names_end (list_by_name g) a b g x (list_by_name g o) was.names names (omega (arith, wide)) unplaced.names (name_list_within a g was.lists) unplaced.here (name_list_within a g was.lists o) (name_list_there b g chains o) in
+      let other : KeepsLists 1 g.names g.names_end g middle after = keeps_same 1 g.names g.names_end g middle after (names_placed b g x o) in
+      let owned_middle : (y : ℕ) → is_owned middle g y ≡ is_owned a g y = λ y. owned_same b middle g (family_stays b 1 0 x (list_by_name g o) (λ e. absurd (omega (arith, e)))) y ∙ unplaced.owned y in
+      record {
+        owned = owned_placed;
+        names = keeps_both 1 g.names g.names_end g a middle after owned_middle by_name other;
+        contexts =
+            keeps_moved 2 g.contexts g.contexts_end (list_by_context g) a middle g x (list_by_context g o) was.contexts contexts (omega (arith, wide, families_named b g x o))
+            (contexts_before b g x o ∙ unplaced.contexts) (context_list_within a g was.lists) unplaced.here (context_list_within a g was.lists o) there;
+      }
 
   ticket_placed : (y : ℕ) → ticket_at after g y ≡ ticket_at b g y
   ticket_placed y = ticket_same b after g (first_placed b g x o) y refl
@@ -283,8 +316,8 @@ module _ (a b : Slots) (g : GroupLists) (x : ℕ) (o : Option Ticket) (was : IsC
   pub chained_placed : o ≡ ticket_at b g x → IsChained after g
   chained_placed is = record {
     lists = still_there a after g was.lists frame_placed.names.count frame_placed.contexts.count;
-    names = rechained 1 g.names g.unnamed (list_by_name g) a after g was.names owned_placed x unplaced.here others (λ l y. on_names b g x o wide chains l y ∙ both 1 (list_by_name g) l y unplaced.names);
-    contexts = rechained 2 g.contexts g.outside (list_by_context g) a after g was.contexts owned_placed x unplaced.here others (λ l y. on_contexts b g x o wide chains l y ∙ both 2 (list_by_context g) l y unplaced.contexts);
+    names = rechained 1 g.names g.names_end (list_by_name g) a after g was.names owned_placed x unplaced.here others (λ l y. on_names b g x o wide chains l y ∙ both 1 (list_by_name g) l y unplaced.names);
+    contexts = rechained 2 g.contexts g.contexts_end (list_by_context g) a after g was.contexts owned_placed x unplaced.here others (λ l y. on_contexts b g x o wide chains l y ∙ both 2 (list_by_context g) l y unplaced.contexts);
   }
     where
       others : (y : ℕ) → (y ≡ x → ⊥) → ticket_at after g y ≡ ticket_at a g y
@@ -324,7 +357,7 @@ module _ (a b : Slots) (g : GroupLists) (x : ℕ) (o : Option Ticket) (was : IsC
   -- the chains of other groups are as before
   pub frame_where : (named : Bool) → IsChainFrame g a (with_placed_where named g x o b)
   frame_where true = frame_placed a b g x o was names contexts unplaced
-  frame_where false = frame_same g a b unplaced.names unplaced.contexts
+  frame_where false = frame_same g a b unplaced.owned unplaced.names unplaced.contexts
 
   -- where the slot is placed for what it has, and stays on its lists only where it belongs there as before, each slot of the group lies where it is placed
   pub chained_where : (named : Bool) → (named ≡ false → LieAlike g o (ticket_at a g x)) → o ≡ ticket_at b g x → IsChained (with_placed_where named g x o b) g

@@ -113,8 +113,8 @@ pub record IsFrame (g : GroupLists) (a b : Slots) : Type 0 where
   pub lists : (l : ℕ) → (IsOwn g l → ⊥) → slots_on b 0 l ≡ slots_on a 0 l
   pub payloads : (l x : ℕ) → (IsOwn g l → ⊥) → is_on a 0 l x ≡ true → slice_get b.payloads x ≡ slice_get a.payloads x
 
--- the groups have no list in common, in any family
+-- the groups have no list of the first family in common, and no chain
 pub record IsApart (g h : GroupLists) : Type 0 where
   pub apart : (l : ℕ) → IsOwn g l → IsOwn h l → ⊥
-  pub names : (l : ℕ) → (g.names ≤ l) × (l ≤ g.unnamed) → (h.names ≤ l) × (l ≤ h.unnamed) → ⊥
-  pub contexts : (l : ℕ) → (g.contexts ≤ l) × (l ≤ g.outside) → (h.contexts ≤ l) × (l ≤ h.outside) → ⊥
+  pub names : (l : ℕ) → (g.names ≤ l) × (l < g.names_end) → (h.names ≤ l) × (l < h.names_end) → ⊥
+  pub contexts : (l : ℕ) → (g.contexts ≤ l) × (l < g.contexts_end) → (h.contexts ≤ l) × (l < h.contexts_end) → ⊥

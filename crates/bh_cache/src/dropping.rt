@@ -5,7 +5,7 @@ ghost use Rattle.bh_base.specs.Tickets.{is_cached_in};
 ghost use Rattle.bh_slot_arena.specs.Slots.{slots_on};
 ghost use Rattle.bh_cache.specs.Slots.{HasLists, has, has_one, is_live};
 ghost use Rattle.bh_cache.specs.Cache.{IsDropped, IsDroppedFrom};
-ghost use Rattle.bh_cache.specs.Chains.{IsChained};
+ghost use Rattle.bh_cache.specs.Chains.{IsChained, unchained};
 ghost use Rattle.bh_cache.specs.Drops.{without_if};
 ghost use Rattle.bh_cache.specs.Notes.{AreNoted};
 
@@ -45,7 +45,7 @@ fn drop_chain(
     notes: &mut Noted,
 ) -> u64
     requires from { lists.now.contexts ≤ chain }
-    requires to { chain < lists.now.outside }
+    requires to { chain < lists.now.contexts_end }
     requires chained { IsChained arena.old lists.now }
     ensures dropped { IsDroppedFrom context lists.now (slots_on arena.old 2 chain) arena.old arena.new result }
     ensures noted { AreNoted context (λ x. has x (slots_on arena.old 2 chain)) arena.old notes.old notes.new }
@@ -79,7 +79,7 @@ fn drop_at(
     ensures noted { AreNoted context (λ x. has x (slot ∷ [])) arena.old notes.old notes.new }
 
     // Each chain by context has lost the slot where its ticket was cached in the context, and is as it was else.
-    ensures walk { (l : ℕ) → l ≢ lists.now.outside → slots_on arena.new 2 l ≡ without_if (has_one (is_cached_in context) (slice_get arena.old.payloads slot)) slot (slots_on arena.old 2 l) }
+    ensures walk { (l : ℕ) → l ≢ unchained → slots_on arena.new 2 l ≡ without_if (has_one (is_cached_in context) (slice_get arena.old.payloads slot)) slot (slots_on arena.old 2 l) }
 {
     if !has_context(arena.get(slot), context) {
         return 0;

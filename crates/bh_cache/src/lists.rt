@@ -1,5 +1,9 @@
 //! The lists of a group in the arena that holds the tickets of all groups.
 
+/// The list of the second and of the third family on which all slots without a cached ticket lie, of whatever group and of
+/// none: the first of the family.
+pub const UNCHAINED: usize = 0;
+
 /// The numbers of one group's lists in each family of the arena: the first has its tickets by state, the second by cache
 /// name, and the third by request context. Of chains it has the number of the first, on which the others follow.
 #[derive(Clone, Copy, Debug)]
@@ -12,12 +16,12 @@ pub struct GroupLists {
     pub running: usize,
     /// All other tickets.
     pub settled: usize,
-    /// Of the second family: chains of cached tickets, by request context and cache key: as many as go up to `unnamed`.
+    /// Of the second family: chains of cached tickets, by request context and cache key.
     pub names: usize,
-    /// Of the second family: slots without a cached ticket, be it that they have none or that theirs is not cached.
-    pub unnamed: usize,
-    /// Of the third family: chains of cached tickets, by request context alone: as many as go up to `outside`.
+    /// Behind the last of these chains.
+    pub names_end: usize,
+    /// Of the third family: chains of cached tickets, by request context alone.
     pub contexts: usize,
-    /// Of the third family: slots without a cached ticket, as on `unnamed`.
-    pub outside: usize,
+    /// Behind the last of these chains.
+    pub contexts_end: usize,
 }

@@ -3,6 +3,7 @@ use Rattle.std.proofs.Common.{◌≡◌, ℕ, zero, suc, ◌<◌, ◌⊎◌, inl
 use Rattle.std.specs.Prelude.{slice_get}
 use Rattle.bh_base.specs.declared.ticket.Ticket.{Ticket}
 use Rattle.bh_slot_arena.specs.Slots.{slots_on}
+use Rattle.bh_cache.specs.Chains.{unchained}
 use Rattle.bh_cache.specs.Slots.{Slots, has, is_on, IsArena, Once}
 use Rattle.bh_tickets.specs.declared.group_slots.GroupSlots.{GroupSlots}
 use Rattle.bh_tickets.specs.Growth.{HasMoreLists, HasNewLists}
@@ -62,6 +63,8 @@ module _ (n k m : ℕ) (a b : Slots) (ss : List GroupSlots) (whole : AreGroupSlo
     lists = λ l own. on_first l;
     payloads = λ l x own on. ap (λ (ps : List Ticket). slice_get ps x) more.payloads;
     chains = names_more n k m a b (names_of s.lists) more;
+    by_name = λ l x own on. ap (has x) (on_more 1 k a b more.second unchained);
+    by_context = λ l x own on. ap (has x) (on_more 2 m a b more.third unchained);
   }
 
   whole_new : AreGroupSlots b ss

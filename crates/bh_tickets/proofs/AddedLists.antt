@@ -1,9 +1,10 @@
 -- Families get empty lists, and then one of each the new slots.
-use Rattle.std.proofs.Common.{◌≡◌, ℕ, zero, suc, ◌+◌, ◌<◌, ◌≤◌, List, [], ◌∷◌, ◌++◌, map, length, get_or, replicate, refl, ◌∙◌, sym, ap, subst, arith, append-nil, length-append, length-set, get_or-set_same, get_or-set_other}
+use Rattle.std.proofs.Common.{◌≡◌, ℕ, zero, suc, ◌+◌, ◌<◌, ◌≤◌, List, [], ◌∷◌, ◌++◌, map, length, get_or, replicate, refl, ◌∙◌, sym, ap, subst, arith, append_assoc, append-nil, length-append, length-set, get_or-set_same, get_or-set_other}
 use Rattle.std.specs.List.{zip}
 use Rattle.std.proofs.lemmas.List.{get_or_past, length-replicate}
 use Rattle.bh_slot_arena.specs.Lists.{put_last}
 use Rattle.bh_slot_arena.specs.Slots.{lists_in, slots_on, with_new_lists}
+use Rattle.bh_cache.specs.Chains.{unchained}
 use Rattle.bh_cache.specs.Slots.{Slots}
 use Rattle.bh_tickets.specs.declared.names.NameLists.{NameLists}
 use Rattle.bh_tickets.specs.Growth.{HasNewLists}
@@ -41,22 +42,23 @@ module _ (f k : ℕ) (a b : Slots) (more : lists_in b f ≡ lists_in a f ++ repl
   empty_more l le = on_more l ∙ get_or_past (lists_in a f) l [] le
 
   -- and what lies on those that were there lies there still
-  pub keeps_more : (first last : ℕ) → KeepsOwn f first last a b
-  keeps_more first last = record { count = omega (arith, count_more); lists = λ l low high. on_more l }
+  pub keeps_more : (first end : ℕ) → KeepsOwn f first end a b
+  keeps_more first end = record { count = omega (arith, count_more); lists = λ l ne low high. on_more l }
 
--- so many chains and one list more, from the first new one on
-pub empty_made : (f c first last : ℕ) (a b : Slots) → 0 < c → lists_in b f ≡ lists_in a f ++ replicate (c + 1) [] → first ≡ length (lists_in a f) → last ≡ first + c → AreEmptyOn f first last b
-empty_made f c first last a b some more from to = record {
+-- so many chains among the new lists
+pub empty_made : (f k c first end : ℕ) (a b : Slots) → 0 < c → lists_in b f ≡ lists_in a f ++ replicate k [] → unchained < first → length (lists_in a f) ≤ first → end ≤ length (lists_in b f) → end ≡ first + c → AreEmptyOn f first end b
+empty_made f k c first end a b some more behind from there to = record {
+  behind = behind;
   some = omega (arith, to, some);
-  there = omega (arith, from, to, count_more f (c + 1) a b more);
-  empty = λ l low high. empty_more f (c + 1) a b more l (omega (arith, from, low));
+  there = there;
+  empty = λ l low high. empty_more f k a b more l (omega (arith, from, low));
 }
 
 -- what lies on chains that were there lies there still
 pub names_more : (n k m : ℕ) (a b : Slots) (x : NameLists) → HasNewLists n k m a b → KeepsNames x a b
 names_more n k m a b x more = record {
-  names = keeps_more 1 k a b more.second x.names x.unnamed;
-  contexts = keeps_more 2 m a b more.third x.contexts x.outside;
+  names = keeps_more 1 k a b more.second x.names x.names_end;
+  contexts = keeps_more 2 m a b more.third x.contexts x.contexts_end;
 }
 
 -- ---- the slots of three families
@@ -126,3 +128,23 @@ more_third n k m a b c there more is = subst (HasNewLists n k m a) (sym is) (rec
   second = get_or-set_other b.families 2 1 (lists_in b 2 ++ replicate m []) [] (λ e. absurd (omega (arith, e))) ∙ more.second;
   third = get_or-set_same b.families 2 (lists_in b 2 ++ replicate m []) [] (omega (arith, there, more.families)) ∙ ap (λ (ls : List (List ℕ)). ls ++ replicate m []) (more.third ∙ append-nil (lists_in a 2));
 })
+
+-- ---- lists more, and then more still
+
+replicate_both : (k m : ℕ) → replicate {A = List ℕ} k [] ++ replicate m [] ≡ replicate (k + m) []
+replicate_both zero m = let e : m ≡ 0 + m = omega arith in ap (λ n. replicate {A = List ℕ} n []) e
+replicate_both (suc k) m = let e : suc (k + m) ≡ suc k + m = omega arith in ap (λ (ls : List (List ℕ)). [] ∷ ls) (replicate_both k m) ∙ ap (λ n. replicate {A = List ℕ} n []) e
+
+family_both : (f k m : ℕ) (a b c : Slots) → lists_in b f ≡ lists_in a f ++ replicate k [] → lists_in c f ≡ lists_in b f ++ replicate m [] → lists_in c f ≡ lists_in a f ++ replicate (k + m) []
+family_both f k m a b c p q = q ∙ ap (λ (ls : List (List ℕ)). ls ++ replicate m []) p ∙ append_assoc (lists_in a f) (replicate k []) (replicate m []) ∙ ap (λ (ls : List (List ℕ)). lists_in a f ++ ls) (replicate_both k m)
+
+-- what is more after each of two steps is more after both
+pub more_both : (n k m p q r : ℕ) (a b c : Slots) → HasNewLists n k m a b → HasNewLists p q r b c → HasNewLists (n + p) (k + q) (m + r) a c
+more_both n k m p q r a b c one two = record {
+  limit = two.limit ∙ one.limit;
+  payloads = two.payloads ∙ one.payloads;
+  families = two.families ∙ one.families;
+  first = family_both 0 n p a b c one.first two.first;
+  second = family_both 1 k q a b c one.second two.second;
+  third = family_both 2 m r a b c one.third two.third;
+}

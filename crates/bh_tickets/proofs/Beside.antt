@@ -1,7 +1,8 @@
 -- Chains of groups, and of none, that have no list in common.
-use Rattle.std.proofs.Common.{◌≡◌, ℕ, ◌<◌, ◌≤◌, length, arith}
+use Rattle.std.proofs.Common.{ℕ, ◌<◌, ◌≤◌, length, arith}
 use Rattle.bh_slot_arena.specs.Slots.{lists_in}
 use Rattle.bh_cache.specs.declared.lists.GroupLists.{GroupLists}
+use Rattle.bh_cache.specs.Chains.{unchained}
 use Rattle.bh_cache.specs.Slots.{Slots, IsApart}
 use Rattle.bh_tickets.specs.declared.names.NameLists.{NameLists}
 use Rattle.bh_tickets.specs.Names.{AreApart, AreBeside, AreMany, names_of}
@@ -29,9 +30,9 @@ lists_of n = record {
   running = 1;
   settled = 0;
   names = n.names;
-  unnamed = n.unnamed;
+  names_end = n.names_end;
   contexts = n.contexts;
-  outside = n.outside;
+  contexts_end = n.contexts_end;
 }
 
 pub apart_lists : (g : GroupLists) (n : NameLists) → AreBeside (names_of g) n → IsApart g (lists_of n)
@@ -43,18 +44,22 @@ apart_lists g n beside = record {
 
 -- ---- new chains
 
--- so many chains of each family, behind the lists that there are
-pub record IsMade (c : ℕ) (a : Slots) (x : NameLists) : Type 0 where
-  pub names : x.names ≡ length (lists_in a 1)
-  pub contexts : x.contexts ≡ length (lists_in a 2)
+-- so many chains of each family, behind the lists that there were and the one that all groups share
+pub record IsMade (c : ℕ) (a b : Slots) (x : NameLists) : Type 0 where
+  pub names_behind : unchained < x.names
+  pub names : length (lists_in a 1) ≤ x.names
+  pub names_there : x.names_end ≤ length (lists_in b 1)
+  pub contexts_behind : unchained < x.contexts
+  pub contexts : length (lists_in a 2) ≤ x.contexts
+  pub contexts_there : x.contexts_end ≤ length (lists_in b 2)
   pub many : AreMany c x
 
-behind : (first last from to : ℕ) → last < from → AreApart first last from to
-behind first last from to lt = λ l own other. absurd (omega (arith, lt, own.1, other.0))
+behind : (first end from to : ℕ) → end ≤ from → AreApart first end from to
+behind first end from to le = λ l own other. absurd (omega (arith, le, own.1, other.0))
 
 -- they are beside those that were there
-pub beside_made : (c : ℕ) (a : Slots) (n x : NameLists) → n.unnamed < length (lists_in a 1) → n.outside < length (lists_in a 2) → IsMade c a x → AreBeside n x
-beside_made c a n x p q made = record {
-  names = behind n.names n.unnamed x.names x.unnamed (omega (arith, p, made.names));
-  contexts = behind n.contexts n.outside x.contexts x.outside (omega (arith, q, made.contexts));
+pub beside_made : (c : ℕ) (a b : Slots) (n x : NameLists) → n.names_end ≤ length (lists_in a 1) → n.contexts_end ≤ length (lists_in a 2) → IsMade c a b x → AreBeside n x
+beside_made c a b n x p q made = record {
+  names = behind n.names n.names_end x.names x.names_end (omega (arith, p, made.names));
+  contexts = behind n.contexts n.contexts_end x.contexts x.contexts_end (omega (arith, q, made.contexts));
 }

@@ -1,14 +1,14 @@
 -- The chains of a group as one of its slots changes, and as other groups do.
-use Rattle.std.proofs.Common.{◌≡◌, ℕ, ◌≤◌, inl, inr, Bool, true, false, refl, List, [], length, get_or, Option, Some, None, ◌∙◌, sym, ap, subst, arith}
+use Rattle.std.proofs.Common.{◌≡◌, ℕ, ◌<◌, ◌≤◌, inl, inr, Bool, true, false, refl, List, [], length, get_or, Option, Some, None, ◌∙◌, sym, ap, subst, arith}
 use Rattle.std.specs.Prelude.{◌||◌, eqb, slice_get, if◌then◌else◌}
 use Rattle.std.proofs.lemmas.Bool.{cases_eq}
 use Rattle.bh_base.specs.declared.ticket.Ticket.{Ticket}
 use Rattle.bh_slot_arena.specs.Slots.{lists_in, slots_on, with_payload, with_moved}
 use Rattle.bh_cache.specs.declared.lists.GroupLists.{GroupLists}
-use Rattle.bh_cache.specs.Chains.{IsChainFrame, AreOn, HasChains, IsChained, list_by_context, list_by_name, list_of_context, list_of_name, with_placed_where}
+use Rattle.bh_cache.specs.Chains.{IsChainFrame, AreOn, HasChains, IsChained, list_by_context, list_by_name, list_of_context, list_of_name, unchained, with_placed_where}
 use Rattle.bh_cache.specs.Slots.{Slots, has, is_live_list, is_on, is_owned, ticket_at, Once, IsArena}
 use Rattle.bh_cache.proofs.Moves.{families_count, family_stays}
-use Rattle.bh_cache.proofs.Placed.{IsUnplaced, LieAlike, alike_same, chained_same, chained_where, context_list_within, families_where, first_where, frame_where, name_list_within}
+use Rattle.bh_cache.proofs.Placed.{IsListOf, IsUnplaced, LieAlike, alike_same, chained_same, chained_where, context_list_within, families_where, first_where, frame_where, name_list_within}
 use Rattle.bh_tickets.specs.declared.names.NameLists.{NameLists}
 use Rattle.bh_tickets.specs.Names.{AreBeside, names_of}
 use Rattle.bh_tickets.specs.Same.{KeepsNames, KeepsOwn}
@@ -66,9 +66,11 @@ freed_keeps a x to = record {
 -- the lists of the chains are there where they were
 pub chains_there : (a b : Slots) (g : GroupLists) → length (lists_in a 1) ≤ length (lists_in b 1) → length (lists_in a 2) ≤ length (lists_in b 2) → HasChains a g → HasChains b g
 chains_there a b g second third there = record {
-  unnamed = there.unnamed;
+  names_behind = there.names_behind;
+  names_some = there.names_some;
   names_there = omega (arith, there.names_there, second);
-  outside = there.outside;
+  contexts_behind = there.contexts_behind;
+  contexts_some = there.contexts_some;
   contexts_there = omega (arith, there.contexts_there, third);
 }
 
@@ -94,7 +96,7 @@ chains_placed named a c b g x to v o touched keeps names contexts chained own ow
 
 -- a ticket that keeps its name and is cached as before belongs on the same chains
 same_lists : (g : GroupLists) (t v : Ticket) → v.cache ≡ t.cache → v.cached ≡ t.cached → LieAlike g (Some v) (Some t)
-same_lists g t v e f = (λ i. if f i then list_of_name g (e i) else g.unnamed, λ i. if f i then list_of_context g (e i) else g.outside)
+same_lists g t v e f = (λ i. if f i then list_of_name g (e i) else unchained, λ i. if f i then list_of_context g (e i) else unchained)
 
 -- a slot that was touched lies on its chains still, where its ticket keeps its name
 pub chains_touched : (a b : Slots) (g : GroupLists) (x to : ℕ) (t v : Ticket) → IsTouched a b x to v → KeepsChains a b → IsChained a g → is_owned a g x ≡ true → (eqb g.free to || is_live_list g to) ≡ true
@@ -111,23 +113,31 @@ chains_touched a b g x to t v touched keeps chained own own_to was now cache cac
 
 -- ---- other groups change
 
-on_kept : (family first last : ℕ) (to : Option Ticket → ℕ) (a b : Slots) (g : GroupLists) → KeepsOwn family first last a b → ((o : Option Ticket) → (first ≤ to o) × (to o ≤ last))
-    → ((x : ℕ) → is_owned b g x ≡ is_owned a g x) → ((x : ℕ) → ticket_at b g x ≡ ticket_at a g x) → AreOn family first last to a g → AreOn family first last to b g
-on_kept family first last to a b g keeps within owned at are = record {
+-- on the family's list for slots without a cached ticket each slot of the group lies where it did
+abbrev pub StaysUnchained : ℕ → GroupLists → Slots → Slots → Type 0
+StaysUnchained family g a b = (x : ℕ) → is_owned a g x ≡ true → is_on b family unchained x ≡ is_on a family unchained x
+
+on_kept : (family first end : ℕ) (to : Option Ticket → ℕ) (a b : Slots) (g : GroupLists) → KeepsOwn family first end a b → StaysUnchained family g a b → unchained < first → ((o : Option Ticket) → IsListOf first end (to o))
+    → ((x : ℕ) → is_owned b g x ≡ is_owned a g x) → ((x : ℕ) → ticket_at b g x ≡ ticket_at a g x) → AreOn family first end to a g → AreOn family first end to b g
+on_kept family first end to a b g keeps stays behind within owned at are = record {
   placed = λ x own.
-      let o : Option Ticket = ticket_at a g x in
-      ap (λ p. is_on b family (to p) x) (at x) ∙ ap (has x) (keeps.lists (to o) (within o).0 (within o).1) ∙ are.placed x (sym (owned x) ∙ own);
-  owned = λ l x from last' on. owned x ∙ are.owned l x from last' (sym (ap (has x) (keeps.lists l from last')) ∙ on);
+      let was : is_owned a g x ≡ true = sym (owned x) ∙ own in
+      ap (λ p. is_on b family (to p) x) (at x) ∙ still x was (to (ticket_at a g x)) (within (ticket_at a g x)) ∙ are.placed x was;
+  owned = λ l x from last on. owned x ∙ are.owned l x from last (sym (ap (has x) (keeps.lists l (λ e. absurd (omega (arith, behind, from, e))) from last)) ∙ on);
 }
+  where
+    still : (x : ℕ) → is_owned a g x ≡ true → (l : ℕ) → IsListOf first end l → is_on b family l x ≡ is_on a family l x
+    still x was l (inl e) = ap (λ k. is_on b family k x) e ∙ stays x was ∙ ap (λ k. is_on a family k x) (sym e)
+    still x was l (inr k) = ap (has x) (keeps.lists l (λ e. absurd (omega (arith, behind, k.0, e))) k.0 k.1)
 
 -- a group's slots lie on its chains still, where these, its slots and its tickets are as before
-pub chains_kept : (a b : Slots) (g : GroupLists) → KeepsNames (names_of g) a b → ((x : ℕ) → is_owned b g x ≡ is_owned a g x) → ((x : ℕ) → ticket_at b g x ≡ ticket_at a g x) → IsChained a g → IsChained b g
-chains_kept a b g keeps owned at chained =
+pub chains_kept : (a b : Slots) (g : GroupLists) → KeepsNames (names_of g) a b → StaysUnchained 1 g a b → StaysUnchained 2 g a b → ((x : ℕ) → is_owned b g x ≡ is_owned a g x) → ((x : ℕ) → ticket_at b g x ≡ ticket_at a g x) → IsChained a g → IsChained b g
+chains_kept a b g keeps by_name by_context owned at chained =
     let there = chained.lists in
     record {
       lists = chains_there a b g keeps.names.count keeps.contexts.count there;
-      names = on_kept 1 g.names g.unnamed (list_by_name g) a b g keeps.names (λ o. name_list_within a g there o) owned at chained.names;
-      contexts = on_kept 2 g.contexts g.outside (list_by_context g) a b g keeps.contexts (λ o. context_list_within a g there o) owned at chained.contexts;
+      names = on_kept 1 g.names g.names_end (list_by_name g) a b g keeps.names by_name there.names_behind (λ o. name_list_within a g there o) owned at chained.names;
+      contexts = on_kept 2 g.contexts g.contexts_end (list_by_context g) a b g keeps.contexts by_context there.contexts_behind (λ o. context_list_within a g there o) owned at chained.contexts;
     }
 
 -- as those are that lie beside the chains of a group that changed
@@ -135,10 +145,10 @@ pub beside_kept : (g : GroupLists) (n : NameLists) (a b : Slots) → IsChainFram
 beside_kept g n a b frame beside = record {
   names = record {
     count = omega (arith, frame.names.count);
-    lists = λ l from to. frame.names.lists l (λ other. beside.names l other (from, to));
+    lists = λ l ne from to. frame.names.lists l ne (λ other. beside.names l other (from, to));
   };
   contexts = record {
     count = omega (arith, frame.contexts.count);
-    lists = λ l from to. frame.contexts.lists l (λ other. beside.contexts l other (from, to));
+    lists = λ l ne from to. frame.contexts.lists l ne (λ other. beside.contexts l other (from, to));
   };
 }

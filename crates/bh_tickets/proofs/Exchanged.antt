@@ -1,5 +1,5 @@
 -- A place gets other chains.
-use Rattle.std.proofs.Common.{◌≡◌, ℕ, suc, ◌+◌, ◌<◌, ◌≤◌, inl, inr, Bool, true, false, List, [], ◌∷◌, ◌++◌, length, set, Some, None, refl, ◌∙◌, sym, ap, subst, arith}
+use Rattle.std.proofs.Common.{◌≡◌, ℕ, suc, ◌<◌, ◌≤◌, inl, inr, Bool, true, false, List, [], ◌∷◌, ◌++◌, length, set, Some, None, refl, ◌∙◌, sym, ap, subst, arith}
 use Rattle.std.specs.Prelude.{slice_get}
 use Rattle.std.specs.Option.{option_map}
 use Rattle.std.proofs.lemmas.Bool.{cases_eq}
@@ -7,6 +7,7 @@ use Rattle.std.proofs.lemmas.List.{nil_from_length}
 use Rattle.std.proofs.lemmas.Option.{slice_get-map}
 use Rattle.bh_slot_arena.specs.Slots.{lists_in, slots_on}
 use Rattle.bh_cache.specs.declared.lists.GroupLists.{GroupLists}
+use Rattle.bh_cache.specs.Chains.{HasChains, unchained}
 use Rattle.bh_cache.specs.Slots.{Slots, has, is_on, IsApart}
 use Rattle.bh_tickets.specs.declared.group_slots.GroupSlots.{GroupSlots}
 use Rattle.bh_tickets.specs.declared.names.NameLists.{NameLists}
@@ -17,8 +18,9 @@ use Rattle.bh_tickets.specs.Spare.{AreFreeOn, GetsNames, GetsPlace, IsLeft, IsVa
 use Rattle.bh_tickets.specs.TicketsView.{GroupTickets, TicketsView}
 use Rattle.bh_tickets.specs.Whole.{AreGroupSlots, IsWhole, group_of, rooms}
 use Rattle.bh_tickets.proofs.AddedGroup.{view_more}
+use Rattle.bh_tickets.proofs.AddedLists.{count_more}
 use Rattle.bh_tickets.proofs.Beside.{IsMade, apart_back, apart_beside, beside_back}
-use Rattle.bh_tickets.proofs.NamesLeft.{left_made, names_end, names_lt, names_other, names_same}
+use Rattle.bh_tickets.proofs.NamesLeft.{left_made, names_at_end, names_lt, names_other, names_same}
 use Rattle.bh_tickets.proofs.Ready.{more_whole}
 use Rattle.bh_tickets.proofs.Rebuilt.{entry_taken, entry_vacant, whole_group}
 use Rattle.bh_tickets.proofs.Vacant.{max_is, none_free, none_on, not_true, vacant_group}
@@ -31,9 +33,10 @@ pub found_names : (chains number : ℕ) (a : Slots) (ns : List NameLists) → Ha
 found_names chains number a ns there = record { there = there; whole = λ p ss w. w; view = λ p ss w. refl }
 
 -- new ones, behind the others
-pub made_names : (c : ℕ) → 0 < c → (a b : Slots) (ns : List NameLists) (x : NameLists) → HasNewLists 0 (c + 1) (c + 1) a b → IsMade c a x → GetsNames c (length ns) a ns b (ns ++ x ∷ [])
-made_names c some a b ns x more made = record {
-  there = record { entry = x; here = names_end ns x; many = made.many };
+pub made_names : (c : ℕ) → 0 < c → (a b : Slots) (ns : List NameLists) (x : NameLists) → HasNewLists 0 c c a b
+    → x.names ≡ length (lists_in a 1) → x.contexts ≡ length (lists_in a 2) → AreMany c x → GetsNames c (length ns) a ns b (ns ++ x ∷ [])
+made_names c some a b ns x more names contexts many = record {
+  there = record { entry = x; here = names_at_end ns x; many = many };
   whole = λ p ss w.
       let still = more_whole a b (Some p) ss ns grown w in
       record {
@@ -41,13 +44,24 @@ made_names c some a b ns x more made = record {
         slots = still.slots;
         free = still.free;
         first = still.first;
-        names = left_made a b (p ∷ ss) ns c x some more made (λ j s e. (w.all.each j s e).chained.lists) w.names;
+        names = left_made a b (p ∷ ss) ns c x some more (made (w.all.each 0 p refl).chained.lists) (λ j s e. (w.all.each j s e).chained.lists) w.names;
       };
   view = λ p ss w. view_more a b ss (groups_in w) grown;
 }
   where
     grown : HasMoreLists a b
-    grown = record { first = 0; second = c + 1; third = c + 1; lists = more }
+    grown = record { first = 0; second = c; third = c; lists = more }
+
+    made : {h : GroupLists} → HasChains a h → IsMade c a b x
+    made there = record {
+      names_behind = omega (arith, names, there.names_behind, there.names_some, there.names_there);
+      names = omega (arith, names);
+      names_there = omega (arith, names, many.names, count_more 1 c a b more.second);
+      contexts_behind = omega (arith, contexts, there.contexts_behind, there.contexts_some, there.contexts_there);
+      contexts = omega (arith, contexts);
+      contexts_there = omega (arith, contexts, many.contexts, count_more 2 c a b more.third);
+      many = many;
+    }
 
 -- ---- an exchange
 
@@ -94,14 +108,16 @@ module _ (b : Slots) (p : GroupSlots) (ss : List GroupSlots) (ms : List NameList
     numbered = record { queued = was.numbered.queued; running = was.numbered.running; settled = was.numbered.settled };
     there = was.there;
     chains = record {
-      unnamed = lists.names.some;
+      names_behind = lists.names.behind;
+      names_some = lists.names.some;
       names_there = lists.names.there;
-      outside = lists.contexts.some;
+      contexts_behind = lists.contexts.behind;
+      contexts_some = lists.contexts.some;
       contexts_there = lists.contexts.there;
     };
     live = was.live;
-    names = none_free 1 n.names n.unnamed b h no_free lists.names.empty;
-    contexts = none_free 2 n.contexts n.outside b h no_free lists.contexts.empty;
+    names = none_free 1 n.names n.names_end b h no_free lists.names.empty;
+    contexts = none_free 2 n.contexts n.contexts_end b h no_free lists.contexts.empty;
   }
 
   group : IsGroupSlots b r
@@ -146,21 +162,22 @@ module _ (b : Slots) (p : GroupSlots) (ss : List GroupSlots) (ms : List NameList
 
   -- ---- the chains that the group had
 
-  given_on : (f first last : ℕ) → first < last → last < length (lists_in b f) → AreFreeOn f first last b g → AreEmptyOn f first last b
-  given_on f first last some there are = record {
+  given_on : (f first end : ℕ) → unchained < first → first < end → end ≤ length (lists_in b f) → AreFreeOn f first end b g → AreEmptyOn f first end b
+  given_on f first end behind some there are = record {
+    behind = behind;
     some = some;
     there = there;
     empty = λ l low high. none_on (slots_on b f l) (λ x. off l x low high (is_on b f l x) refl);
   }
     where
-      off : (l x : ℕ) → first ≤ l → l ≤ last → (c : Bool) → is_on b f l x ≡ c → c ≡ false
+      off : (l x : ℕ) → first ≤ l → l < end → (c : Bool) → is_on b f l x ≡ c → c ≡ false
       off l x low high false e = refl
       off l x low high true e = absurd (not_free x (are.owned l x low high e))
 
   given : AreEmpty b (names_of g)
   given = record {
-    names = given_on 1 g.names g.unnamed was.chains.unnamed was.chains.names_there was.names;
-    contexts = given_on 2 g.contexts g.outside was.chains.outside was.chains.contexts_there was.contexts;
+    names = given_on 1 g.names g.names_end was.chains.names_behind was.chains.names_some was.chains.names_there was.names;
+    contexts = given_on 2 g.contexts g.contexts_end was.chains.contexts_behind was.chains.contexts_some was.chains.contexts_there was.contexts;
   }
 
   there : slice_get (set ms number (names_of g)) number ≡ Some (names_of g)

@@ -5,10 +5,10 @@ use Rattle.std.proofs.lemmas.Bool.{cases_eq}
 use Rattle.bh_base.specs.declared.ticket.Ticket.{Ticket}
 use Rattle.bh_slot_arena.specs.Slots.{slots_on}
 use Rattle.bh_cache.specs.declared.lists.GroupLists.{GroupLists}
-use Rattle.bh_cache.specs.Chains.{AreOn, list_by_context, list_by_name}
+use Rattle.bh_cache.specs.Chains.{AreOn, list_by_context, list_by_name, unchained}
 use Rattle.bh_cache.specs.Slots.{Slots, has, is_on, is_owned, ticket_at, count_below, one, IsApart, IsArena, IsOwn}
 use Rattle.bh_cache.proofs.Order.{count_same}
-use Rattle.bh_cache.proofs.Placed.{context_list_within, name_list_within}
+use Rattle.bh_cache.proofs.Placed.{IsListOf, context_list_within, name_list_within}
 use Rattle.bh_tickets.specs.declared.group_slots.GroupSlots.{GroupSlots}
 use Rattle.bh_tickets.specs.GroupSlots.{IsGroupSlots}
 use Rattle.bh_tickets.specs.Names.{AreApart}
@@ -16,8 +16,9 @@ use Rattle.bh_tickets.specs.Same.{IsSame, KeepsOwn}
 use Rattle.bh_tickets.specs.Spare.{IsGathered, IsGiven, IsVacant, free_slots, on_run}
 use Rattle.bh_tickets.proofs.Gathered.{IsEmptied, IsOnOne, emptied, on_run_in, on_run_out}
 use Rattle.bh_tickets.proofs.Chained.{chains_there}
+use Rattle.bh_tickets.proofs.Others.{not_owned}
 use Rattle.bh_tickets.proofs.Shifted.{HasLists, IsGained, live_none, own_free, own_queued, own_running, own_settled, vacant_gained}
-use Rattle.bh_tickets.proofs.Vacant.{count_list, none_free, not_true, or_true}
+use Rattle.bh_tickets.proofs.Vacant.{count_list, none_free, not_true, or_false, or_true}
 
 both_ways : (b c : Bool) → (b ≡ true → c ≡ true) → (c ≡ true → b ≡ true) → b ≡ c
 both_ways true c f g = sym (f refl)
@@ -76,48 +77,62 @@ module _ (a : Slots) (s : GroupSlots) (group : IsGroupSlots a s) where
 
 -- ---- the chains of one family
 
-module _ (f first last : ℕ) (le : first ≤ last) where
-  -- the group's slots are those on its chains
-  run_chains : (to : Option Ticket → ℕ) (a : Slots) (g : GroupLists) → ((o : Option Ticket) → (first ≤ to o) × (to o ≤ last)) → AreOn f first last to a g → (x : ℕ) → on_run a f first (last - first + 1) x ≡ is_owned a g x
-  run_chains to a g within are x = both_ways (on_run a f first (last - first + 1) x) (is_owned a g x)
-      (λ e. let r = on_run_out a f first (last - first + 1) x e in are.owned r.list x r.from (omega (arith, r.to, le)) r.on)
-      (λ e. let k = within (ticket_at a g x) in
-      on_run_in a f first (last - first + 1) (to (ticket_at a g x)) x k.0 (omega (arith, k.1, le)) (are.placed x e))
+module _ (f first end : ℕ) (le : first ≤ end) where
+  -- what lies on the group's chains are slots of the group
+  run_owned : (to : Option Ticket → ℕ) (a : Slots) (g : GroupLists) → AreOn f first end to a g → (x : ℕ) → on_run a f first (end - first) x ≡ true → is_owned a g x ≡ true
+  run_owned to a g are x e = let r = on_run_out a f first (end - first) x e in are.owned r.list x r.from (omega (arith, r.to, le)) r.on
 
-  module _ (from to : ℕ) (a b : Slots) (emptied : IsEmptied f first (last - first + 1) to a b) where
-    -- they have come to the last chain of the group that takes
-    gained : (come : ℕ → Bool) → ((x : ℕ) → on_run a f first (last - first + 1) x ≡ come x) → AreApart first last from to → IsGained f from to come a b
-    gained come run apart = record {
-      on = λ x. emptied.on x ∙ ap (λ z. is_on a f to x || z) (run x);
-      kept = λ l x low high ne e. sym (ap (has x) (emptied.kept l (λ p q. apart l (p, omega (arith, q, le)) (low, high)) ne)) ∙ e;
+  module _ (a b : Slots) (emptied : IsEmptied f first (end - first) unchained a b) where
+    -- the group's slots have come to the list for slots without a cached ticket, and none to the chains of the group that takes
+    gained : (to : Option Ticket → ℕ) (g : GroupLists) (from til : ℕ) → AreOn f first end to a g → ((o : Option Ticket) → IsListOf first end (to o)) → unchained < from → AreApart first end from til → IsGained f from til (is_owned a g) a b
+    gained to g from til are within behind apart = record {
+      on = λ x e. emptied.on x ∙ by x (is_on a f unchained x) (is_owned a g x) refl refl e;
+      kept = λ l x low high e. sym (ap (has x) (emptied.kept l (λ p q. apart l (p, omega (arith, q, le)) (low, high)) (λ q. absurd (omega (arith, behind, low, q))))) ∙ e;
     }
+      where
+        lies : (x : ℕ) → is_owned a g x ≡ true → (l : ℕ) → IsListOf first end l → is_on a f l x ≡ true → (is_on a f unchained x || on_run a f first (end - first) x) ≡ true
+        lies x own l (inl e) on = ap (λ z. z || on_run a f first (end - first) x) (ap (λ k. is_on a f k x) (sym e) ∙ on)
+        lies x own l (inr k) on = ap (λ z. is_on a f unchained x || z) (on_run_in a f first (end - first) l x k.0 (omega (arith, k.1, le)) on) ∙ or_true (is_on a f unchained x)
 
-    gone : (l : ℕ) → first ≤ l → l ≤ last → slots_on b f l ≡ []
+        by : (x : ℕ) (p q : Bool) → is_on a f unchained x ≡ p → is_owned a g x ≡ q → (p || q) ≡ true → (is_on a f unchained x || on_run a f first (end - first) x) ≡ true
+        by x true q i j e = ap (λ z. z || on_run a f first (end - first) x) i
+        by x false true i j e = lies x j (to (ticket_at a g x)) (within (ticket_at a g x)) (are.placed x j)
+        by x false false i j e = absurd cc
+
+    gone : (l : ℕ) → first ≤ l → l < end → slots_on b f l ≡ []
     gone l low high = emptied.gone l low (omega (arith, high, le))
 
-    -- what lies on chains beside both lies there still
-    kept : (low high : ℕ) → from ≤ to → AreApart first last low high → AreApart from to low high → KeepsOwn f low high a b
-    kept low high fits p q = record {
+    -- what lies on chains beside those of the group lies there still
+    kept : (low high : ℕ) → AreApart first end low high → KeepsOwn f low high a b
+    kept low high p = record {
       count = omega (arith, emptied.lists);
-      lists = λ l i j. emptied.kept l (λ m n. p l (m, omega (arith, n, le)) (i, j)) (λ e. q l (omega (arith, e, fits), omega (arith, e)) (i, j));
+      lists = λ l ne i j. emptied.kept l (λ m n. p l (m, omega (arith, n, le)) (i, j)) ne;
     }
 
+    -- and a slot that is not the group's lies on the list for slots without a cached ticket just where it did
+    others : (to : Option Ticket → ℕ) (g : GroupLists) → AreOn f first end to a g → (x : ℕ) → is_owned a g x ≡ false → is_on b f unchained x ≡ is_on a f unchained x
+    others to g are x out = emptied.on x ∙ ap (λ z. is_on a f unchained x || z) (off (on_run a f first (end - first) x) refl) ∙ or_false (is_on a f unchained x)
+      where
+        off : (c : Bool) → on_run a f first (end - first) x ≡ c → c ≡ false
+        off false e = refl
+        off true e = absurd (not_true out (run_owned to a g are x e))
+
 module _ (a c d b : Slots) (s : GroupSlots) (to : GroupLists) (group : IsGroupSlots a s) (vacant : IsVacant a to) (apart : IsApart s.lists to) (arena : IsArena a 0) (after : IsArena b 0)
-    (one_ : IsGathered 0 s.lists.free 4 to.free a c) (two : IsGathered 1 s.lists.names (s.lists.unnamed - s.lists.names + 1) to.unnamed c d) (three : IsGathered 2 s.lists.contexts (s.lists.outside - s.lists.contexts + 1) to.outside d b) where
+    (one_ : IsGathered 0 s.lists.free 4 to.free a c) (two : IsGathered 1 s.lists.names (s.lists.names_end - s.lists.names) unchained c d) (three : IsGathered 2 s.lists.contexts (s.lists.contexts_end - s.lists.contexts) unchained d b) where
   first : IsEmptied 0 s.lists.free 4 to.free a b
   first = emptied 0 s.lists.free 4 to.free a a c b refl one_ (three.others 0 (λ e. absurd (omega (arith, e))) ∙ two.others 0 (λ e. absurd (omega (arith, e))))
 
-  second : IsEmptied 1 s.lists.names (s.lists.unnamed - s.lists.names + 1) to.unnamed a b
-  second = emptied 1 s.lists.names (s.lists.unnamed - s.lists.names + 1) to.unnamed a c d b (one_.others 1 (λ e. absurd (omega (arith, e)))) two (three.others 1 (λ e. absurd (omega (arith, e))))
+  second : IsEmptied 1 s.lists.names (s.lists.names_end - s.lists.names) unchained a b
+  second = emptied 1 s.lists.names (s.lists.names_end - s.lists.names) unchained a c d b (one_.others 1 (λ e. absurd (omega (arith, e)))) two (three.others 1 (λ e. absurd (omega (arith, e))))
 
-  third : IsEmptied 2 s.lists.contexts (s.lists.outside - s.lists.contexts + 1) to.outside a b
-  third = emptied 2 s.lists.contexts (s.lists.outside - s.lists.contexts + 1) to.outside a d b b (two.others 2 (λ e. absurd (omega (arith, e))) ∙ one_.others 2 (λ e. absurd (omega (arith, e)))) three refl
+  third : IsEmptied 2 s.lists.contexts (s.lists.contexts_end - s.lists.contexts) unchained a b
+  third = emptied 2 s.lists.contexts (s.lists.contexts_end - s.lists.contexts) unchained a d b b (two.others 2 (λ e. absurd (omega (arith, e))) ∙ one_.others 2 (λ e. absurd (omega (arith, e)))) three refl
 
-  named : s.lists.names ≤ s.lists.unnamed
-  named = omega (arith, group.chained.lists.unnamed)
+  named : s.lists.names ≤ s.lists.names_end
+  named = omega (arith, group.chained.lists.names_some)
 
-  inside : s.lists.contexts ≤ s.lists.outside
-  inside = omega (arith, group.chained.lists.outside)
+  inside : s.lists.contexts ≤ s.lists.contexts_end
+  inside = omega (arith, group.chained.lists.contexts_some)
 
   payloads : b.payloads ≡ a.payloads
   payloads = three.payloads ∙ two.payloads ∙ one_.payloads
@@ -139,10 +154,8 @@ module _ (a c d b : Slots) (s : GroupSlots) (to : GroupLists) (group : IsGroupSl
         on = λ x. first.on x ∙ ap (λ z. is_on a 0 to.free x || z) (run_first a s group x);
         kept = λ l x mine ne e. sym (ap (has x) (first.kept l (λ low high. apart.apart l (own l low high) mine) ne)) ∙ e;
       })
-      (gained 1 s.lists.names s.lists.unnamed named to.names to.unnamed a b second (is_owned a s.lists)
-      (run_chains 1 s.lists.names s.lists.unnamed named (list_by_name s.lists) a s.lists (λ o. name_list_within a s.lists group.chained.lists o) group.chained.names) apart.names)
-      (gained 2 s.lists.contexts s.lists.outside inside to.contexts to.outside a b third (is_owned a s.lists)
-      (run_chains 2 s.lists.contexts s.lists.outside inside (list_by_context s.lists) a s.lists (λ o. context_list_within a s.lists group.chained.lists o) group.chained.contexts) apart.contexts)
+      (gained 1 s.lists.names s.lists.names_end named a b second (list_by_name s.lists) s.lists to.names to.names_end group.chained.names (λ o. name_list_within a s.lists group.chained.lists o) vacant.chains.names_behind apart.names)
+      (gained 2 s.lists.contexts s.lists.contexts_end inside a b third (list_by_context s.lists) s.lists to.contexts to.contexts_end group.chained.contexts (λ o. context_list_within a s.lists group.chained.lists o) vacant.chains.contexts_behind apart.contexts)
 
   -- ---- the group that gives
 
@@ -161,8 +174,8 @@ module _ (a c d b : Slots) (s : GroupSlots) (to : GroupLists) (group : IsGroupSl
         (not_true (empty_first s.lists.queued x (own_queued s.lists group.numbered)))
         (not_true (empty_first s.lists.running x (own_running s.lists group.numbered)))
         (not_true (empty_first s.lists.settled x (own_settled s.lists group.numbered)));
-    names = none_free 1 s.lists.names s.lists.unnamed b s.lists no_free (gone 1 s.lists.names s.lists.unnamed named to.names to.unnamed a b second);
-    contexts = none_free 2 s.lists.contexts s.lists.outside b s.lists no_free (gone 2 s.lists.contexts s.lists.outside inside to.contexts to.outside a b third);
+    names = none_free 1 s.lists.names s.lists.names_end b s.lists no_free (gone 1 s.lists.names s.lists.names_end named a b second);
+    contexts = none_free 2 s.lists.contexts s.lists.contexts_end b s.lists no_free (gone 2 s.lists.contexts s.lists.contexts_end inside a b third);
   }
 
   none_left : free_slots b s.lists ≡ 0
@@ -191,10 +204,9 @@ module _ (a c d b : Slots) (s : GroupSlots) (to : GroupLists) (group : IsGroupSl
     count = omega (arith, first.lists);
     lists = λ l mine. first.kept l (λ low high. p.apart l (own l low high) mine) (λ e. q.apart l (subst (IsOwn to) (sym e) (own_free to vacant.numbered)) mine);
     payloads = λ l x mine on. ap (λ (ps : List Ticket). slice_get ps x) payloads;
-    chains = record {
-      names = kept 1 s.lists.names s.lists.unnamed named to.names to.unnamed a b second h.names h.unnamed (omega (arith, vacant.chains.unnamed)) p.names q.names;
-      contexts = kept 2 s.lists.contexts s.lists.outside inside to.contexts to.outside a b third h.contexts h.outside (omega (arith, vacant.chains.outside)) p.contexts q.contexts;
-    };
+    chains = record { names = kept 1 s.lists.names s.lists.names_end named a b second h.names h.names_end p.names; contexts = kept 2 s.lists.contexts s.lists.contexts_end inside a b third h.contexts h.contexts_end p.contexts };
+    by_name = λ l x mine on. others 1 s.lists.names s.lists.names_end named a b second (list_by_name s.lists) s.lists group.chained.names x (not_owned a s.lists h arena group.numbered p l x mine on);
+    by_context = λ l x mine on. others 2 s.lists.contexts s.lists.contexts_end inside a b third (list_by_context s.lists) s.lists group.chained.contexts x (not_owned a s.lists h arena group.numbered p l x mine on);
   }
 
   -- all slots of the one group have gone to the other

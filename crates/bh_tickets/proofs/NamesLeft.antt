@@ -1,5 +1,5 @@
 -- Chains that no group has stay so as groups change.
-use Rattle.std.proofs.Common.{◌≡◌, ℕ, zero, suc, ◌+◌, ◌<◌, inl, inr, List, [], ◌∷◌, ◌++◌, ◌⊎◌, length, set, get_or, Some, refl, ◌∙◌, sym, ap, subst, arith}
+use Rattle.std.proofs.Common.{◌≡◌, ℕ, zero, suc, ◌<◌, inl, inr, List, [], ◌∷◌, ◌++◌, ◌⊎◌, length, set, get_or, Some, refl, ◌∙◌, sym, ap, subst, arith}
 use Rattle.std.specs.Prelude.{slice_get}
 use Rattle.bh_cache.specs.declared.lists.GroupLists.{GroupLists}
 use Rattle.bh_cache.specs.Chains.{HasChains}
@@ -46,9 +46,9 @@ names_append (y ∷ ys) x (suc i) n e = elim (names_append ys x i n e) [
   | inr k ↦ inr k
 ]
 
-pub names_end : (ns : List NameLists) (x : NameLists) → slice_get (ns ++ x ∷ []) (length ns) ≡ Some x
-names_end [] x = refl
-names_end (y ∷ ys) x = names_end ys x
+pub names_at_end : (ns : List NameLists) (x : NameLists) → slice_get (ns ++ x ∷ []) (length ns) ≡ Some x
+names_at_end [] x = refl
+names_at_end (y ∷ ys) x = names_at_end ys x
 
 -- ---- what stays
 
@@ -59,11 +59,12 @@ pub record HadLists (ss : List GroupSlots) (r : GroupSlots) : Type 0 where
   pub there : slice_get ss number ≡ Some was
   pub lists : r.lists ≡ was.lists
 
-empty_kept : (f first last : ℕ) (a b : Slots) → AreEmptyOn f first last a → KeepsOwn f first last a b → AreEmptyOn f first last b
-empty_kept f first last a b was kept = record {
+empty_kept : (f first end : ℕ) (a b : Slots) → AreEmptyOn f first end a → KeepsOwn f first end a b → AreEmptyOn f first end b
+empty_kept f first end a b was kept = record {
+  behind = was.behind;
   some = was.some;
   there = omega (arith, was.there, kept.count);
-  empty = λ l low high. kept.lists l low high ∙ was.empty l low high;
+  empty = λ l low high. kept.lists l (λ e. absurd (omega (arith, was.behind, low, e))) low high ∙ was.empty l low high;
 }
 
 pub left_same : (a b : Slots) (qs rs : List GroupSlots) (ns : List NameLists) → AreLeft a qs ns → ((i : ℕ) (n : NameLists) → slice_get ns i ≡ Some n → KeepsNames n a b)
@@ -73,8 +74,8 @@ left_same a b qs rs ns left keeps had = record {
       let was = left.each i n e in
       let kept = keeps i n e in
       record {
-        names = empty_kept 1 n.names n.unnamed a b was.names kept.names;
-        contexts = empty_kept 2 n.contexts n.outside a b was.contexts kept.contexts;
+        names = empty_kept 1 n.names n.names_end a b was.names kept.names;
+        contexts = empty_kept 2 n.contexts n.contexts_end a b was.contexts kept.contexts;
       };
   beside = λ i j n s e f.
       let h = had j s f in
@@ -87,7 +88,7 @@ pub left_more : (n k m : ℕ) (a b : Slots) (qs : List GroupSlots) (ns : List Na
 left_more n k m a b qs ns more left = left_same a b qs qs ns left (λ i x e. names_more n k m a b x more) (λ j r e. record { number = j; was = r; there = e; lists = refl })
 
 -- chains that are made are empty, and behind those that were there
-pub left_made : (a b : Slots) (qs : List GroupSlots) (ns : List NameLists) (c : ℕ) (x : NameLists) → 0 < c → HasNewLists 0 (c + 1) (c + 1) a b → IsMade c a x
+pub left_made : (a b : Slots) (qs : List GroupSlots) (ns : List NameLists) (c : ℕ) (x : NameLists) → 0 < c → HasNewLists 0 c c a b → IsMade c a b x
     → ((j : ℕ) (s : GroupSlots) → slice_get qs j ≡ Some s → HasChains a s.lists) → AreLeft a qs ns → AreLeft b qs (ns ++ x ∷ [])
 left_made a b qs ns c x some more made there left = record {
   each = λ i n e. elim (names_append ns x i n e) [
@@ -95,7 +96,7 @@ left_made a b qs ns c x some more made there left = record {
     | inr k ↦ now.each i n k
   ];
   beside = λ i j n s e f. elim (names_append ns x i n e) [
-    | inl k ↦ subst (AreBeside (names_of s.lists)) (sym k.1) (let h = there j s f in beside_made c a (names_of s.lists) x h.names_there h.contexts_there made)
+    | inl k ↦ subst (AreBeside (names_of s.lists)) (sym k.1) (let h = there j s f in beside_made c a b (names_of s.lists) x h.names_there h.contexts_there made)
     | inr k ↦ now.beside i j n s k f
   ];
   apart = λ i j n m e f ne. elim (names_append ns x i n e) [
@@ -111,13 +112,13 @@ left_made a b qs ns c x some more made there left = record {
 }
   where
     now : AreLeft b qs ns
-    now = left_more 0 (c + 1) (c + 1) a b qs ns more left
+    now = left_more 0 c c a b qs ns more left
 
     fresh : AreEmpty b x
     fresh = record {
-      names = empty_made 1 c x.names x.unnamed a b some more.second made.names made.many.names;
-      contexts = empty_made 2 c x.contexts x.outside a b some more.third made.contexts made.many.contexts;
+      names = empty_made 1 c c x.names x.names_end a b some more.second made.names_behind made.names made.names_there made.many.names;
+      contexts = empty_made 2 c c x.contexts x.contexts_end a b some more.third made.contexts_behind made.contexts made.contexts_there made.many.contexts;
     }
 
     fresh_beside : (i : ℕ) (n : NameLists) → slice_get ns i ≡ Some n → AreBeside n x
-    fresh_beside i n e = let was = left.each i n e in beside_made c a n x was.names.there was.contexts.there made
+    fresh_beside i n e = let was = left.each i n e in beside_made c a b n x was.names.there was.contexts.there made

@@ -49,14 +49,40 @@ frame_trans g a b c f h = record {
   payloads = λ l x out on. h.payloads l x out (ap (has x) (f.lists l out) ∙ on) ∙ f.payloads l x out on;
 }
 
+-- a slot of a group is on one of its lists
+pub record HasList (a : Slots) (g : GroupLists) (x : ℕ) : Type 0 where
+  pub list : ℕ
+  pub own : IsOwn g list
+  pub on : is_on a 0 list x ≡ true
+
+pub owned_list : (a : Slots) (g : GroupLists) (x : ℕ) → IsNumbered g → is_owned a g x ≡ true → HasList a g x
+owned_list a g x n own = by (is_on a 0 g.free x) (is_on a 0 g.queued x) (is_on a 0 g.running x) (is_on a 0 g.settled x) refl refl refl refl own
+  where
+    by : (p q r t : Bool) → is_on a 0 g.free x ≡ p → is_on a 0 g.queued x ≡ q → is_on a 0 g.running x ≡ r → is_on a 0 g.settled x ≡ t → (p || (q || (r || t))) ≡ true → HasList a g x
+    by true q r t i j k l e = record { list = g.free; own = record { from = omega arith; to = omega (arith, n.settled) }; on = i }
+    by false true r t i j k l e = record { list = g.queued; own = record { from = omega (arith, n.queued); to = omega (arith, n.queued, n.settled) }; on = j }
+    by false false true t i j k l e = record { list = g.running; own = record { from = omega (arith, n.running); to = omega (arith, n.running, n.settled) }; on = k }
+    by false false false true i j k l e = record { list = g.settled; own = record { from = omega (arith, n.settled); to = omega arith }; on = l }
+    by false false false false i j k l e = absurd cc
+
+-- what lies on a list of one group is no slot of another
+pub not_owned : (a : Slots) (g h : GroupLists) → IsArena a 0 → IsNumbered g → IsApart g h → (l x : ℕ) → IsOwn h l → is_on a 0 l x ≡ true → is_owned a g x ≡ false
+not_owned a g h arena n apart l x own on = by (is_owned a g x) refl
+  where
+    by : (b : Bool) → is_owned a g x ≡ b → b ≡ false
+    by false e = refl
+    by true e = let r = owned_list a g x n e in absurd (apart.apart l (subst (IsOwn g) (arena.apart r.list l x r.on on) r.own) own)
+
 -- as for each group but the one that changed
-pub frame_same : (g h : GroupLists) (a b : Slots) → IsFrame g a b → IsChainFrame g a b → IsApart g h → IsSame h a b
-frame_same g h a b frame chains apart = record {
+pub frame_same : (g h : GroupLists) (a b : Slots) → IsArena a 0 → IsNumbered g → IsFrame g a b → IsChainFrame g a b → IsApart g h → IsSame h a b
+frame_same g h a b arena n frame chains apart = record {
   slots = omega (arith, frame.slots);
   count = omega (arith, frame.count);
   lists = λ l own. frame.lists l (λ other. apart.apart l other own);
   payloads = λ l x own on. frame.payloads l x (λ other. apart.apart l other own) on;
   chains = beside_kept g (names_of h) a b chains (apart_beside g h apart);
+  by_name = λ l x own on. chains.names.others x (not_owned a g h arena n apart l x own on);
+  by_context = λ l x own on. chains.contexts.others x (not_owned a g h arena n apart l x own on);
 }
 
 -- numbers of which none passes count for nothing
@@ -159,7 +185,9 @@ module _ (a b : Slots) (h : GroupSlots) (same : IsSame h.lists a b) (arena : IsA
     numbered = group.numbered;
     there = omega (arith, group.there, same.count);
     arranged = arranged_same;
-    chained = chains_kept a b h.lists same.chains owned_alike at_same group.chained;
+    chained = chains_kept a b h.lists same.chains
+        (λ x was. let r = owned_list a h.lists x n was in same.by_name r.list x r.own r.on)
+        (λ x was. let r = owned_list a h.lists x n was in same.by_context r.list x r.own r.on) owned_alike at_same group.chained;
     slots = count_same (is_owned b h.lists) (is_owned a h.lists) (length b.payloads) owned_alike ∙ count_past (is_owned a h.lists) (length a.payloads) (length b.payloads) same.slots owned_past ∙ group.slots;
     few = group.few;
     taken = group.taken ∙ sym (count_alike is_any);

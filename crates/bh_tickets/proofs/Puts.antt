@@ -321,7 +321,7 @@ module _ (a b : Slots) (s : GroupSlots) (x : ℕ) (t v : Ticket) (arena : IsAren
         arena = touched_arena a b x (list_for s.lists v.state) v touched arena (within_slots a s.lists x t here);
         group = subst (IsGroupSlots b) (sym is) made;
         frame = touched_frame a b x (list_for s.lists v.state) v touched s.lists (list_for s.lists t.state) arena lies (own_for s.lists group.numbered t.state) (own_for s.lists group.numbered v.state);
-        chains = frame_same s.lists a b keeps.names keeps.contexts;
+        chains = frame_same s.lists a b (owned_same a b x (list_for s.lists v.state) v touched s.lists owned_slot owned_list) keeps.names keeps.contexts;
         limit = touched.limit;
         lists = ap (λ (z : GroupSlots). z.lists) is;
         room = ap (λ (z : GroupSlots). z.slots.max) is;

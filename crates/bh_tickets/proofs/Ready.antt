@@ -21,7 +21,7 @@ use Rattle.bh_tickets.specs.Whole.{AreGroupSlots, IsWhole, group_of, groups_of, 
 use Rattle.bh_tickets.proofs.AddedGroup.{arena_more, get_append, map_same, same_more, view_more, whole_more}
 use Rattle.bh_tickets.proofs.Beside.{apart_back, beside_back, beside_made}
 use Rattle.bh_tickets.proofs.NamesLeft.{HadLists, left_more, left_same}
-use Rattle.bh_tickets.proofs.NewGroup.{grown_beside, grown_free, grown_limit, grown_same, grown_size, grown_vacant, new_apart, new_made, new_none, new_vacant}
+use Rattle.bh_tickets.proofs.NewGroup.{IsNew, grown_free, grown_limit, grown_names, grown_same, grown_size, grown_vacant, new_apart, new_behind, new_none, new_vacant}
 use Rattle.bh_tickets.proofs.Others.{group_same, slots_same}
 use Rattle.bh_tickets.proofs.Rebuilt.{rooms_first, spare_apart, spare_max, spare_slots, spare_vacant}
 use Rattle.bh_tickets.proofs.Vacant.{vacant_group}
@@ -69,21 +69,21 @@ more_stays a b ss ns more = record {
 
 -- ---- new lists
 
-module _ (c : ℕ) (some : 0 < c) (a b : Slots) (g : GroupLists) (more : HasNewLists 4 (c + 1) (c + 1) a b) (from : g ≡ lists_from c (length (lists_in a 0)) (length (lists_in a 1)) (length (lists_in a 2))) (qs : List GroupSlots) (whole : AreGroupSlots a qs) where
+module _ (c : ℕ) (g : GroupLists) (a b : Slots) (new : IsNew c g a b) (qs : List GroupSlots) (whole : AreGroupSlots a qs) where
   new_group : IsGroupSlots b (no_slot_taken g 0)
-  new_group = subst (λ n. IsGroupSlots b (no_slot_taken g n)) (new_none c some a b g more from)
-      (vacant_group b g (new_vacant c some a b g more from) (arena_more 4 (c + 1) (c + 1) a b qs whole more) (omega (arith, new_none c some a b g more from)))
+  new_group = subst (λ n. IsGroupSlots b (no_slot_taken g n)) (new_none c g a b new)
+      (vacant_group b g (new_vacant c g a b new) (arena_more 4 new.second new.third a b qs whole new.more) (omega (arith, new_none c g a b new)))
 
   was_apart : (i : ℕ) (s : GroupSlots) → slice_get qs i ≡ Some s → IsApart s.lists g
-  was_apart i s e = let group = whole.each i s e in new_apart c some a b g more from s.lists group.there group.chained.lists
+  was_apart i s e = let group = whole.each i s e in new_apart c g a b new s.lists group.there group.chained.lists
 
   -- with a group more that has them, all groups are as they should be
   pub whole_added : AreGroupSlots b (qs ++ no_slot_taken g 0 ∷ [])
   whole_added = record {
-    arena = arena_more 4 (c + 1) (c + 1) a b qs whole more;
+    arena = arena_more 4 new.second new.third a b qs whole new.more;
     each = λ i s e. elim (get_append qs (no_slot_taken g 0) i s e) [
       | inl k ↦ subst (IsGroupSlots b) (sym k.1) new_group
-      | inr k ↦ slots_same a b s (same_more 4 (c + 1) (c + 1) a b qs whole more i s k.1) whole.arena (whole.each i s k.1)
+      | inr k ↦ slots_same a b s (same_more 4 new.second new.third a b qs whole new.more i s k.1) whole.arena (whole.each i s k.1)
     ];
     apart = λ i j s r e f ne. elim (get_append qs (no_slot_taken g 0) i s e) [
       | inl k ↦ elim (get_append qs (no_slot_taken g 0) j r f) [
@@ -105,29 +105,29 @@ module _ (c : ℕ) (some : 0 < c) (a b : Slots) (g : GroupLists) (more : HasNewL
       | inl k ↦
           let was = left.each i n e in
           subst (λ (z : GroupSlots). AreBeside (names_of z.lists) n) (sym k.1)
-          (beside_back n (names_of g) (beside_made c a n (names_of g) was.names.there was.contexts.there (new_made c some a b g more from)))
+          (beside_back n (names_of g) (beside_made c a b n (names_of g) was.names.there was.contexts.there new.made))
       | inr k ↦ now.beside i j n s e k.1
     ];
     apart = left.apart;
   }
     where
       now : AreLeft b qs ns
-      now = left_more 4 (c + 1) (c + 1) a b qs ns more left
+      now = left_more 4 new.second new.third a b qs ns new.more left
 
 -- the spare slots get lists, while there is no group
-pub made_spare : (c : ℕ) → 0 < c → (a b : Slots) (g : GroupLists) (p : Option GroupSlots) → p ≡ None → HasNewLists 4 (c + 1) (c + 1) a b → g ≡ lists_from c (length (lists_in a 0)) (length (lists_in a 1)) (length (lists_in a 2)) → KeepsGroups a p b (Some (no_slot_taken g 0))
-made_spare c some a b g p none more from = record {
+pub made_spare : (c : ℕ) (g : GroupLists) (a b : Slots) (p : Option GroupSlots) → p ≡ None → IsNew c g a b → KeepsGroups a p b (Some (no_slot_taken g 0))
+made_spare c g a b p none new = record {
   whole = λ ss ns w. made ss ns (w.first none) (subst (λ q. IsWhole a q ss ns) none w);
-  view = λ ss ns w. view_more a b ss (groups_in w) (record { first = 4; second = c + 1; third = c + 1; lists = more });
+  view = λ ss ns w. view_more a b ss (groups_in w) (record { first = 4; second = new.second; third = new.third; lists = new.more });
 }
   where
     alone : (ns : List NameLists) → IsWhole a None [] ns → IsWhole b (Some (no_slot_taken g 0)) [] ns
     alone ns w = record {
-      all = whole_added c some a b g more from [] w.all;
-      slots = ap (λ (ps : List Ticket). length ps) more.payloads ∙ w.slots;
+      all = whole_added c g a b new [] w.all;
+      slots = ap (λ (ps : List Ticket). length ps) new.more.payloads ∙ w.slots;
       free = λ q e. let k : no_slot_taken g 0 ≡ q = some_same (no_slot_taken g 0) q e in subst (λ (z : GroupSlots). z ≡ no_slot_taken z.lists z.slots.max) k refl;
       first = λ e. refl;
-      names = left_added c some a b g more from [] w.all ns w.names;
+      names = left_added c g a b new [] w.all ns w.names;
     }
 
     made : (ss : List GroupSlots) (ns : List NameLists) → ss ≡ [] → IsWhole a None ss ns → IsWhole b (Some (no_slot_taken g 0)) ss ns
@@ -162,19 +162,19 @@ not_at_end (y ∷ ys) r zero ne = refl
 not_at_end (y ∷ ys) r (suc i) ne = not_at_end ys r i (λ e. ne (ap suc e))
 
 -- a new one behind the others
-pub new_gets : (c : ℕ) → 0 < c → (a b : Slots) (g : GroupLists) (ss : List GroupSlots) (ns : List NameLists) → HasNewLists 4 (c + 1) (c + 1) a b → g ≡ lists_from c (length (lists_in a 0)) (length (lists_in a 1)) (length (lists_in a 2)) → GetsPlace c (length ss) a ss ns b (ss ++ no_slot_taken g 0 ∷ []) ns
+pub new_gets : (c : ℕ) → 0 < c → (a b : Slots) (g : GroupLists) (ss : List GroupSlots) (ns : List NameLists) → HasNewLists 4 c c a b → g ≡ lists_from c (length (lists_in a 0)) (length (lists_in a 1)) (length (lists_in a 2)) → GetsPlace c (length ss) a ss ns b (ss ++ no_slot_taken g 0 ∷ []) ns
 new_gets c some a b g ss ns more from = record {
-  gets = λ p w. record {
+  gets = λ p w. let new : IsNew c g a b = new_behind c g p.lists a b some (w.all.each 0 p refl).chained.lists more from in record {
     entry = no_slot_taken g 0;
     here = at_end ss (no_slot_taken g 0);
     empty = refl;
-    many = (new_made c some a b g more from).many;
+    many = new.made.many;
     whole = record {
-      all = whole_added c some a b g more from (p ∷ ss) w.all;
+      all = whole_added c g a b new (p ∷ ss) w.all;
       slots = omega (arith, ap (λ (ps : List Ticket). length ps) more.payloads, w.slots, rooms_first p ss, rooms_first p (ss ++ no_slot_taken g 0 ∷ []), room_same);
       free = w.free;
       first = λ e. absurd (some_there p e);
-      names = left_added c some a b g more from (p ∷ ss) w.all ns w.names;
+      names = left_added c g a b new (p ∷ ss) w.all ns w.names;
     };
     vacant = ap (λ (z : GroupTickets). z.room) (get_or_past (groups_of a ss) (length ss) (no_tickets_in 0) (omega (arith, length-map ss (group_of a))));
     others = λ j ne. slice_get-map (group_of b) (ss ++ no_slot_taken g 0 ∷ []) j ∙ ap (option_map (group_of b)) (not_at_end ss (no_slot_taken g 0) j ne) ∙ shown w j (slice_get ss j) refl ∙ sym (slice_get-map (group_of a) ss j);
@@ -190,7 +190,7 @@ new_gets c some a b g ss ns more from = record {
     shown w j None e = refl
     shown w j (Some s) e =
         let all = groups_in w in
-        ap Some (group_same a b s (same_more 4 (c + 1) (c + 1) a b ss all more j s e) all.arena (all.each j s e))
+        ap Some (group_same a b s (same_more 4 c c a b ss all more j s e) all.arena (all.each j s e))
 
 -- ---- spare slots
 
@@ -231,8 +231,8 @@ module _ (slots : ℕ) (a : Slots) (g : GroupLists) (spare : Option GroupSlots) 
       let k = ready_vacant in
       record {
         first = ready_free;
-        second = k.chains.names_there;
-        third = k.chains.contexts_there;
+        second = omega (arith, k.chains.names_behind, k.chains.names_some, k.chains.names_there);
+        third = omega (arith, k.chains.contexts_behind, k.chains.contexts_some, k.chains.contexts_there);
         within = omega (arith, ready.within, spare_slots a ready.part ready.groups ready.names ready.whole, ready_max, few);
       }
 
@@ -264,7 +264,7 @@ module _ (slots : ℕ) (a : Slots) (g : GroupLists) (spare : Option GroupSlots) 
         }
           where
             keeps : (k : ℕ) (n : NameLists) → slice_get ns k ≡ Some n → KeepsNames n a b
-            keeps k n e = grown_beside count g a b grown ready_vacant n (subst (λ (z : GroupLists). AreBeside (names_of z) n) ready.lists (w.names.beside k 0 n ready.part e refl))
+            keeps k n e = grown_names count g a b grown ready_vacant n
 
             had : (j : ℕ) (s : GroupSlots) → slice_get (no_slot_taken g (free_slots b g) ∷ ss) j ≡ Some s → HadLists (ready.part ∷ ss) s
             had zero s e = record { number = 0; was = ready.part; there = refl; lists = ap (λ (z : GroupSlots). z.lists) (sym (some_same (no_slot_taken g (free_slots b g)) s e)) ∙ sym ready.lists }

@@ -1,10 +1,11 @@
 -- Slots come to a group without tickets, or go from it.
-use Rattle.std.proofs.Common.{◌≡◌, ℕ, ◌≤◌, inl, inr, Bool, true, false, length, refl, ◌∙◌, sym, ap, arith}
+use Rattle.std.proofs.Common.{◌≡◌, ℕ, ◌<◌, ◌≤◌, Bool, true, false, List, [], length, get_or, refl, ◌∙◌, sym, ap, subst, arith}
 use Rattle.std.specs.Prelude.{◌||◌, ◌≢◌, eqb, if◌then◌else◌}
-use Rattle.std.proofs.lemmas.Bool.{cases_eq}
+use Rattle.std.proofs.lemmas.Bool.{ne_eqb}
 use Rattle.bh_slot_arena.specs.Slots.{lists_in}
 use Rattle.bh_cache.specs.declared.lists.GroupLists.{GroupLists}
-use Rattle.bh_cache.specs.Slots.{Slots, is_live, is_on, IsOwn}
+use Rattle.bh_cache.specs.Chains.{unchained}
+use Rattle.bh_cache.specs.Slots.{Slots, has, is_live, is_on, IsArena, IsOwn}
 use Rattle.bh_tickets.specs.GroupSlots.{IsNumbered}
 use Rattle.bh_tickets.specs.Spare.{AreFreeOn, IsVacant}
 use Rattle.bh_tickets.proofs.Chained.{chains_there}
@@ -50,10 +51,11 @@ off_live a g x e = live_parts (is_on a 0 g.queued x) (is_on a 0 g.running x) (is
 
 -- ---- slots come
 
--- the slots that pass have come to the last list of the family, and no slot to those before
-pub record IsGained (family first last : ℕ) (come : ℕ → Bool) (a b : Slots) : Type 0 where
-  pub on : (x : ℕ) → is_on b family last x ≡ (is_on a family last x || come x)
-  pub kept : (l x : ℕ) → first ≤ l → l ≤ last → l ≢ last → is_on b family l x ≡ true → is_on a family l x ≡ true
+-- the slots that pass lie on the family's list for slots without a cached ticket, as do those that did, and no slot has come
+-- to the chains
+pub record IsGained (family first end : ℕ) (come : ℕ → Bool) (a b : Slots) : Type 0 where
+  pub on : (x : ℕ) → (is_on a family unchained x || come x) ≡ true → is_on b family unchained x ≡ true
+  pub kept : (l x : ℕ) → first ≤ l → l < end → is_on b family l x ≡ true → is_on a family l x ≡ true
 
 -- the slots that pass have come to the list of free ones, and no slot to those with tickets
 pub record IsGainedFree (come : ℕ → Bool) (g : GroupLists) (a b : Slots) : Type 0 where
@@ -68,17 +70,14 @@ either_true false false d f e = absurd cc
 left_true : (b c : Bool) → b ≡ true → (b || c) ≡ true
 left_true b c e = ap (λ z. z || c) e
 
-free_gained : (f first last : ℕ) (come : ℕ → Bool) (a b : Slots) (g : GroupLists) → AreFreeOn f first last a g → IsGainedFree come g a b → IsGained f first last come a b → AreFreeOn f first last b g
-free_gained f first last come a b g are free gained = record {
-  placed = λ x on. gained.on x ∙ either_true (is_on a 0 g.free x) (come x) (is_on a f last x) (are.placed x) (sym (free.on x) ∙ on);
-  owned = λ l x from til on. elim (cases_eq l last) [
-    | inl e ↦ free.on x ∙ either_true (is_on a f last x) (come x) (is_on a 0 g.free x) (are.owned last x (omega (arith, from, e)) (omega arith)) (sym (gained.on x) ∙ ap (λ k. is_on b f k x) (sym e) ∙ on)
-    | inr ne ↦ free.on x ∙ left_true (is_on a 0 g.free x) (come x) (are.owned l x from til (gained.kept l x from til ne on))
-  ];
+free_gained : (f first end : ℕ) (come : ℕ → Bool) (a b : Slots) (g : GroupLists) → AreFreeOn f first end a g → IsGainedFree come g a b → IsGained f first end come a b → AreFreeOn f first end b g
+free_gained f first end come a b g are free gained = record {
+  placed = λ x on. gained.on x (either_true (is_on a 0 g.free x) (come x) (is_on a f unchained x) (are.placed x) (sym (free.on x) ∙ on));
+  owned = λ l x from til on. free.on x ∙ left_true (is_on a 0 g.free x) (come x) (are.owned l x from til (gained.kept l x from til on));
 }
 
 -- a group without tickets is one still
-pub vacant_gained : (come : ℕ → Bool) (a b : Slots) (g : GroupLists) → IsVacant a g → HasLists a b → IsGainedFree come g a b → IsGained 1 g.names g.unnamed come a b → IsGained 2 g.contexts g.outside come a b → IsVacant b g
+pub vacant_gained : (come : ℕ → Bool) (a b : Slots) (g : GroupLists) → IsVacant a g → HasLists a b → IsGainedFree come g a b → IsGained 1 g.names g.names_end come a b → IsGained 2 g.contexts g.contexts_end come a b → IsVacant b g
 vacant_gained come a b g vacant there free names contexts = record {
   numbered = vacant.numbered;
   there = omega (arith, vacant.there, there.first);
@@ -87,45 +86,53 @@ vacant_gained come a b g vacant there free names contexts = record {
       (λ on. not_true (off_live a g x (vacant.live x)).0 (free.kept g.queued x (own_queued g vacant.numbered) (λ e. absurd (omega (arith, e, vacant.numbered.queued))) on))
       (λ on. not_true (off_live a g x (vacant.live x)).1 (free.kept g.running x (own_running g vacant.numbered) (λ e. absurd (omega (arith, e, vacant.numbered.running))) on))
       (λ on. not_true (off_live a g x (vacant.live x)).2 (free.kept g.settled x (own_settled g vacant.numbered) (λ e. absurd (omega (arith, e, vacant.numbered.settled))) on));
-  names = free_gained 1 g.names g.unnamed come a b g vacant.names free names;
-  contexts = free_gained 2 g.contexts g.outside come a b g vacant.contexts free contexts;
+  names = free_gained 1 g.names g.names_end come a b g vacant.names free names;
+  contexts = free_gained 2 g.contexts g.contexts_end come a b g vacant.contexts free contexts;
 }
 
 -- ---- a slot goes
 
--- the slot is on none of the lists, and all others are where they were
-pub record IsLost (family first last x : ℕ) (a b : Slots) : Type 0 where
-  pub on : (l y : ℕ) → first ≤ l → l ≤ last → is_on b family l y ≡ (if eqb y x then false else is_on a family l y)
+-- the slot is on none of the group's lists of the first family, and all others are where they were
+pub record IsLost (g : GroupLists) (x : ℕ) (a b : Slots) : Type 0 where
+  pub on : (l y : ℕ) → IsOwn g l → is_on b 0 l y ≡ (if eqb y x then false else is_on a 0 l y)
 
-still : (b c d : Bool) → (c ≡ true → d ≡ true) → (if b then false else c) ≡ true → (if b then false else d) ≡ true
-still true c d f e = e
-still false c d f e = f e
+before : (b c : Bool) → (if b then false else c) ≡ true → c ≡ true
+before true c e = absurd cc
+before false c e = e
 
 gone : (b c : Bool) → c ≡ false → (if b then false else c) ≡ true → ⊥
 gone true c e f = cc
 gone false c e f = cc
 
-free_lost : (f first last x : ℕ) (a b : Slots) (g : GroupLists) → IsNumbered g → first ≤ last → AreFreeOn f first last a g → IsLost 0 g.free g.settled x a b → IsLost f first last x a b → AreFreeOn f first last b g
-free_lost f first last x a b g n le are free lost = record {
-  placed = λ y on. lost.on last y le (omega arith) ∙ still (eqb y x) (is_on a 0 g.free y) (is_on a f last y) (are.placed y) (sym (free.on g.free y (omega arith) (omega (arith, n.settled))) ∙ on);
-  owned = λ l y from til on. free.on g.free y (omega arith) (omega (arith, n.settled)) ∙ still (eqb y x) (is_on a f l y) (is_on a 0 g.free y) (are.owned l y from til) (sym (lost.on l y from til) ∙ on);
+free_lost : (f first end x : ℕ) (a b : Slots) (g : GroupLists) → IsNumbered g → unchained < first → IsArena a f → AreFreeOn f first end a g → is_on a 0 g.free x ≡ true → IsLost g x a b → lists_in b f ≡ lists_in a f → AreFreeOn f first end b g
+free_lost f first end x a b g n behind arena are here lost same = record {
+  placed = λ y on. still unchained y ∙ are.placed y (before (eqb y x) (is_on a 0 g.free y) (sym (lost.on g.free y (own_free g n)) ∙ on));
+  owned = λ l y from til on.
+      let was : is_on a f l y ≡ true = sym (still l y) ∙ on in
+      lost.on g.free y (own_free g n) ∙ ap (λ c. if c then false else is_on a 0 g.free y) (ne_eqb y x (other l y from was)) ∙ are.owned l y from til was;
 }
+  where
+    still : (l y : ℕ) → is_on b f l y ≡ is_on a f l y
+    still l y = ap (λ (ls : List (List ℕ)). has y (get_or ls l [])) same
+
+    -- the slot that went lay on no chain
+    other : (l y : ℕ) → first ≤ l → is_on a f l y ≡ true → y ≡ x → ⊥
+    other l y from was e =
+        let k : l ≡ unchained = arena.apart l unchained y was (are.placed y (subst (λ z. is_on a 0 g.free z ≡ true) (sym e) here)) in
+        omega (arith, k, from, behind)
 
 -- a group without tickets is one still
-pub vacant_lost : (x : ℕ) (a b : Slots) (g : GroupLists) → IsVacant a g → HasLists a b → IsLost 0 g.free g.settled x a b → IsLost 1 g.names g.unnamed x a b → IsLost 2 g.contexts g.outside x a b → IsVacant b g
-vacant_lost x a b g vacant there free names contexts = record {
+pub vacant_lost : (x : ℕ) (a b : Slots) (g : GroupLists) → IsVacant a g → IsArena a 1 → IsArena a 2 → HasLists a b → is_on a 0 g.free x ≡ true → IsLost g x a b → lists_in b 1 ≡ lists_in a 1 → lists_in b 2 ≡ lists_in a 2 → IsVacant b g
+vacant_lost x a b g vacant second third there here lost names contexts = record {
   numbered = vacant.numbered;
   there = omega (arith, vacant.there, there.first);
   chains = chains_there a b g there.second there.third vacant.chains;
   live = λ y.
       let off = off_live a g y (vacant.live y) in
-      let q = own_queued g vacant.numbered in
-      let r = own_running g vacant.numbered in
-      let s = own_settled g vacant.numbered in
       live_none b g y
-      (λ on. gone (eqb y x) (is_on a 0 g.queued y) off.0 (sym (free.on g.queued y q.from q.to) ∙ on))
-      (λ on. gone (eqb y x) (is_on a 0 g.running y) off.1 (sym (free.on g.running y r.from r.to) ∙ on))
-      (λ on. gone (eqb y x) (is_on a 0 g.settled y) off.2 (sym (free.on g.settled y s.from s.to) ∙ on));
-  names = free_lost 1 g.names g.unnamed x a b g vacant.numbered (omega (arith, vacant.chains.unnamed)) vacant.names free names;
-  contexts = free_lost 2 g.contexts g.outside x a b g vacant.numbered (omega (arith, vacant.chains.outside)) vacant.contexts free contexts;
+      (λ on. gone (eqb y x) (is_on a 0 g.queued y) off.0 (sym (lost.on g.queued y (own_queued g vacant.numbered)) ∙ on))
+      (λ on. gone (eqb y x) (is_on a 0 g.running y) off.1 (sym (lost.on g.running y (own_running g vacant.numbered)) ∙ on))
+      (λ on. gone (eqb y x) (is_on a 0 g.settled y) off.2 (sym (lost.on g.settled y (own_settled g vacant.numbered)) ∙ on));
+  names = free_lost 1 g.names g.names_end x a b g vacant.numbered vacant.chains.names_behind second vacant.names here lost names;
+  contexts = free_lost 2 g.contexts g.contexts_end x a b g vacant.numbered vacant.chains.contexts_behind third vacant.contexts here lost contexts;
 }

@@ -1,26 +1,33 @@
 -- Slots go from one group without tickets to another.
-use Rattle.std.proofs.Common.{◌≡◌, ℕ, ◌+◌, ◌<◌, ◌≤◌, Bool, true, false, List, [], ◌∷◌, ◌++◌, length, get_or, None, Some, refl, ◌∙◌, sym, ap, subst, arith, length-append}
+use Rattle.std.proofs.Common.{◌≡◌, ℕ, ◌+◌, ◌<◌, inl, inr, Bool, true, false, List, [], ◌∷◌, ◌++◌, length, get_or, Some, refl, ◌∙◌, sym, ap, subst, arith, length-append}
 use Rattle.std.specs.Prelude.{◌||◌, ◌≢◌, eqb, slice_get, if◌then◌else◌}
-use Rattle.std.proofs.lemmas.Bool.{eq-eqb, ne_eqb}
+use Rattle.std.proofs.lemmas.Bool.{cases_eq, eq-eqb, ne_eqb}
 use Rattle.bh_base.specs.declared.ticket.Ticket.{Ticket}
 use Rattle.bh_index_lists.specs.Lists.{without}
 use Rattle.bh_slot_arena.specs.Slots.{lists_in, slots_on, with_moved, with_payload}
 use Rattle.bh_cache.specs.declared.lists.GroupLists.{GroupLists}
-use Rattle.bh_cache.specs.Chains.{with_placed}
+use Rattle.bh_cache.specs.Chains.{unchained}
 use Rattle.bh_cache.specs.Slots.{Slots, has, is_on, IsApart, IsArena, IsOwn, Once}
 use Rattle.bh_cache.proofs.Along.{without_at}
-use Rattle.bh_cache.proofs.Moves.{families_count, family_stays, list_not_to, list_to, lists_count, on_moved, without_absent}
+use Rattle.bh_cache.proofs.Moves.{list_to, without_absent}
 use Rattle.bh_cache.proofs.Order.{front_is, front_on}
 use Rattle.bh_tickets.specs.Same.{IsSame, KeepsOwn}
 use Rattle.bh_tickets.specs.Spare.{IsTaken, IsVacant, free_slots}
-use Rattle.bh_tickets.proofs.Chained.{KeepsChains, moved_keeps, placed_on, touched_placed}
+use Rattle.bh_tickets.proofs.Chained.{KeepsChains, moved_keeps}
 use Rattle.bh_tickets.proofs.Shifted.{HasLists, IsGained, IsGainedFree, IsLost, own_free, vacant_gained, vacant_lost}
 use Rattle.bh_tickets.proofs.Touched.{IsTouched, not_on, payload_other, touched_both}
 
 -- ---- step after step
 
-keeps_both : (f first last : ℕ) (a b c : Slots) → KeepsOwn f first last a b → KeepsOwn f first last b c → KeepsOwn f first last a c
-keeps_both f first last a b c p q = record { count = omega (arith, p.count, q.count); lists = λ l from til. q.lists l from til ∙ p.lists l from til }
+keeps_both : (f first end : ℕ) (a b c : Slots) → KeepsOwn f first end a b → KeepsOwn f first end b c → KeepsOwn f first end a c
+keeps_both f first end a b c p q = record { count = omega (arith, p.count, q.count); lists = λ l ne from til. q.lists l ne from til ∙ p.lists l ne from til }
+
+-- where the family stays, so do chains of it
+keeps_all : (f first end : ℕ) (a b : Slots) → lists_in b f ≡ lists_in a f → KeepsOwn f first end a b
+keeps_all f first end a b same = record {
+  count = omega (arith, ap (λ (ls : List (List ℕ)). length ls) same);
+  lists = λ l ne from til. ap (λ (ls : List (List ℕ)). get_or ls l []) same;
+}
 
 -- what stays of a group twice stays
 pub same_both : (h : GroupLists) (a b c : Slots) → IsSame h a b → IsSame h b c → IsSame h a c
@@ -30,9 +37,11 @@ same_both h a b c p q = record {
   lists = λ l own. q.lists l own ∙ p.lists l own;
   payloads = λ l x own on. q.payloads l x own (ap (has x) (p.lists l own) ∙ on) ∙ p.payloads l x own on;
   chains = record {
-    names = keeps_both 1 h.names h.unnamed a b c p.chains.names q.chains.names;
-    contexts = keeps_both 2 h.contexts h.outside a b c p.chains.contexts q.chains.contexts;
+    names = keeps_both 1 h.names h.names_end a b c p.chains.names q.chains.names;
+    contexts = keeps_both 2 h.contexts h.contexts_end a b c p.chains.contexts q.chains.contexts;
   };
+  by_name = λ l x own on. q.by_name l x own (ap (has x) (p.lists l own) ∙ on) ∙ p.by_name l x own on;
+  by_context = λ l x own on. q.by_context l x own (ap (has x) (p.lists l own) ∙ on) ∙ p.by_context l x own on;
 }
 
 -- where nothing changes, all stays of a group
@@ -42,7 +51,9 @@ same_refl h a = record {
   count = omega arith;
   lists = λ l own. refl;
   payloads = λ l x own on. refl;
-  chains = record { names = record { count = omega arith; lists = λ l from til. refl }; contexts = record { count = omega arith; lists = λ l from til. refl } };
+  chains = record { names = keeps_all 1 h.names h.names_end a a refl; contexts = keeps_all 2 h.contexts h.contexts_end a a refl };
+  by_name = λ l x own on. refl;
+  by_context = λ l x own on. refl;
 }
 
 -- no slot has gone
@@ -73,21 +84,6 @@ if_same : (b c d : Bool) → c ≡ d → (if b then c else d) ≡ d
 if_same true c d e = e
 if_same false c d e = refl
 
--- in the family the slot has gone to the end of the list, and no other slot has moved
-record IsMovedIn (f x to : ℕ) (a b : Slots) : Type 0 where
-  pub count : length (lists_in b f) ≡ length (lists_in a f)
-  pub left : (l : ℕ) → l ≢ to → slots_on b f l ≡ without x (slots_on a f l)
-  pub on : (l y : ℕ) → is_on b f l y ≡ (if eqb y x then eqb l to else is_on a f l y)
-
--- as where that happens between steps in other families
-moved_in : (f x to : ℕ) (a c b : Slots) → f < length c.families → to < length (lists_in a f) → lists_in c f ≡ lists_in a f → lists_in b f ≡ lists_in (with_moved f x to c) f → IsMovedIn f x to a b
-moved_in f x to a c b wide there before after = record {
-  count = ap (λ (ls : List (List ℕ)). length ls) after ∙ lists_count c f x to wide ∙ ap (λ (ls : List (List ℕ)). length ls) before;
-  left = λ l ne. ap (λ (ls : List (List ℕ)). get_or ls l []) after ∙ list_not_to c f x to wide l ne ∙ ap (λ (ls : List (List ℕ)). without x (get_or ls l [])) before;
-  on = λ l y. ap (λ (ls : List (List ℕ)). has y (get_or ls l [])) after ∙ on_moved c f x to wide (omega (arith, there, ap (λ (ls : List (List ℕ)). length ls) before)) l y
-      ∙ ap (λ (ls : List (List ℕ)). if eqb y x then eqb l to else has y (get_or ls l [])) before;
-}
-
 off : (a : Slots) (f x l m : ℕ) → IsArena a f → is_on a f l x ≡ true → m ≢ l → is_on a f m x ≡ false
 off a f x l m arena here ne = by (is_on a f m x) refl
   where
@@ -95,23 +91,13 @@ off a f x l m arena here ne = by (is_on a f m x) refl
     by true e = absurd (ne (arena.apart m l x e here))
     by false e = refl
 
--- what lies on lists beside that from which it went and that to which it went lies there still
-kept_beside : (f x from to low high : ℕ) (a b : Slots) → IsMovedIn f x to a b → IsArena a f → is_on a f from x ≡ true → ((l : ℕ) → low ≤ l → l ≤ high → (l ≢ to) × (l ≢ from)) → KeepsOwn f low high a b
-kept_beside f x from to low high a b moved arena here out = record {
-  count = omega (arith, moved.count);
-  lists = λ l p q. let ne = out l p q in moved.left l ne.0 ∙ without_absent x (slots_on a f l) (off a f x from l arena here ne.1);
-}
-
 module _ (a : Slots) (g h : GroupLists) (x : ℕ) (v : Ticket) (giver : IsVacant a g) (taker : IsVacant a h) (apart : IsApart g h) (first : IsArena a 0) (second : IsArena a 1) (third : IsArena a 2)
     (front : slice_get (slots_on a 0 g.free) 0 ≡ Some x) where
   abbrev written : Slots
   written = with_payload x v a
 
-  abbrev moved : Slots
-  moved = with_moved 0 x h.free written
-
   abbrev now : Slots
-  now = with_placed h x None moved
+  now = with_moved 0 x h.free written
 
   on : is_on a 0 g.free x ≡ true
   on = front_on x (slots_on a 0 g.free) front
@@ -123,68 +109,59 @@ module _ (a : Slots) (g h : GroupLists) (x : ℕ) (v : Ticket) (giver : IsVacant
   to_there = omega (arith, taker.there, taker.numbered.settled)
 
   touched : IsTouched a now x h.free v
-  touched = touched_placed true a moved x h.free v h None (touched_both a x h.free v first within to_there)
+  touched = touched_both a x h.free v first within to_there
 
-  keeps : KeepsChains a moved
+  keeps : KeepsChains a now
   keeps = moved_keeps a x h.free v
 
-  by_name : IsMovedIn 1 x h.unnamed a now
-  by_name = moved_in 1 x h.unnamed a moved now (omega (arith, second.wide, keeps.families)) taker.chains.names_there keeps.names
-      (family_stays (with_moved 1 x h.unnamed moved) 2 1 x h.outside (λ e. absurd (omega (arith, e))))
-
-  by_context : IsMovedIn 2 x h.outside a now
-  by_context = moved_in 2 x h.outside a (with_moved 1 x h.unnamed moved) now (omega (arith, third.wide, keeps.families, families_count moved 1 x h.unnamed)) taker.chains.contexts_there
-      (family_stays moved 1 2 x h.unnamed (λ e. absurd (omega (arith, e))) ∙ keeps.contexts) refl
-
   has_lists : HasLists a now
-  has_lists = record { first = omega (arith, touched.count); second = omega (arith, by_name.count); third = omega (arith, by_context.count) }
+  has_lists = record { first = omega (arith, touched.count); second = omega (arith, ap (λ (ls : List (List ℕ)). length ls) keeps.names); third = omega (arith, ap (λ (ls : List (List ℕ)). length ls) keeps.contexts) }
 
   -- ---- the group that gives
-
-  lost_from : (f from til to : ℕ) → ((l y : ℕ) → is_on now f l y ≡ (if eqb y x then eqb l to else is_on a f l y)) → ((l : ℕ) → from ≤ l → l ≤ til → l ≢ to) → IsLost f from til x a now
-  lost_from f from til to is out = record { on = λ l y low high. is l y ∙ ap (λ c. if eqb y x then c else is_on a f l y) (ne_eqb l to (out l low high)) }
 
   own_h : IsOwn h h.free
   own_h = own_free h taker.numbered
 
-  named : h.names ≤ h.unnamed
-  named = omega (arith, taker.chains.unnamed)
-
-  inside : h.contexts ≤ h.outside
-  inside = omega (arith, taker.chains.outside)
+  lost : IsLost g x a now
+  lost = record { on = λ l y own. touched.on l y ∙ ap (λ c. if eqb y x then c else is_on a 0 l y) (ne_eqb l h.free (λ e. apart.apart l own (subst (IsOwn h) (sym e) own_h))) }
 
   giver_now : IsVacant now g
-  giver_now = vacant_lost x a now g giver has_lists
-      (lost_from 0 g.free g.settled h.free (λ l y. touched.on l y) (λ l low high e. apart.apart l (record { from = low; to = high }) (subst (IsOwn h) (sym e) own_h)))
-      (lost_from 1 g.names g.unnamed h.unnamed by_name.on (λ l from til e. apart.names l (from, til) (omega (arith, named, e), omega (arith, e))))
-      (lost_from 2 g.contexts g.outside h.outside by_context.on (λ l from til e. apart.contexts l (from, til) (omega (arith, inside, e), omega (arith, e))))
+  giver_now = vacant_lost x a now g giver second third has_lists on lost keeps.names keeps.contexts
 
   -- ---- the group that takes
 
-  gained_to : (f from til : ℕ) → ((l y : ℕ) → is_on now f l y ≡ (if eqb y x then eqb l til else is_on a f l y)) → IsGained f from til (λ y. eqb y x) a now
-  gained_to f from til is = record {
-    on = λ y. is til y ∙ ap (λ c. if eqb y x then c else is_on a f til y) (eq-eqb til til refl) ∙ if_or (eqb y x) (is_on a f til y);
-    kept = λ l y low high ne e. by (eqb y x) (is_on a f l y) (sym (is l y ∙ ap (λ c. if eqb y x then c else is_on a f l y) (ne_eqb l til ne)) ∙ e);
+  -- the slot lies already where slots without a cached ticket do
+  gained_in : (f first end : ℕ) → lists_in now f ≡ lists_in a f → is_on a f unchained x ≡ true → IsGained f first end (λ y. eqb y x) a now
+  gained_in f first end same there = record {
+    on = λ y e. still unchained y ∙ elim (cases_eq y x) [
+      | inl q ↦ subst (λ z. is_on a f unchained z ≡ true) (sym q) there
+      | inr ne ↦ by (is_on a f unchained y) (eqb y x) (ne_eqb y x ne) e
+    ];
+    kept = λ l y low high e. sym (still l y) ∙ e;
+  }
+    where
+      still : (l y : ℕ) → is_on now f l y ≡ is_on a f l y
+      still l y = ap (λ (ls : List (List ℕ)). has y (get_or ls l [])) same
+
+      by : (b c : Bool) → c ≡ false → (b || c) ≡ true → b ≡ true
+      by true c e h = refl
+      by false c e h = absurd (no (sym e ∙ h))
+        where
+          no : false ≡ true → ⊥
+          no k = cc
+
+  gained_free : IsGainedFree (λ y. eqb y x) h a now
+  gained_free = record {
+    on = λ y. touched.on h.free y ∙ ap (λ c. if eqb y x then c else is_on a 0 h.free y) (eq-eqb h.free h.free refl) ∙ if_or (eqb y x) (is_on a 0 h.free y);
+    kept = λ l y own ne e. by (eqb y x) (is_on a 0 l y) (sym (touched.on l y ∙ ap (λ c. if eqb y x then c else is_on a 0 l y) (ne_eqb l h.free ne)) ∙ e);
   }
     where
       by : (b c : Bool) → (if b then false else c) ≡ true → c ≡ true
       by true c e = absurd cc
       by false c e = e
 
-  gained_free : IsGainedFree (λ y. eqb y x) h a now
-  gained_free =
-      let gained = gained_to 0 h.free h.free (λ l y. touched.on l y) in
-      record {
-        on = gained.on;
-        kept = λ l y own ne e. by (eqb y x) (is_on a 0 l y) (sym (touched.on l y ∙ ap (λ c. if eqb y x then c else is_on a 0 l y) (ne_eqb l h.free ne)) ∙ e);
-      }
-    where
-      by : (b c : Bool) → (if b then false else c) ≡ true → c ≡ true
-      by true c e = absurd cc
-      by false c e = e
-
   taker_now : IsVacant now h
-  taker_now = vacant_gained (λ y. eqb y x) a now h taker has_lists gained_free (gained_to 1 h.names h.unnamed by_name.on) (gained_to 2 h.contexts h.outside by_context.on)
+  taker_now = vacant_gained (λ y. eqb y x) a now h taker has_lists gained_free (gained_in 1 h.names h.names_end keeps.names (giver.names.placed x on)) (gained_in 2 h.contexts h.contexts_end keeps.contexts (giver.contexts.placed x on))
 
   -- ---- how many
 
@@ -200,7 +177,7 @@ module _ (a : Slots) (g h : GroupLists) (x : ℕ) (v : Ticket) (giver : IsVacant
 
   got_now : free_slots now h ≡ free_slots a h + 1
   got_now =
-      let put : slots_on now 0 h.free ≡ without x (slots_on a 0 h.free) ++ x ∷ [] = placed_on true h x None moved h.free ∙ list_to written 0 x h.free first.wide to_there in
+      let put : slots_on now 0 h.free ≡ without x (slots_on a 0 h.free) ++ x ∷ [] = list_to written 0 x h.free first.wide to_there in
       let same : without x (slots_on a 0 h.free) ≡ slots_on a 0 h.free = without_absent x (slots_on a 0 h.free) (not_on a g.free h.free x first on (λ e. not_free (sym e))) in
       omega (arith, ap (λ (xs : List ℕ). length xs) put, ap (λ (xs : List ℕ). length xs) same, length-append (without x (slots_on a 0 h.free)) (x ∷ []))
 
@@ -214,12 +191,9 @@ module _ (a : Slots) (g h : GroupLists) (x : ℕ) (v : Ticket) (giver : IsVacant
       lists = λ l own. touched.left l (λ e. from_taker.apart l (subst (IsOwn h) (sym e) own_h) own)
           ∙ without_absent x (slots_on a 0 l) (off a 0 x g.free l first on (λ e. from_giver.apart l (subst (IsOwn g) (sym e) (own_free g giver.numbered)) own));
       payloads = λ l y own here. payload_other a now x h.free v touched y (λ e. from_giver.apart l (subst (IsOwn g) (first.apart g.free l y (subst (λ z. is_on a 0 g.free z ≡ true) (sym e) on) here) (own_free g giver.numbered)) own);
-      chains = record {
-        names = kept_beside 1 x g.unnamed h.unnamed k.names k.unnamed a now by_name second (giver.names.placed x on)
-            (λ l p q. (λ e. from_taker.names l (omega (arith, named, e), omega (arith, e)) (p, q), λ e. from_giver.names l (omega (arith, giver.chains.unnamed, e), omega (arith, e)) (p, q)));
-        contexts = kept_beside 2 x g.outside h.outside k.contexts k.outside a now by_context third (giver.contexts.placed x on)
-            (λ l p q. (λ e. from_taker.contexts l (omega (arith, inside, e), omega (arith, e)) (p, q), λ e. from_giver.contexts l (omega (arith, giver.chains.outside, e), omega (arith, e)) (p, q)));
-      };
+      chains = record { names = keeps_all 1 k.names k.names_end a now keeps.names; contexts = keeps_all 2 k.contexts k.contexts_end a now keeps.contexts };
+      by_name = λ l y own here. ap (λ (ls : List (List ℕ)). has y (get_or ls unchained [])) keeps.names;
+      by_context = λ l y own here. ap (λ (ls : List (List ℕ)). has y (get_or ls unchained [])) keeps.contexts;
     }
 
   -- the first free slot of the one group has gone to the other

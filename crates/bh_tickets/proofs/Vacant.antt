@@ -7,7 +7,7 @@ use Rattle.bh_base.specs.declared.ticket.Ticket.{Ticket}
 use Rattle.bh_base.specs.Tickets.{is_queued}
 use Rattle.bh_slot_arena.specs.Slots.{slots_on}
 use Rattle.bh_cache.specs.declared.lists.GroupLists.{GroupLists}
-use Rattle.bh_cache.specs.Chains.{AreOn, list_by_context, list_by_name}
+use Rattle.bh_cache.specs.Chains.{AreOn, list_by_context, list_by_name, unchained}
 use Rattle.bh_cache.specs.Listed.{listed, put_in}
 use Rattle.bh_cache.specs.Slots.{Slots, has, is_live, is_on, is_owned, ticket_at, has_one, one, count_below, IsArena, InOrder, Once}
 use Rattle.bh_cache.proofs.Counts.{count_none, count_point}
@@ -72,9 +72,9 @@ nothing_slotted : (at : ℕ → Option Ticket) (n : ℕ) → ((x : ℕ) → at x
 nothing_slotted at zero none = refl
 nothing_slotted at (suc n) none = ap (λ o. slot_in n o (slotted at n)) (none n) ∙ nothing_slotted at n none
 
--- where no slot is free, and the lists of a family are empty, they are as for a group without tickets
-pub none_free : (f first last : ℕ) (a : Slots) (g : GroupLists) → slots_on a 0 g.free ≡ [] → ((l : ℕ) → first ≤ l → l ≤ last → slots_on a f l ≡ []) → AreFreeOn f first last a g
-none_free f first last a g none empty = record {
+-- where no slot is free, and the chains of a family are empty, they are as for a group without tickets
+pub none_free : (f first end : ℕ) (a : Slots) (g : GroupLists) → slots_on a 0 g.free ≡ [] → ((l : ℕ) → first ≤ l → l < end → slots_on a f l ≡ []) → AreFreeOn f first end a g
+none_free f first end a g none empty = record {
   placed = λ x on. absurd (not_true (ap (has x) none) on);
   owned = λ l x low high on. absurd (not_true (ap (has x) (empty l low high)) on);
 }
@@ -95,8 +95,8 @@ module _ (a : Slots) (s : GroupSlots) (arena : IsArena a 0) (group : IsGroupSlot
   owned_free : (x : ℕ) → is_owned a s.lists x ≡ is_on a 0 s.lists.free x
   owned_free x = ap (λ c. is_on a 0 s.lists.free x || c) (not_live x) ∙ or_false (is_on a 0 s.lists.free x)
 
-  free_on : (f first last : ℕ) (to : Option Ticket → ℕ) → to None ≡ last → AreOn f first last to a s.lists → AreFreeOn f first last a s.lists
-  free_on f first last to is are = record {
+  free_on : (f first end : ℕ) (to : Option Ticket → ℕ) → to None ≡ unchained → AreOn f first end to a s.lists → AreFreeOn f first end a s.lists
+  free_on f first end to is are = record {
     placed = λ x on. ap (λ l. is_on a f l x) (sym is) ∙ ap (λ o. is_on a f (to o) x) (sym (at_none x)) ∙ are.placed x (owned_free x ∙ on);
     owned = λ l x from til on. sym (owned_free x) ∙ are.owned l x from til on;
   }
@@ -108,8 +108,8 @@ module _ (a : Slots) (s : GroupSlots) (arena : IsArena a 0) (group : IsGroupSlot
     there = group.there;
     chains = group.chained.lists;
     live = not_live;
-    names = free_on 1 s.lists.names s.lists.unnamed (list_by_name s.lists) refl group.chained.names;
-    contexts = free_on 2 s.lists.contexts s.lists.outside (list_by_context s.lists) refl group.chained.contexts;
+    names = free_on 1 s.lists.names s.lists.names_end (list_by_name s.lists) refl group.chained.names;
+    contexts = free_on 2 s.lists.contexts s.lists.contexts_end (list_by_context s.lists) refl group.chained.contexts;
   }
 
   -- and has as many slots as lie on the list of free ones
@@ -136,8 +136,8 @@ module _ (a : Slots) (g : GroupLists) (vacant : IsVacant a g) where
   owned_is : (x : ℕ) → is_owned a g x ≡ is_on a 0 g.free x
   owned_is x = ap (λ c. is_on a 0 g.free x || c) (vacant.live x) ∙ or_false (is_on a 0 g.free x)
 
-  chains_on : (f first last : ℕ) (to : Option Ticket → ℕ) → to None ≡ last → AreFreeOn f first last a g → AreOn f first last to a g
-  chains_on f first last to is are = record {
+  chains_on : (f first end : ℕ) (to : Option Ticket → ℕ) → to None ≡ unchained → AreFreeOn f first end a g → AreOn f first end to a g
+  chains_on f first end to is are = record {
     placed = λ x own. ap (λ o. is_on a f (to o) x) (vacant_none x) ∙ ap (λ l. is_on a f l x) is ∙ are.placed x (sym (owned_is x) ∙ own);
     owned = λ l x from til on. owned_is x ∙ are.owned l x from til on;
   }
@@ -173,8 +173,8 @@ module _ (a : Slots) (g : GroupLists) (vacant : IsVacant a g) where
     there = vacant.there;
     chained = record {
       lists = vacant.chains;
-      names = chains_on 1 g.names g.unnamed (list_by_name g) refl vacant.names;
-      contexts = chains_on 2 g.contexts g.outside (list_by_context g) refl vacant.contexts;
+      names = chains_on 1 g.names g.names_end (list_by_name g) refl vacant.names;
+      contexts = chains_on 2 g.contexts g.contexts_end (list_by_context g) refl vacant.contexts;
     };
     arranged = record {
       distinct = λ x y t u e f k. absurd (no_ticket x t e);

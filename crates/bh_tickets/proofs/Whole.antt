@@ -90,7 +90,7 @@ module _ (a b : Slots) (ss : List GroupSlots) (i : ℕ) (s r : GroupSlots) (whol
     arena = change.arena;
     each = λ j k e. elim (cases_eq j i) [
       | inl q ↦ subst (IsGroupSlots b) (sym (now_r k (ap (slice_get (set ss i r)) (sym q) ∙ e))) change.group
-      | inr ne ↦ let was = sym (set_other ss i j r ne) ∙ e in slots_same a b k (frame_same s.lists k.lists a b change.frame change.chains (apart_own j k ne was)) whole.arena (whole.each j k was)
+      | inr ne ↦ let was = sym (set_other ss i j r ne) ∙ e in slots_same a b k (frame_same s.lists k.lists a b whole.arena (whole.each i s is).numbered change.frame change.chains (apart_own j k ne was)) whole.arena (whole.each j k was)
     ];
     apart = λ j l k m e f ne. elim (cases_eq j i) [
       | inl q ↦
@@ -112,7 +112,7 @@ module _ (a b : Slots) (ss : List GroupSlots) (i : ℕ) (s r : GroupSlots) (whol
     where
       at : (k : Option GroupSlots) → slice_get ss j ≡ k → j ≢ i → option_map (group_of b) k ≡ option_map (group_of a) k
       at None e ne = refl
-      at (Some k) e ne = ap Some (group_same a b k (frame_same s.lists k.lists a b change.frame change.chains (apart_own j k ne e)) whole.arena (whole.each j k e))
+      at (Some k) e ne = ap Some (group_same a b k (frame_same s.lists k.lists a b whole.arena (whole.each i s is).numbered change.frame change.chains (apart_own j k ne e)) whole.arena (whole.each j k e))
 
   -- at the group's number contracts see the part that was set
   pub now_group : group_at (view_of b (set ss i r)) i ≡ group_of b r

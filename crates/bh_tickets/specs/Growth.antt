@@ -3,6 +3,7 @@ use Rattle.std.specs.Prelude.{◌≡◌, ℕ, ◌+◌, ◌<◌, ◌≤◌, [], �
 use Rattle.bh_base.specs.declared.ticket.Ticket.{Ticket}
 use Rattle.bh_slot_arena.specs.Slots.{lists_in, with_new_slots}
 use Rattle.bh_cache.specs.declared.lists.GroupLists.{GroupLists}
+use Rattle.bh_cache.specs.Chains.{unchained}
 use Rattle.bh_cache.specs.Slots.{Slots, IsArena}
 
 -- a group's lists, in each family from a number on, with so many chains by cache name and as many by request context
@@ -13,9 +14,9 @@ lists_from chains n k m = record {
   running = n + 2;
   settled = n + 3;
   names = k;
-  unnamed = k + chains;
+  names_end = k + chains;
   contexts = m;
-  outside = m + chains;
+  contexts_end = m + chains;
 }
 
 -- how many chains of each family a group with so many slots has
@@ -38,15 +39,15 @@ pub record HasMoreLists (a b : Slots) : Type 0 where
   pub third : ℕ
   pub lists : HasNewLists first second third a b
 
--- the lists of free slots are there, and so many slots more are within the limit
+-- the lists for free slots are there, and so many slots more are within the limit
 pub record IsReadyFor (g : GroupLists) (count : ℕ) (a : Slots) : Type 0 where
   pub first : g.free < length (lists_in a 0)
-  pub second : g.unnamed < length (lists_in a 1)
-  pub third : g.outside < length (lists_in a 2)
+  pub second : unchained < length (lists_in a 1)
+  pub third : unchained < length (lists_in a 2)
   pub within : length a.payloads + count ≤ a.limit
 
--- so many slots more, on the lists of free slots
+-- so many slots more, on the lists for free slots
 pub record IsGrown (g : GroupLists) (count : ℕ) (a b : Slots) : Type 0 where
   pub blank : Ticket
-  pub is : b ≡ with_new_slots count (g.free ∷ g.unnamed ∷ g.outside ∷ []) blank a
+  pub is : b ≡ with_new_slots count (g.free ∷ unchained ∷ unchained ∷ []) blank a
   pub arena : IsArena b 0

@@ -2,6 +2,7 @@
 use Rattle.std.specs.Prelude.{◌≡◌, ◌≢◌, ℕ, ◌+◌, ◌<◌, ◌≤◌, List, [], length, Some, slice_get, slice_set}
 use Rattle.bh_slot_arena.specs.Slots.{lists_in, slots_on}
 use Rattle.bh_cache.specs.declared.lists.GroupLists.{GroupLists}
+use Rattle.bh_cache.specs.Chains.{unchained}
 use Rattle.bh_cache.specs.Slots.{Slots}
 use Rattle.bh_tickets.specs.declared.group_slots.GroupSlots.{GroupSlots}
 use Rattle.bh_tickets.specs.declared.names.NameLists.{NameLists}
@@ -9,31 +10,33 @@ use Rattle.bh_tickets.specs.GroupSlots.{no_slot_taken}
 
 -- the chains of a group
 abbrev pub names_of : GroupLists → NameLists
-names_of g = record { names = g.names; unnamed = g.unnamed; contexts = g.contexts; outside = g.outside }
+names_of g = record { names = g.names; names_end = g.names_end; contexts = g.contexts; contexts_end = g.contexts_end }
 
 -- the lists of a group, with these chains in the place of its own
 abbrev pub with_names : NameLists → GroupLists → GroupLists
-with_names n g = record g { names = n.names; unnamed = n.unnamed; contexts = n.contexts; outside = n.outside }
+with_names n g = record g { names = n.names; names_end = n.names_end; contexts = n.contexts; contexts_end = n.contexts_end }
 
--- no number is both from the first to the last of the one and of the other
+-- no number is both from the first to before the end of the one and of the other
 abbrev pub AreApart : ℕ → ℕ → ℕ → ℕ → Type 0
-AreApart first last from to = (l : ℕ) → (first ≤ l) × (l ≤ last) → (from ≤ l) × (l ≤ to) → ⊥
+AreApart first end from to = (l : ℕ) → (first ≤ l) × (l < end) → (from ≤ l) × (l < to) → ⊥
 
 -- they have no list in common, in either family
 pub record AreBeside (n m : NameLists) : Type 0 where
-  pub names : AreApart n.names n.unnamed m.names m.unnamed
-  pub contexts : AreApart n.contexts n.outside m.contexts m.outside
+  pub names : AreApart n.names n.names_end m.names m.names_end
+  pub contexts : AreApart n.contexts n.contexts_end m.contexts m.contexts_end
 
--- the lists of a family from the first to the last are there, and no slot lies on them
-pub record AreEmptyOn (family first last : ℕ) (a : Slots) : Type 0 where
-  pub some : first < last
-  pub there : last < length (lists_in a family)
-  pub empty : (l : ℕ) → first ≤ l → l ≤ last → slots_on a family l ≡ []
+-- the chains of a family from the first to before the end are there, behind the list that all groups share, and no slot lies
+-- on them
+pub record AreEmptyOn (family first end : ℕ) (a : Slots) : Type 0 where
+  pub behind : unchained < first
+  pub some : first < end
+  pub there : end ≤ length (lists_in a family)
+  pub empty : (l : ℕ) → first ≤ l → l < end → slots_on a family l ≡ []
 
 -- and so those of both families
 pub record AreEmpty (a : Slots) (n : NameLists) : Type 0 where
-  pub names : AreEmptyOn 1 n.names n.unnamed a
-  pub contexts : AreEmptyOn 2 n.contexts n.outside a
+  pub names : AreEmptyOn 1 n.names n.names_end a
+  pub contexts : AreEmptyOn 2 n.contexts n.contexts_end a
 
 -- the chains are those of no group, and no two of them have a list in common
 pub record AreLeft (a : Slots) (ss : List GroupSlots) (ns : List NameLists) : Type 0 where
@@ -43,8 +46,8 @@ pub record AreLeft (a : Slots) (ss : List GroupSlots) (ns : List NameLists) : Ty
 
 -- they are so many in each family
 pub record AreMany (chains : ℕ) (n : NameLists) : Type 0 where
-  pub names : n.unnamed ≡ n.names + chains
-  pub contexts : n.outside ≡ n.contexts + chains
+  pub names : n.names_end ≡ n.names + chains
+  pub contexts : n.contexts_end ≡ n.contexts + chains
 
 -- those of the number are so many
 pub record HasNames (chains number : ℕ) (ns : List NameLists) : Type 0 where

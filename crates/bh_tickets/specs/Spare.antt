@@ -2,7 +2,7 @@
 use Rattle.std.specs.Prelude.{◌≡◌, ◌≢◌, ℕ, zero, suc, ◌+◌, ◌<◌, ◌≤◌, Bool, true, false, ◌||◌, List, [], length, Option, Some, slice_get}
 use Rattle.bh_slot_arena.specs.Slots.{lists_in, slots_on}
 use Rattle.bh_cache.specs.declared.lists.GroupLists.{GroupLists}
-use Rattle.bh_cache.specs.Chains.{HasChains}
+use Rattle.bh_cache.specs.Chains.{HasChains, unchained}
 use Rattle.bh_cache.specs.Slots.{Slots, is_live, is_on, IsApart}
 use Rattle.bh_tickets.specs.declared.group_slots.GroupSlots.{GroupSlots}
 use Rattle.bh_tickets.specs.declared.names.NameLists.{NameLists}
@@ -14,10 +14,10 @@ use Rattle.bh_tickets.specs.Whole.{IsWhole, groups_of, rooms, view_of}
 
 -- ---- a group without tickets
 
--- the group's free slots lie on the last of its lists of the family, and no others lie on these
-pub record AreFreeOn (family first last : ℕ) (a : Slots) (g : GroupLists) : Type 0 where
-  pub placed : (x : ℕ) → is_on a 0 g.free x ≡ true → is_on a family last x ≡ true
-  pub owned : (l x : ℕ) → first ≤ l → l ≤ last → is_on a family l x ≡ true → is_on a 0 g.free x ≡ true
+-- the group's free slots lie on the family's list for slots without a cached ticket, and no others lie on its chains
+pub record AreFreeOn (family first end : ℕ) (a : Slots) (g : GroupLists) : Type 0 where
+  pub placed : (x : ℕ) → is_on a 0 g.free x ≡ true → is_on a family unchained x ≡ true
+  pub owned : (l x : ℕ) → first ≤ l → l < end → is_on a family l x ≡ true → is_on a 0 g.free x ≡ true
 
 -- the group's lists are there, and no slot on them has a ticket
 pub record IsVacant (a : Slots) (g : GroupLists) : Type 0 where
@@ -25,8 +25,8 @@ pub record IsVacant (a : Slots) (g : GroupLists) : Type 0 where
   pub there : g.settled < length (lists_in a 0)
   pub chains : HasChains a g
   pub live : (x : ℕ) → is_live a g x ≡ false
-  pub names : AreFreeOn 1 g.names g.unnamed a g
-  pub contexts : AreFreeOn 2 g.contexts g.outside a g
+  pub names : AreFreeOn 1 g.names g.names_end a g
+  pub contexts : AreFreeOn 2 g.contexts g.contexts_end a g
 
 -- how many slots of the group have no ticket
 abbrev pub free_slots : Slots → GroupLists → ℕ

@@ -6,7 +6,7 @@ ghost use Rattle.bh_slot_arena.specs.Slots.{lists_in};
 ghost use Rattle.bh_tickets.specs.Growth.{HasMoreLists, HasNewLists, IsGrown, IsReadyFor, chains_for, lists_from};
 
 use bh_base::{Text, Ticket, TicketState};
-use bh_cache::GroupLists;
+use bh_cache::{GroupLists, UNCHAINED};
 use bh_slot_arena::Arena;
 use std::alloc::{AllocError, Global};
 
@@ -32,29 +32,42 @@ pub fn chains_for(slots: u64) -> usize
     }
 }
 
-/// The lists of a new group, which are empty, with so many chains by cache name and by request context. In either of these
-/// families slots without a ticket and those whose ticket is not cached have one list, so that most tickets come and go
-/// without a move there. Refused, the arena may have some empty lists more.
+/// The lists of a new group, which are empty, with so many chains by cache name and by request context. Refused, the arena
+/// may have some empty lists more.
 pub fn add_lists(arena: &mut Arena<Ticket, 3>, chains: usize) -> Result<GroupLists, AllocError>
     requires { chains < 2 ^ 63 }
     ensures lists { IfOk result (λ lists. lists ≡ lists_from chains (length (lists_in arena.old 0)) (length (lists_in arena.old 1)) (length (lists_in arena.old 2))) }
-    ensures ok { OnOk result (HasNewLists 4 (chains + 1) (chains + 1) arena.old arena.new) }
+    ensures ok { OnOk result (HasNewLists 4 chains chains arena.old arena.new) }
     ensures more { HasMoreLists arena.old arena.new }
 {
     arena.partition(0);
     let free = arena.add_lists(0, 4)?;
-    let names = arena.add_lists(1, chains + 1)?;
-    let contexts = arena.add_lists(2, chains + 1)?;
+    let names = arena.add_lists(1, chains)?;
+    let contexts = arena.add_lists(2, chains)?;
     Ok(GroupLists {
         free,
         queued: free + 1,
         running: free + 2,
         settled: free + 3,
         names,
-        unnamed: names + chains,
+        names_end: names + chains,
         contexts,
-        outside: contexts + chains,
+        contexts_end: contexts + chains,
     })
+}
+
+/// The lists of a new group before all others: in either family of chains the first is the one that all groups share for
+/// slots without a cached ticket. Refused, the arena may have some empty lists more.
+pub fn first_lists(arena: &mut Arena<Ticket, 3>, chains: usize) -> Result<GroupLists, AllocError>
+    requires { chains < 2 ^ 63 }
+    ensures lists { IfOk result (λ lists. lists ≡ lists_from chains (length (lists_in arena.old 0)) (1 + length (lists_in arena.old 1)) (1 + length (lists_in arena.old 2))) }
+    ensures ok { OnOk result (HasNewLists 4 (1 + chains) (1 + chains) arena.old arena.new) }
+    ensures more { HasMoreLists arena.old arena.new }
+{
+    arena.partition(0);
+    arena.add_lists(1, 1)?;
+    arena.add_lists(2, 1)?;
+    add_lists(arena, chains)
 }
 
 /// So many free slots for a group. Refused, nothing has changed.
@@ -68,11 +81,7 @@ pub fn add_slots(
     ensures err { OnErr result (arena.new ≡ arena.old) }
 {
     if arena
-        .add_slots(
-            count,
-            [lists.free, lists.unnamed, lists.outside],
-            blank_ticket(),
-        )
+        .add_slots(count, [lists.free, UNCHAINED, UNCHAINED], blank_ticket())
         .is_err()
     {
         return Err(AllocError);

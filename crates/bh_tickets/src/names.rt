@@ -11,14 +11,14 @@ use bh_cache::GroupLists;
 use bh_slot_arena::Arena;
 use std::alloc::AllocError;
 
-/// The chains of a group: by cache name the lists of the second family from `names` up to `unnamed`, by request context
-/// those of the third from `contexts` up to `outside`. The last of each family is that of slots without a cached ticket.
+/// The chains of a group: by cache name the lists of the second family from `names` up to `names_end`, which is none of
+/// them, and by request context those of the third from `contexts` up to `contexts_end`.
 #[derive(Clone, Copy, Debug)]
 pub struct NameLists {
     pub names: usize,
-    pub unnamed: usize,
+    pub names_end: usize,
     pub contexts: usize,
-    pub outside: usize,
+    pub contexts_end: usize,
 }
 
 /// The number of chains that no group has and that are so many in each family. They are made where there are none.
@@ -38,14 +38,14 @@ pub fn ready_names(
     }
     left.reserve(1)?;
     arena.partition(0);
-    let names = arena.add_lists(1, chains + 1)?;
-    let contexts = arena.add_lists(2, chains + 1)?;
+    let names = arena.add_lists(1, chains)?;
+    let contexts = arena.add_lists(2, chains)?;
     let number = left.len();
     left.push_reserved(NameLists {
         names,
-        unnamed: names + chains,
+        names_end: names + chains,
         contexts,
-        outside: contexts + chains,
+        contexts_end: contexts + chains,
     });
     Ok(number)
 }
@@ -68,8 +68,8 @@ pub fn are_many(lists: &NameLists, chains: usize) -> bool
     requires { 0 < chains }
     ensures { result ≡ true → AreMany chains lists.now }
 {
-    lists.unnamed.saturating_sub(lists.names) == chains
-        && lists.outside.saturating_sub(lists.contexts) == chains
+    lists.names_end.saturating_sub(lists.names) == chains
+        && lists.contexts_end.saturating_sub(lists.contexts) == chains
 }
 
 /// The group at the place, which has no slot, gets the chains of the number, and its own are left to others.
@@ -95,9 +95,9 @@ pub fn names_of(lists: &GroupLists) -> NameLists
 {
     NameLists {
         names: lists.names,
-        unnamed: lists.unnamed,
+        names_end: lists.names_end,
         contexts: lists.contexts,
-        outside: lists.outside,
+        contexts_end: lists.contexts_end,
     }
 }
 
@@ -107,8 +107,8 @@ fn with_names(lists: &GroupLists, names: &NameLists) -> GroupLists
 {
     let mut now = *lists;
     now.names = names.names;
-    now.unnamed = names.unnamed;
+    now.names_end = names.names_end;
     now.contexts = names.contexts;
-    now.outside = names.outside;
+    now.contexts_end = names.contexts_end;
     now
 }

@@ -10,10 +10,10 @@ ghost use Rattle.bh_tickets.specs.Growth.{chains_for};
 ghost use Rattle.bh_tickets.specs.Spare.{AreSpare, GetsPlace, HasRoomBeside, IsGathered, IsGiven, IsLeft, IsTaken, IsVacant, KeepsGroups, StaysWhole, free_slots};
 
 use crate::group_slots::GroupSlots;
-use crate::growth::{add_lists, add_slots, blank_ticket, chains_for};
+use crate::growth::{add_lists, add_slots, blank_ticket, chains_for, first_lists};
 use crate::names::{NameLists, are_many, exchange, names_of, ready_names};
 use bh_base::Ticket;
-use bh_cache::{GroupLists, place_free};
+use bh_cache::{GroupLists, UNCHAINED};
 use bh_slot_arena::Arena;
 use std::alloc::AllocError;
 
@@ -60,7 +60,7 @@ fn spare_lists(
     if let Some(part) = *spare {
         return Ok(part.lists);
     }
-    let lists = add_lists(arena, SPARE_CHAINS)?;
+    let lists = first_lists(arena, SPARE_CHAINS)?;
     *spare = Some(GroupSlots::new(lists, 0));
     Ok(lists)
 }
@@ -160,7 +160,8 @@ pub fn take_slots(arena: &mut Arena<Ticket, 3>, from: &GroupLists, to: &GroupLis
     }
 }
 
-/// A slot goes from one group to another, neither of which has a ticket. Nothing of the tickets that it had is left.
+/// A slot goes from one group to another, neither of which has a ticket. Nothing of the tickets that it had is left. Among
+/// the chains it stays where it is: on the lists that all groups share.
 fn take_slot(arena: &mut Arena<Ticket, 3>, from: &GroupLists, to: &GroupLists)
     requires giver { IsVacant arena.old from.now }
     requires taker { IsVacant arena.old to.now }
@@ -176,7 +177,6 @@ fn take_slot(arena: &mut Arena<Ticket, 3>, from: &GroupLists, to: &GroupLists)
     arena.partition(2);
     blank(arena, slot);
     arena.move_to_back(0, slot, to.free);
-    place_free(arena, to, slot);
 }
 
 /// Nothing is left of the tickets that the slot had. One that had none since it was blank is not written again: it has the
@@ -199,14 +199,14 @@ pub fn give_slots(arena: &mut Arena<Ticket, 3>, group: &GroupSlots, to: &GroupLi
 {
     let from = group.lists;
     is_number(from.settled);
-    is_number(from.unnamed);
-    is_number(from.outside);
-    let by_name = from.unnamed - from.names + 1;
-    let by_context = from.outside - from.contexts + 1;
+    is_number(from.names_end);
+    is_number(from.contexts_end);
+    let by_name = from.names_end - from.names;
+    let by_context = from.contexts_end - from.contexts;
     arena.partition(0);
     gather(arena, 0, from.free, 4, to.free);
-    gather(arena, 1, from.names, by_name, to.unnamed);
-    gather(arena, 2, from.contexts, by_context, to.outside);
+    gather(arena, 1, from.names, by_name, UNCHAINED);
+    gather(arena, 2, from.contexts, by_context, UNCHAINED);
     arena.partition(0);
 }
 

@@ -5,14 +5,14 @@ use Rattle.bh_cache.specs.Cache.{earliest}
 use Rattle.bh_cache.specs.Slots.{IsArena}
 use Rattle.bh_cache.proofs.Earliest.{if_found, if_none}
 use Rattle.bh_cache.proofs.Found.{name_best}
-use Rattle.bh_cache.proofs.Placed.{name_chain_not_unnamed}
+use Rattle.bh_cache.proofs.Placed.{name_chain_before_end}
 use Rattle.bh_cache.proofs.Walks.{arena_is}
 use Rattle.bh_cache.proofs.cache.find.Goals as goal
 
 pub find_on-requires : goal.find_on-requires
 find_on-requires c =
-    let k = name_chain_not_unnamed c.args.arena.now c.args.lists.now c.requires.lists (c.args.context, c.args.key.now) in
-    omega (arith, k, c.name_chain-chain.ensures, c.requires.lists.unnamed, c.requires.lists.names_there)
+    let k = name_chain_before_end c.args.arena.now c.args.lists.now c.requires.lists (c.args.context, c.args.key.now) in
+    omega (arith, k, c.name_chain-chain.ensures, c.requires.lists.names_there)
 
 pub returns-clause-found : goal.returns-clause-found
 returns-clause-found c =

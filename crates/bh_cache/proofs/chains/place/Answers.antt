@@ -4,21 +4,21 @@ use Rattle.bh_slot_arena.specs.Slots.{lists_in, with_moved}
 use Rattle.bh_cache.specs.Chains.{list_by_context, with_placed}
 use Rattle.bh_cache.specs.Slots.{Slots}
 use Rattle.bh_cache.proofs.Moves.{family_stays}
-use Rattle.bh_cache.proofs.Placed.{context_list_within, name_list_within}
+use Rattle.bh_cache.proofs.Placed.{context_list_there, name_list_there}
 use Rattle.bh_cache.proofs.chains.place.Goals as goal
 
 pub move_to_back-requires : goal.move_to_back-requires
 move_to_back-requires c =
-    let k = name_list_within c.args.arena.now c.args.lists.now c.requires.lists (Some c.get-ticket.result.now) in
-    (search rules, (search rules, (c.requires.slot, omega (arith, k.1, c.list_by_name-names.ensures, c.requires.lists.names_there))))
+    let k = name_list_there c.args.arena.now c.args.lists.now c.requires.lists (Some c.get-ticket.result.now) in
+    (search rules, (search rules, (c.requires.slot, omega (arith, k, c.list_by_name-names.ensures))))
 
 pub move_to_back-requires-2 : goal.move_to_back-requires-2
 move_to_back-requires-2 c =
     let a = c.args.arena.now in
-    let k = context_list_within a c.args.lists.now c.requires.lists (Some c.get-ticket.result.now) in
+    let k = context_list_there a c.args.lists.now c.requires.lists (Some c.get-ticket.result.now) in
     let contexts : lists_in c.move_to_back.new.self 2 ≡ lists_in a 2 =
     ap (λ (m : Slots). lists_in m 2) c.move_to_back.ensures.moved ∙ family_stays a 1 2 c.args.slot c.list_by_name-names.result (λ e. absurd (omega (arith, e))) in
-    (search rules, (search rules, (search rules, omega (arith, k.1, c.list_by_context-contexts.ensures, ap (λ (ls : List (List ℕ)). length ls) contexts, c.requires.lists.contexts_there))))
+    (search rules, (search rules, (search rules, omega (arith, k, c.list_by_context-contexts.ensures, ap (λ (ls : List (List ℕ)). length ls) contexts))))
 
 pub returns : goal.returns
 returns c =

@@ -7,7 +7,7 @@ use Rattle.bh_index_lists.specs.Lists.{without}
 use Rattle.bh_slot_arena.specs.Slots.{slots_on, with_payload}
 use Rattle.bh_cache.specs.declared.lists.GroupLists.{GroupLists}
 use Rattle.bh_cache.specs.Cache.{IsDroppedFrom, uncached_in}
-use Rattle.bh_cache.specs.Chains.{IsChained, list_by_context, with_placed}
+use Rattle.bh_cache.specs.Chains.{IsChained, list_by_context, unchained, with_placed}
 use Rattle.bh_cache.specs.Slots.{Slots, IsArena, has_one, is_live, is_on, one, ticket_at}
 use Rattle.bh_cache.proofs.Dropped.{uncached_same, dropped_at}
 use Rattle.bh_cache.proofs.Placed.{IsUnplaced, context_left, frame_refl, chained_placed, families_placed, first_placed, frame_placed}
@@ -31,13 +31,13 @@ module _ (context : ℕ) (a : Slots) (g : GroupLists) (slot : ℕ) (t : Ticket) 
       (sym (ap one not_cached))
 
   -- a slot that is placed for a ticket that is not cached leaves its chain by context
-  leaves : 2 < length a.families → (l : ℕ) → (l ≡ g.outside → ⊥) → slots_on (with_placed g slot (slice_get (with_payload slot (record t { cached = false }) a).payloads slot) (with_payload slot (record t { cached = false }) a)) 2 l ≡ without slot (slots_on a 2 l)
+  leaves : 2 < length a.families → (l : ℕ) → (l ≡ unchained → ⊥) → slots_on (with_placed g slot (slice_get (with_payload slot (record t { cached = false }) a).payloads slot) (with_payload slot (record t { cached = false }) a)) 2 l ≡ without slot (slots_on a 2 l)
   leaves wide l ne =
       let v : Ticket = record t { cached = false } in
       let m : Slots = with_payload slot v a in
       let o : Option Ticket = slice_get m.payloads slot in
       let put : o ≡ Some v = get_set a.payloads slot slot v within ∙ ap (λ d. if d then Some v else slice_get a.payloads slot) (eq-eqb slot slot refl) in
-      let to : list_by_context g o ≡ g.outside = ap (list_by_context g) put in
+      let to : list_by_context g o ≡ unchained = ap (list_by_context g) put in
       context_left m g slot o wide l (λ e. ne (e ∙ to))
 
   module _ (cached : is_cached_in context t ≡ true) (live : is_live a g slot ≡ true) (by_name : IsArena a 1) (by_context : IsArena a 2) where

@@ -53,7 +53,7 @@ loop-preserved c =
       end = c.loop.invariant.end;
       here = omega (arith, c.loop.invariant.end);
       ahead = c.next-ahead.ensures c.args.chain (length along.behind) (along_at now old c.loop.counter c.in-Some.slot along at) ∙ along_next now old c.loop.counter c.in-Some.slot along at;
-      along = along_more now old c.loop.counter c.in-Some.slot along at (arena.once c.args.chain) goes (slots_on c.drop_at-number.new.arena 2 c.args.chain) (c.drop_at-number.ensures.walk c.args.chain (λ e. absurd (omega (arith, e, c.requires.to))));
+      along = along_more now old c.loop.counter c.in-Some.slot along at (arena.once c.args.chain) goes (slots_on c.drop_at-number.new.arena 2 c.args.chain) (c.drop_at-number.ensures.walk c.args.chain (λ e. absurd (omega (arith, e, c.requires.from, c.requires.chained.lists.contexts_behind))));
       dropped = dropped_more c.args.context c.args.lists.now old c.loop.counter c.in-Some.slot c.args.arena.now c.loop.arena c.drop_at-number.new.arena c.loop.number c.drop_at-number.result at c.loop.invariant.dropped c.drop_at-number.ensures.dropped;
       noted = noted_more c.args.context c.args.lists.now old c.loop.counter c.in-Some.slot c.args.arena.now c.loop.arena c.loop.number c.args.notes.now c.loop.notes c.drop_at-number.new.notes at c.loop.invariant.dropped c.loop.invariant.noted c.drop_at-number.ensures.noted;
     }

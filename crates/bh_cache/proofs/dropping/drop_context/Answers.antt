@@ -7,13 +7,13 @@ use Rattle.bh_cache.specs.Slots.{IsArena, has}
 use Rattle.bh_cache.proofs.Dropped.{dropped_group}
 use Rattle.bh_cache.proofs.Found.{chain_has_all}
 use Rattle.bh_cache.proofs.Noting.{noted_group}
-use Rattle.bh_cache.proofs.Placed.{context_chain_not_outside}
+use Rattle.bh_cache.proofs.Placed.{context_chain_before_end}
 use Rattle.bh_cache.proofs.Walks.{arena_is}
 use Rattle.bh_cache.proofs.dropping.drop_context.Goals as goal
 
 pub drop_chain-requires-clause-to : goal.drop_chain-requires-clause-to
 drop_chain-requires-clause-to c =
-    let k = context_chain_not_outside c.args.arena.now c.args.lists.now c.requires.chained.lists c.args.context in
+    let k = context_chain_before_end c.args.arena.now c.args.lists.now c.requires.chained.lists c.args.context in
     omega (arith, k, c.context_chain-chain.ensures)
 
 pub returns-clause-dropped : goal.returns-clause-dropped

@@ -24,7 +24,7 @@ returns-in_err-contexts-clause-err c =
     let a = c.args.arena.now in
     let b = c.add_lists-2.new.self in
     let some : HasMoreLists a b =
-    record { first = 0; second = c.args.chains + 1; third = 0; lists = more_second 0 (c.args.chains + 1) a a b (omega (arith, c.partition.ensures.families)) (more_none a) (c.in_err-contexts.ensures.err ∙ c.in_ok-names.ensures.ok) } in
+    record { first = 0; second = c.args.chains; third = 0; lists = more_second 0 c.args.chains a a b (omega (arith, c.partition.ensures.families)) (more_none a) (c.in_err-contexts.ensures.err ∙ c.in_ok-names.ensures.ok) } in
     search (rules, some, c.reserve.ensures.items)
 
 pub returns-clause-ok : goal.returns-clause-ok
@@ -33,13 +33,13 @@ returns-clause-ok c =
     let m = c.add_lists.new.self in
     let b = c.add_lists-2.new.self in
     let ns = c.args.left.now.items in
-    let made : NameLists = record { names = c.in_ok-names.names; unnamed = c.in_ok-names.names + c.args.chains; contexts = c.in_ok-contexts.contexts; outside = c.in_ok-contexts.contexts + c.args.chains } in
-    let second = more_second 0 (c.args.chains + 1) a a m (omega (arith, c.partition.ensures.families)) (more_none a) c.in_ok-names.ensures.ok in
-    let more = more_third 0 (c.args.chains + 1) (c.args.chains + 1) a m b (omega (arith, c.partition.ensures.families)) second c.in_ok-contexts.ensures.ok in
+    let made : NameLists = record { names = c.in_ok-names.names; names_end = c.in_ok-names.names + c.args.chains; contexts = c.in_ok-contexts.contexts; contexts_end = c.in_ok-contexts.contexts + c.args.chains } in
+    let second = more_second 0 c.args.chains a a m (omega (arith, c.partition.ensures.families)) (more_none a) c.in_ok-names.ensures.ok in
+    let more = more_third 0 c.args.chains c.args.chains a m b (omega (arith, c.partition.ensures.families)) second c.in_ok-contexts.ensures.ok in
     let third = ap (λ (ls : List (List ℕ)). length ls) (second.third ∙ append-nil (lists_in a 2)) in
     let items : c.push_reserved.new.self.items ≡ ns ++ made ∷ [] = c.push_reserved.ensures.items ∙ ap (λ (xs : List NameLists). xs ++ made ∷ []) c.reserve.ensures.items in
     let size : c.len-number.result ≡ length c.reserve.new.self.items = search rules in
     let number : c.len-number.result ≡ length ns = size ∙ ap (λ (xs : List NameLists). length xs) c.reserve.ensures.items in
     subst (λ k. GetsNames c.args.chains k a ns b c.push_reserved.new.self.items) (sym number)
     (subst (λ (xs : List NameLists). GetsNames c.args.chains (length ns) a ns b xs) (sym items)
-    (made_names c.args.chains c.requires.some a b ns made more (record { names = c.in_ok-names.ensures.first; contexts = c.in_ok-contexts.ensures.first ∙ third; many = record { names = refl; contexts = refl } })))
+    (made_names c.args.chains c.requires.some a b ns made more c.in_ok-names.ensures.first (c.in_ok-contexts.ensures.first ∙ third) (record { names = refl; contexts = refl })))

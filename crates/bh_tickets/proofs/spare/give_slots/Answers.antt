@@ -7,10 +7,10 @@ pub gather-requires-clause-few : goal.gather-requires-clause-few
 gather-requires-clause-few c = omega (arith, c.is_number.ensures, c.requires.giver.numbered.settled)
 
 pub gather-requires-2-clause-few : goal.gather-requires-2-clause-few
-gather-requires-2-clause-few c = omega (arith, c.is_number-2.ensures, c.requires.giver.chained.lists.unnamed)
+gather-requires-2-clause-few c = omega (arith, c.is_number-2.ensures, c.requires.giver.chained.lists.names_some)
 
 pub gather-requires-3-clause-few : goal.gather-requires-3-clause-few
-gather-requires-3-clause-few c = omega (arith, c.is_number-3.ensures, c.requires.giver.chained.lists.outside)
+gather-requires-3-clause-few c = omega (arith, c.is_number-3.ensures, c.requires.giver.chained.lists.contexts_some)
 
 pub returns : goal.returns
 returns c =

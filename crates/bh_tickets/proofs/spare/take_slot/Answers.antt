@@ -1,6 +1,5 @@
-use Rattle.std.proofs.Common.{None, arith, ap, subst, sym, ◌∙◌}
+use Rattle.std.proofs.Common.{arith, ap, subst, sym, ◌∙◌}
 use Rattle.bh_slot_arena.specs.Slots.{with_moved}
-use Rattle.bh_cache.specs.Chains.{with_placed}
 use Rattle.bh_cache.specs.Slots.{Slots}
 use Rattle.bh_cache.proofs.Walks.{arena_is}
 use Rattle.bh_tickets.specs.Spare.{IsTaken}
@@ -13,7 +12,7 @@ returns c =
     let from = c.args.from.now in
     let to = c.args.to.now in
     let slot = c.in-Some.slot in
-    let made = c.place_free.ensures ∙ ap (with_placed to slot None) (c.move_to_back.ensures.moved ∙ ap (with_moved 0 slot to.free) c.blank.ensures.1) in
+    let made = c.move_to_back.ensures.moved ∙ ap (with_moved 0 slot to.free) c.blank.ensures.1 in
     subst (λ (z : Slots). IsTaken 1 from to a z) (sym made)
     (taken_one a from to slot c.blank.ensures.0 c.requires.giver c.requires.taker c.requires.apart
     (arena_is a 0 (omega (arith, c.partition.ensures.families)) c.partition.ensures.lists)
