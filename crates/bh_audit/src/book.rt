@@ -10,7 +10,6 @@ ghost use Rattle.bh_core.specs.Acts.{with_opened};
 ghost use Rattle.bh_core.specs.CoreView.{most_groups, slots_in, view_at, with_retired};
 ghost use Rattle.bh_core.specs.Looks.{is_assigned, is_in_use, is_worn_out};
 ghost use Rattle.bh_core.specs.Step.{IsStep};
-ghost use Rattle.bh_journal.specs.Replay.{written};
 ghost use Rattle.bh_audit.specs.Calls.{NeedsNoWait, is_due};
 ghost use Rattle.bh_audit.specs.Books.{AreEmpty, AreNew, BookView, IsAudited, IsWritten, empty_journal, first_journals};
 
@@ -36,7 +35,6 @@ pub struct Book {
 
 impl Model for Book {
     ghost use Rattle.std.specs.Prelude.{◌≡◌, true};
-    ghost use Rattle.bh_journal.specs.Replay.{written};
     ghost use Rattle.bh_audit.specs.Calls.{NeedsNoWait};
     ghost use Rattle.bh_audit.specs.Books.{BookView, IsAudited};
     ghost use Rattle.bh_audit.specs.Quiet.{AreQuiet};
@@ -102,7 +100,7 @@ impl Book {
             return Some(place);
         }
         let journal = &mut self.journals[group.0 as usize];
-        write(journal, step, reply);
+        journal.write(step, reply);
         Some(place)
     }
 
@@ -250,15 +248,6 @@ pub(crate) fn is_refused(reply: &Reply) -> bool
     ensures { result ≡ is_refusal reply.now }
 {
     matches!(reply, Reply::Worn | Reply::NoGroup | Reply::NoCommand)
-}
-
-/// Writes the step with its reply at the end of the journal.
-#[inline(always)]
-fn write(journal: &mut Journal, step: &Step, reply: &Reply)
-    requires { 0 < journal.old.room }
-    ensures { journal.new ≡ written journal.old step.entry.now reply.now }
-{
-    journal.write(*step, *reply);
 }
 
 /// A journal with room for so many entries, for which there is a place behind the others.

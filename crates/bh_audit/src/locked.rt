@@ -25,7 +25,6 @@ use crate::freed::{Freed, FreedCallers, Notice, is_told_again};
 use crate::next::Progress;
 use crate::pass::Pass;
 use bh_base::{GroupId, GroupProps, Moment, Op, Reply, Serial, Step, Strategy};
-use bh_journal::Receipt;
 
 /// What the lock guards. The book is audited where `A` is 1.
 #[derive(Drop)]
@@ -72,7 +71,7 @@ impl<const A: u32> Locked<A> {
             return freed;
         };
         if self.book.audited() {
-            receive(pass, place, step, reply);
+            pass.add(place, step, reply);
         }
         freed
     }
@@ -343,17 +342,4 @@ fn mark(pass: &mut Pass, reply: &Reply)
         Reply::NoCommand => {}
         _ => unreachable!(),
     }
-}
-
-/// Adds the receipt of a step that was made.
-#[inline(always)]
-fn receive(pass: &mut Pass, place: u64, step: &Step, reply: &Reply)
-    requires { 0 < pass.old.room }
-    ensures { pass.new ≡ added pass.old (receipt_of place step.entry.now reply.now) }
-{
-    pass.add(Receipt {
-        place,
-        step: *step,
-        reply: *reply,
-    });
 }

@@ -1,9 +1,9 @@
 //! What a caller keeps of its steps, to which only the service adds.
 
 ghost use Rattle.std.specs.Prelude.{◌≡◌, ◌<◌, IfOk, IsOk};
-ghost use Rattle.bh_journal.specs.Passes.{added, blank, marked_no_group, marked_stopped, marked_worn};
+ghost use Rattle.bh_journal.specs.Passes.{added, blank, marked_no_group, marked_stopped, marked_worn, receipt_of};
 
-use bh_base::{GroupId, push_within};
+use bh_base::{GroupId, Reply, Step, push_within};
 use bh_journal::{Marks, PassRead, Receipt};
 use std::alloc::{AllocError, Global};
 use std::marker::Model;
@@ -98,12 +98,17 @@ impl Pass {
         }
     }
 
-    /// Adds a receipt behind those that are there. This takes no memory and cannot fail.
+    /// Adds the receipt of a step and its reply behind those that are there. This takes no memory and cannot fail.
     #[inline(always)]
-    pub(crate) fn add(&mut self, receipt: Receipt)
+    pub(crate) fn add(&mut self, place: u64, step: &Step, reply: &Reply)
         requires { 0 < self.old.room }
-        ensures { self.new ≡ added self.old receipt }
+        ensures { self.new ≡ added self.old (receipt_of place step.entry.now reply.now) }
     {
+        let receipt = Receipt {
+            place,
+            step: *step,
+            reply: *reply,
+        };
         push_within(&mut self.receipts, receipt);
     }
 

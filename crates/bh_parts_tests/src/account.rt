@@ -215,6 +215,6 @@ fn assert_kept<R: Abort>(rt: &R, journal: Journal) {
 fn a_journal_keeps_what_is_written(rt: HostRuntime) {
     let mut journal = Journal::new(rt.alloc(), 2).expect(&rt, "memory");
     let (step, reply) = entry(0, 10);
-    journal.write(step, reply);
+    journal.write(&step, &reply);
     assert_kept(&rt, journal);
 }
