@@ -6,6 +6,8 @@ mod books;
 #[cfg(test)]
 mod calls;
 #[cfg(test)]
+mod collecting;
+#[cfg(test)]
 mod receipts;
 #[cfg(test)]
 mod samples;
