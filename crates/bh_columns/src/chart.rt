@@ -15,7 +15,7 @@ use crate::panel::KeptPanel;
 use crate::record::Recording;
 use crate::track::Track;
 use bh_base::{Moment, Text};
-use bh_look::rows::further_names;
+use bh_look::rows::{FurtherNames, command_name, further_names};
 use bh_props::Settings;
 use std::alloc::{AllocError, Global};
 
@@ -95,7 +95,7 @@ pub fn make_chart(
     let drawn = Drawn::of(&kept.grid, columns.max(2));
     let width = kept.grid.width.saturating_mul(drawn.many);
     let names = further_names(alloc, settings)?;
-    let panels = draw_panels(alloc, kept.panels.as_slice(), names.as_slice(), &drawn)?;
+    let panels = draw_panels(alloc, kept.panels.as_slice(), &names, &drawn)?;
     Ok(Chart {
         begin: drawn.first.saturating_mul(width),
         width,
@@ -107,11 +107,11 @@ pub fn make_chart(
     })
 }
 
-/// The panels as they are drawn, by the names of the further commands of the groups whose properties they have.
+/// The panels as they are drawn, by the names of the further commands.
 fn draw_panels(
     alloc: Global,
     kept: &[KeptPanel],
-    names: &[Vec<Text<32>>],
+    names: &FurtherNames,
     drawn: &Drawn,
 ) -> Result<Vec<Panel>, AllocError>
     ensures { IfOk result (λ panels. EachDrawn kept.now panels.items (λ one panel. IsDrawnOf drawn.now.many drawn.now.first drawn.now.end one panel)) }
@@ -128,13 +128,19 @@ fn draw_panels(
 fn draw_panel(
     alloc: Global,
     kept: &KeptPanel,
-    names: &[Vec<Text<32>>],
+    names: &FurtherNames,
     drawn: &Drawn,
 ) -> Result<Panel, AllocError>
     ensures { IfOk result (IsDrawnOf drawn.now.many drawn.now.first drawn.now.end kept.now) }
 {
-    let further = names.get(kept.like as usize);
-    let lanes = draw_lanes(alloc, kept.group, kept.lanes.as_slice(), further, drawn)?;
+    let lanes = draw_lanes(
+        alloc,
+        names,
+        kept.group,
+        kept.like,
+        kept.lanes.as_slice(),
+        drawn,
+    )?;
     let pool = draw_pool(alloc, kept, drawn)?;
     let lives = Vec::from_slice(alloc, kept.lives.as_slice())?;
     Ok(Panel {
@@ -146,19 +152,20 @@ fn draw_panel(
     })
 }
 
-/// The lanes of a group of the name as they are drawn, by the names of its further commands.
+/// The lanes of a group of the name, like that at the place in the settings, as they are drawn.
 fn draw_lanes(
     alloc: Global,
+    names: &FurtherNames,
     group: Text<32>,
+    like: u64,
     kept: &[KeptLane],
-    further: Option<&Vec<Text<32>>>,
     drawn: &Drawn,
 ) -> Result<Vec<Lane>, AllocError>
     ensures { IfOk result (λ lanes. EachDrawn kept.now lanes.items (λ one lane. IsLaneOf drawn.now.many drawn.now.first drawn.now.end one lane)) }
 {
     let mut lanes = Vec::with_capacity(alloc, kept.len())?;
     for number in 0..kept.len() {
-        let command = command_name(group, further, number);
+        let command = command_name(names, group, like, number as u64);
         let lane = draw_lane(alloc, &kept[number], command, drawn)?;
         lanes.push(lane)?;
     }
@@ -228,15 +235,4 @@ fn draw_usages(alloc: Global, track: &Track, drawn: &Drawn) -> Result<Vec<Usage>
         usages.push(track.joined(index, drawn.many).usage)?;
     }
     Ok(usages)
-}
-
-/// The name of the command of the number: the own one has the group's.
-fn command_name(group: Text<32>, names: Option<&Vec<Text<32>>>, number: usize) -> Text<32> {
-    if number == 0 {
-        return group;
-    }
-    match names {
-        Some(names) => names.get(number).copied().unwrap_or(group),
-        None => group,
-    }
 }

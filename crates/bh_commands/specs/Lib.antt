@@ -1,2 +1,3 @@
 pub mod Status
 pub mod Linted
+pub mod Summary

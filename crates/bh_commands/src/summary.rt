@@ -1,18 +1,22 @@
 //! What a script came to, command by command.
 
-ghost use Rattle.std.specs.Prelude.{◌≡◌, ◌⊎◌, IsErr, OnOk};
+ghost use Rattle.std.specs.Prelude.{◌≡◌, ◌⊎◌, IfOk, IfSome, IsErr, OnOk, map};
+ghost use Rattle.bh_lines.specs.Lines.{cut};
+ghost use Rattle.bh_look.specs.Rows.{row_said};
 ghost use Rattle.bh_props.specs.SettingsFile.{settings_in};
+ghost use Rattle.bh_props.specs.Shown.{settings_view};
 ghost use Rattle.bh_commands.specs.Status.{IsWhole, WritesText};
+ghost use Rattle.bh_commands.specs.Summary.{HasRows, WritesSummary};
 
 use crate::report;
 use bh_lines::PortError;
-use bh_look::rows::rows;
+use bh_look::rows::{Row, rows};
 use bh_look::summary::watch_script;
 use bh_look::table::{put_objects, put_table};
 use bh_look::watch::Watch;
 use bh_props::{Settings, settings_in};
 use bh_streams::{WatchedReader, WatchedWriter, write};
-use std::alloc::Global;
+use std::alloc::{AllocError, Global};
 use std::io::{Read, Write};
 
 /// How a summary is written.
@@ -46,6 +50,8 @@ pub fn summary_file<R: Read, W: Write, E: Write>(
     ensures refused { IsErr (settings_in settings.now) → ((result ≡ 1) ⊎ (result ≡ 3)) × (reader.new ≡ reader.old) × (writer.new ≡ writer.old) }
     ensures quiet { result ≡ 0 → errors.new ≡ errors.old }
     ensures written { result ≡ 0 → WritesText (W.contents writer.old) (W.contents writer.new) }
+    ensures summary { result ≡ 0 → IfOk (settings_in settings.now) (λ service. IfSome (R.remaining reader.old) (λ input.
+        WritesSummary form service (cut input) (W.contents writer.old) (W.contents writer.new))) }
     ensures whole { result ≡ 0 → IsWhole (R.remaining reader.old) }
 {
     match settings_in(alloc, settings) {
@@ -66,6 +72,8 @@ fn summarize<R: Read, W: Write, E: Write>(
     ensures status { (result ≡ 0) ⊎ (result ≡ 3) }
     ensures quiet { result ≡ 0 → errors.new ≡ errors.old }
     ensures written { result ≡ 0 → WritesText (W.contents writer.old) (W.contents writer.new) }
+    ensures summary { result ≡ 0 → IfSome (R.remaining reader.old) (λ input.
+        WritesSummary form (settings_view settings.now) (cut input) (W.contents writer.old) (W.contents writer.new)) }
     ensures whole { result ≡ 0 → IsWhole (R.remaining reader.old) }
 {
     match write_summary(alloc, settings, form, reader, writer) {
@@ -83,18 +91,33 @@ fn write_summary<R: Read, W: Write>(
     writer: &mut W,
 ) -> Result<(), PortError>
     ensures written { OnOk result (WritesText (W.contents writer.old) (W.contents writer.new)) }
+    ensures summary { OnOk result (IfSome (R.remaining reader.old) (λ input.
+        WritesSummary form (settings_view settings.now) (cut input) (W.contents writer.old) (W.contents writer.new))) }
     ensures whole { OnOk result (IsWhole (R.remaining reader.old)) }
 {
     let mut watch = Watch::open(alloc, settings)?;
     let mut reader = WatchedReader::new(reader);
     let ended = watch_script(alloc, &mut reader, settings, &mut watch);
     let rows = rows(alloc, settings, &watch)?;
-    let mut out = Vec::new(alloc);
-    match form {
-        SummaryForm::Table => put_table(alloc, &mut out, rows.as_slice(), &watch)?,
-        SummaryForm::Objects => put_objects(&mut out, rows.as_slice())?,
-    }
+    let text = summary_text(alloc, form, rows.as_slice(), &watch)?;
     let mut writer = WatchedWriter::new(writer);
-    write(&mut writer, out.as_slice())?;
+    write(&mut writer, text.as_slice())?;
     ended
+}
+
+/// The rows in the form.
+fn summary_text(
+    alloc: Global,
+    form: SummaryForm,
+    rows: &[Row],
+    watch: &Watch,
+) -> Result<Vec<u8>, AllocError>
+    ensures { IfOk result (λ text. HasRows form (map row_said rows.now) text.items) }
+{
+    let mut text = Vec::new(alloc);
+    match form {
+        SummaryForm::Table => put_table(alloc, &mut text, rows, watch)?,
+        SummaryForm::Objects => put_objects(&mut text, rows)?,
+    }
+    Ok(text)
 }

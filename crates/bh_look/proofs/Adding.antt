@@ -9,10 +9,9 @@ use Rattle.std.specs.List.{AllByRecursion}
 use Rattle.bh_base.specs.Commands.{command_count, is_known}
 use Rattle.bh_base.specs.History.{Past, PastView, no_past, past_view, window_of}
 use Rattle.bh_base.specs.Machine.{circuit_of}
-use Rattle.bh_base.specs.Props.{GroupProps}
 use Rattle.bh_base.specs.Ranges.{IsCommandInRange, IsInRange}
 use Rattle.bh_base.specs.Runs.{IsSound, State, View, begun, is_worn, outcome_in, step, stepped, view}
-use Rattle.bh_base.specs.Seen.{no_past_view, past_view_of, view_after, view_reply}
+use Rattle.bh_base.specs.Seen.{no_past_view, view_after, view_reply}
 use Rattle.bh_base.specs.declared.event.Window.{Window}
 use Rattle.bh_base.specs.declared.props.CommandProps.{CommandProps}
 use Rattle.bh_base.specs.declared.reply.Reply.{Reply}
@@ -20,10 +19,9 @@ use Rattle.bh_base.specs.declared.step.Op.{Op}
 use Rattle.bh_base.proofs.Kept.{outcome_keeps}
 use Rattle.bh_look.specs.declared.kind.Kind.{Kind}
 use Rattle.bh_look.specs.declared.lane.Lane.{Lane}
-use Rattle.bh_look.specs.declared.lane.Shown.{Shown}
 use Rattle.bh_look.specs.declared.tally.Tally.{Tally}
 use Rattle.bh_look.specs.Kinds.{kind_told}
-use Rattle.bh_look.specs.Looked.{AsksTimeouts, EachLane, Fits, HasAdded, HasNoted, tally_looked}
+use Rattle.bh_look.specs.Looked.{AsksTimeouts, EachLane, Fits, HasAdded, HasNoted}
 use Rattle.bh_look.specs.Steps.{command_meant, tally_with, timed_out, with_told}
 use Rattle.bh_look.specs.Tallies.{with_kind, with_time, with_timeouts, with_trip}
 use Rattle.bh_look.proofs.Timeouts.{timeouts_differ}

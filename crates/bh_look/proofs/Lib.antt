@@ -3,3 +3,8 @@ pub mod Adding  -- what a step adds to the lanes of its group, by what is looked
 pub mod Watching  -- what is kept of a script with one act more
 pub mod Taking  -- lines that are taken, from the bytes that had come to those that are left
 pub mod Reading  -- a run that is watched, from the reader's first byte to its last
+pub mod RowPlaces  -- the rows that are told of, with one more or with more in one
+pub mod Naming  -- the names of the further commands, once those up to one of them were noted
+pub mod Summaries  -- the rows of a script
+pub mod Objects  -- the texts of rows, with one row more
+pub mod Tables  -- lists that grow by an element of two others, and texts by what they tell

@@ -8,7 +8,7 @@ use Rattle.bh_port.specs.Course.{Course}
 use Rattle.bh_port.specs.GroupsView.{GroupsView}
 use Rattle.bh_port.specs.Script.{IsMemoryOrRead}
 use Rattle.bh_props.specs.SettingsView.{SettingsView}
-use Rattle.bh_look.specs.Scripts.{tally_of}
+use Rattle.bh_look.specs.Scripts.{course_after, tally_of}
 use Rattle.bh_look.specs.Watched.{IsWatched, Lanes, TakenUpTo, WatchOutcome, tally_at}
 use Rattle.bh_look.proofs.Taking.{outcome-after, taken-none, taken-then}
 
@@ -51,6 +51,8 @@ progress-read service before (Some all) (Some left) (Some rest) groups l0 l1 old
       taken = record {
         later = done.later;
         watched = done.watched;
+        course_is = λ more.
+            ap (λ ys. course_after service before (cut ys)) (append_assoc p.read piece more) ∙ done.course_is (piece ++ more) ∙ ap (λ ys. course_after service done.later (cut ys)) (same more);
         tallies = λ g k more.
             ap (λ ys. tally_of service before (cut ys) g k (tally_at l0 g k)) (append_assoc p.read piece more) ∙ done.tallies g k (piece ++ more)
             ∙ ap (λ ys. tally_of service done.later (cut ys) g k (tally_at l1 g k)) (same more);
@@ -82,6 +84,18 @@ progress-ends service before (Some all) (Some left) groups l0 l1 l2 buffer r p e
     (λ g k. ap (λ ys. tally_of service before (cut ys) g k (tally_at l0 g k)) p.all_is ∙ p.taken.tallies g k left)
     (ap (λ ys. stops (cut ys)) p.all_is ∙ p.taken.stops_is left)
     (subst (λ (ys : List ℕ). WatchOutcome service p.taken.later (cut ys) l1 l2 r) same (o p.taken.later p.taken.watched))
+
+-- the run up to where the input ends
+pub progress-watched : (service : SettingsView) (before : Course) (all now : Option (List ℕ)) (was groups : GroupsView) (l0 l1 l2 : Lanes) (buffer : List ℕ)
+    → Progress service before all now was l0 l1 buffer → IsAtEnd now → ((later : Course) → IsWatched service was l1 later → IsWatched service groups l2 (course_after service later (cut buffer)))
+    → IfSome all (λ input. IsWatched service groups l2 (course_after service before (cut input)))
+progress-watched service before None now was groups l0 l1 l2 buffer p e o = tt
+progress-watched service before (Some all) None was groups l0 l1 l2 buffer p e o = absurd p
+progress-watched service before (Some all) (Some left) was groups l0 l1 l2 buffer p e o =
+    let same : buffer ≡ buffer ++ left = sym (append-nil buffer) ∙ ap (λ ys. buffer ++ ys) (sym e) in
+    let is : course_after service before (cut all) ≡ course_after service p.taken.later (cut buffer) =
+    ap (λ ys. course_after service before (cut ys)) p.all_is ∙ p.taken.course_is left ∙ ap (λ ys. course_after service p.taken.later (cut ys)) (sym same) in
+    subst (IsWatched service groups l2) (sym is) (o p.taken.later p.taken.watched)
 
 -- the run is given up
 pub nothing-said : (service : SettingsView) (before : Course) (all : Option (List ℕ)) (l0 l1 : Lanes) (e : PortError) → IsMemoryOrRead e → IfSome all (λ input. WatchOutcome service before (cut input) l0 l1 (Err e))

@@ -1,7 +1,6 @@
 -- Lines that are taken, from the bytes that had come to those that are left.
-use Rattle.std.proofs.Common.{◌≡◌, ◌<◌, ◌≤◌, ℕ, false, List, [], drop, length, ◌++◌, Option, Some, None, Result, Ok, Err, IfSome, String, string_bytes, refl, sym, ◌∙◌, subst, ap, append-nil, append_assoc}
+use Rattle.std.proofs.Common.{◌≡◌, ℕ, List, drop, ◌++◌, Option, Some, None, Result, Ok, Err, String, string_bytes, refl, sym, ◌∙◌, subst, ap}
 use Rattle.std.specs.declared.alloc.Global.{Global}
-use Rattle.std.specs.Io.KnownBytes.{Consumes, IsAtEnd}
 use Rattle.bh_lines.specs.declared.front.FrontLine.{FrontLine}
 use Rattle.bh_lines.specs.declared.port_error.PortError.{PortError}
 use Rattle.bh_lines.specs.declared.port_error.PortError.TheVariants.{Read, Write, Line, Memory}
@@ -13,7 +12,7 @@ use Rattle.bh_port.specs.GroupsView.{GroupsView}
 use Rattle.bh_port.specs.Text.{course_with}
 use Rattle.bh_props.specs.SettingsView.{SettingsView}
 use Rattle.bh_look.specs.declared.tally.Tally.{Tally}
-use Rattle.bh_look.specs.Scripts.{tally_of, tally_said}
+use Rattle.bh_look.specs.Scripts.{course_after, tally_of, tally_said}
 use Rattle.bh_look.specs.Watched.{AllTallies, IsWatched, Lanes, TakenUpTo, TakesLine, WatchOutcome, tally_at}
 
 tally-line : (service : SettingsView) (course : Course) (bytes : List ℕ) (rest : Cut) (g k : ℕ) (t : Tally)
@@ -29,6 +28,15 @@ tally-stopped : (service : SettingsView) (course : Course) (g k : ℕ) (t : Tall
 unfolding tally_of
 tally-stopped service course g k t = refl
 
+course-line : (service : SettingsView) (course : Course) (bytes : List ℕ) (rest : Cut)
+    → course_after service course (line bytes rest) ≡ course_after service (course_with service course (line_act service course.entries bytes)) rest
+unfolding course_after
+course-line service course bytes rest = refl
+
+course-ended : (service : SettingsView) (course : Course) → course_after service course ended ≡ course
+unfolding course_after
+course-ended service course = refl
+
 -- what a line does, whatever came before
 abbrev pub DoesLine : SettingsView → GroupsView → List ℕ → GroupsView → Lanes → Lanes → Type 0
 DoesLine service was bytes now l0 l1 = (before : Course) → IsWatched service was l0 before → TakesLine service before bytes now l0 l1
@@ -38,6 +46,7 @@ pub taken-none : (service : SettingsView) (before : Course) (groups : GroupsView
 taken-none service before groups lanes old watched = record {
   later = before;
   watched = watched;
+  course_is = λ more. refl;
   tallies = λ g k more. refl;
   stops_is = λ more. refl;
 }
@@ -48,6 +57,7 @@ taken-line : (service : SettingsView) (before : Course) (now : GroupsView) (l0 l
 taken-line service before now l0 l1 old new bytes taken did = record {
   later = course_with service before (line_act service before.entries bytes);
   watched = did.watched;
+  course_is = λ more. ap (course_after service before) (taken more) ∙ course-line service before bytes (cut (new ++ more));
   tallies = λ g k more.
       ap (λ c. tally_of service before c g k (tally_at l0 g k)) (taken more)
       ∙ tally-line service before bytes (cut (new ++ more)) g k (tally_at l0 g k)
@@ -62,6 +72,7 @@ taken-then service before was now l0 l1 l2 old mid new done next =
     let a = next done.later done.watched in record {
       later = a.later;
       watched = a.watched;
+      course_is = λ more. done.course_is more ∙ a.course_is more;
       tallies = λ g k more. done.tallies g k more ∙ a.tallies g k more;
       stops_is = λ more. done.stops_is more ∙ a.stops_is more;
     }
@@ -130,6 +141,23 @@ last-found service was now l0 l1 rest found cut_off bytes x is last spelt does b
           ∙ sym (ap (λ c. tally_of service before c g k (tally_at l0 g k)) is_line ∙ tally-line service before bytes ended g k (tally_at l0 g k) ∙ tally-ended service (course_with service before (line_act service before.entries bytes)) g k _),
       ap stops is_line,
     )
+
+-- the run up to and with the last line of an input
+pub watched-last : (service : SettingsView) (was now : GroupsView) (l0 l1 : Lanes) (rest : List ℕ) (found : Option (String Global)) (cut_off : String Global) (bytes : List ℕ)
+    → found ≡ Some cut_off → IsLast rest (Ok found) → bytes ≡ string_bytes cut_off → DoesLine service was bytes now l0 l1 → (before : Course) → IsWatched service was l0 before
+    → IsWatched service now l1 (course_after service before (cut rest))
+watched-last service was now l0 l1 rest found cut_off bytes is last spelt does before watched =
+    let cuts : cut rest ≡ line (string_bytes cut_off) ended = subst (λ (f : Option (String Global)). IsLast rest (Ok f)) is last in
+    let is_line : cut rest ≡ line bytes ended = cuts ∙ ap (λ ys. line ys ended) (sym spelt) in
+    let after = course_with service before (line_act service before.entries bytes) in
+    subst (IsWatched service now l1) (sym (ap (course_after service before) is_line ∙ course-line service before bytes ended ∙ course-ended service after)) (does before watched).watched
+
+-- the same where there is no last line
+pub watched-none : (service : SettingsView) (was : GroupsView) (lanes : Lanes) (rest : List ℕ) (found : Option (String Global)) → found ≡ None → IsLast rest (Ok found)
+    → (before : Course) → IsWatched service was lanes before → IsWatched service was lanes (course_after service before (cut rest))
+watched-none service was lanes rest found is last before watched =
+    let is_end : cut rest ≡ ended = subst (λ (f : Option (String Global)). IsLast rest (Ok f)) is last in
+    subst (IsWatched service was lanes) (sym (ap (course_after service before) is_end ∙ course-ended service before)) watched
 
 -- there is no last line
 pub last-none : (service : SettingsView) (before : Course) (lanes : Lanes) (rest : List ℕ) (found : Option (String Global)) (x : Unit {0})

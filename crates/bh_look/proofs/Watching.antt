@@ -1,5 +1,5 @@
 -- What is kept of a script with one act more.
-use Rattle.std.proofs.Common.{◌≡◌, ◌≢◌, inl, inr, ℕ, ◌+◌, ◌<◌, ◌≤◌, Bool, true, false, List, [], ◌∷◌, ◌++◌, length, set, Option, Some, None, Result, Ok, Err, refl, sym, ap, subst, ◌∙◌, arith, append-nil, length-append, take, ◌⊎◌, zero, suc}
+use Rattle.std.proofs.Common.{◌≡◌, ◌≢◌, inl, inr, ℕ, ◌+◌, ◌<◌, ◌≤◌, Bool, true, false, List, [], ◌∷◌, ◌++◌, length, set, Option, Some, None, Result, Ok, Err, refl, sym, ap, ◌∙◌, arith, append-nil, length-append, take, ◌⊎◌}
 use Rattle.std.specs.Prelude.{◌==◌, All, IsSome, OnOk, Vec, is_some, nat_lt, option_and_then, option_map, slice_get, if◌then◌else◌}
 use Rattle.std.specs.Option.{option_map_or}
 use Rattle.std.specs.declared.alloc.Global.{Global}
@@ -10,22 +10,23 @@ use Rattle.std.proofs.lemmas.Option.{slice_get_past, slice_get_within}
 use Rattle.bh_base.specs.Commands.{command_count}
 use Rattle.bh_base.specs.Props.{GroupProps}
 use Rattle.bh_base.specs.Ranges.{IsInRange}
-use Rattle.bh_base.specs.Runs.{State, View, own, state_after, step, view}
+use Rattle.bh_base.specs.Runs.{State, own, state_after, step, view}
 use Rattle.bh_base.specs.declared.reply.Reply.{Reply}
 use Rattle.bh_base.specs.declared.step.Step.{Step}
 use Rattle.bh_base.proofs.Kept.{length-each_from}
-use Rattle.bh_core.specs.CoreView.{Shows, view_at}
+use Rattle.bh_core.specs.CoreView.{view_at}
 use Rattle.bh_core.specs.Step.{IsStep}
 use Rattle.bh_port.specs.declared.act.LineAct.TheVariants as act
 use Rattle.bh_port.specs.declared.groups.Entry.{Entry}
 use Rattle.bh_port.specs.Course.{Course, group_after, like_at, listed_entries, new_course, opened_group, state_at}
-use Rattle.bh_port.specs.Entries.{entry_at, new_entry, without}
+use Rattle.bh_port.specs.Entries.{entry_at, new_entry, unless_retired, without}
 use Rattle.bh_port.specs.GroupsView.{GroupsView}
 use Rattle.bh_port.specs.Script.{GroupsShow}
 use Rattle.bh_port.specs.Text.{held_at, with_act}
-use Rattle.bh_port.proofs.Keeping.{either, listed_at, read}
-use Rattle.bh_port.proofs.Lists.{every_at, push_before, push_here, push_past, read_within}
-use Rattle.bh_port.proofs.Naming.{entry-push, entry-pushed, entry-without_other, entry-without_same, length-without}
+use Rattle.bh_core.proofs.OneOfMany.{slice_get-set_other, slice_get-set_same}
+use Rattle.bh_port.proofs.Keeping.{either, read}
+use Rattle.bh_port.proofs.Lists.{each_at, every_at, push_before, push_here, push_past, read_within}
+use Rattle.bh_port.proofs.Naming.{length-without, without_is}
 use Rattle.bh_port.proofs.Showing.{agrees-step}
 use Rattle.bh_props.specs.SettingsView.{SettingsView}
 use Rattle.bh_look.specs.declared.lane.Lane.{Lane}
@@ -34,7 +35,7 @@ use Rattle.bh_look.specs.Looked.{EachLane}
 use Rattle.bh_look.specs.Scripts.{tally_done}
 use Rattle.bh_look.specs.Steps.{tally_in, tally_with}
 use Rattle.bh_look.specs.Tallies.{no_tally}
-use Rattle.bh_look.specs.Watched.{AreNewLanes, IsWatched, Lanes, tally_at}
+use Rattle.bh_look.specs.Watched.{AreNewLanes, IsWatched, Lanes, commands_at, tally_at}
 use Rattle.bh_look.proofs.Adding.{props_kept, set_here, set_other}
 
 after_props : (s : State) (xs : List Step) → (state_after s xs).present.props ≡ s.present.props
@@ -75,9 +76,10 @@ tally_in_lanes lanes k = option_map_or (λ (lane : Lane). lane.tally) (slice_get
 within : (m n : ℕ) → (m < n) ⊎ (n ≤ m)
 within m n = grind arith
 
-not_within : (lanes : List Lane) (k : ℕ) → slice_get lanes k ≡ None → length lanes ≤ k
-not_within lanes k none = elim (within k (length lanes)) [
-  | inl inside ↦ absurd (let found = read_within lanes k inside in let both : None ≡ Some found.0 = sym none ∙ found.1 in cc)
+-- where nothing is found, the list has ended
+pub not_within : {X : Type 0} (xs : List X) (k : ℕ) → slice_get xs k ≡ None → length xs ≤ k
+not_within xs k none = elim (within k (length xs)) [
+  | inl inside ↦ absurd (let found = read_within xs k inside in let both : None ≡ Some found.0 = sym none ∙ found.1 in cc)
   | inr past ↦ past
 ]
 
@@ -113,6 +115,24 @@ same_number m n is = grind (arith, nat_tests)
 other_number : (m n : ℕ) → m ≢ n → (m == n) ≡ false
 other_number m n differ = grind (arith, nat_tests)
 
+-- a lane is kept for each command of a group that is there
+pub fit : (service : SettingsView) (groups : GroupsView) (lanes : Lanes) (course : Course) → IsWatched service groups lanes course
+    → (g : ℕ) (like : List ℕ × GroupProps) (own : Vec Lane Global) → like_at service course.entries g ≡ Some like → slice_get lanes g ≡ Some own → length own.items ≡ command_count like.1
+fit service groups lanes course watched g like own likes found = elim (read (slice_get course.entries g)) [
+  | inl none ↦ absurd (let both : None ≡ Some like = sym (ap (λ o. option_and_then of (option_and_then unless_retired o)) none) ∙ likes in cc)
+  | inr at ↦ watched.each g own found ∙ ap count (ap (option_and_then of) at.1 ∙ there at.0 at.0.live refl (sym (ap (λ o. option_and_then of (option_and_then unless_retired o)) at.1) ∙ likes))
+]
+  where
+    of : Entry → Option (List ℕ × GroupProps)
+    of e = slice_get service.groups e.like
+
+    count : Option (List ℕ × GroupProps) → ℕ
+    count o = option_map_or (λ (l : List ℕ × GroupProps). command_count l.1) o 0
+
+    there : (e : Entry) (live : Bool) → e.live ≡ live → option_and_then of (unless_retired e) ≡ Some like → of e ≡ Some like
+    there e true is at = sym (ap (λ b. option_and_then of (if b then Some e else None)) is) ∙ at
+    there e false is at = absurd (let both : None ≡ Some like = sym (ap (λ b. option_and_then of (if b then Some e else None)) is) ∙ at in cc)
+
 -- ---- a step
 
 module _ (service : SettingsView) (was now : GroupsView) (l0 l1 : Lanes) (before : Course) (x : Step) (r : Reply) (old new : Vec Lane Global)
@@ -128,12 +148,12 @@ module _ (service : SettingsView) (was now : GroupsView) (l0 l1 : Lanes) (before
   watched_step = record {
     shows = agrees-step service was now before x r watched.shows stepped same there;
     count = ap length is ∙ length-set l0 x.group.0 new ∙ watched.count;
-    fit = λ g like own liked found. elim (either g x.group.0) [
+    each = λ g own found. elim (either g x.group.0) [
       | inl own_group ↦ (
           let both : Some new ≡ Some own = sym here ∙ ap (slice_get l1) (sym own_group) ∙ found in
           let own_is : new ≡ own = cc in
-          ap (λ (v : Vec Lane Global). length v.items) (sym own_is) ∙ many ∙ watched.fit g like old liked (ap (slice_get l0) own_group ∙ at))
-      | inr differ ↦ watched.fit g like own liked (sym (elsewhere g differ) ∙ found)
+          ap (λ (v : Vec Lane Global). length v.items) (sym own_is) ∙ many ∙ watched.each g old (ap (slice_get l0) own_group ∙ at))
+      | inr differ ↦ watched.each g own (sym (elsewhere g differ) ∙ found)
     ];
   }
 
@@ -211,18 +231,27 @@ new_more done e lanes own new count none = record {
   none = λ g k. tally_push lanes own none g k ∙ new.none g k;
 }
 
+-- how many commands a group has
+abbrev count_like : SettingsView → Option Entry → ℕ
+count_like service o = option_map_or (λ (like : List ℕ × GroupProps). command_count like.1) (option_and_then (λ (e : Entry). slice_get service.groups e.like) o) 0
+
 -- a run that begins
-listed_like : (service : SettingsView) (number : ℕ) → like_at service (listed_entries service) number ≡ slice_get service.groups number
-listed_like service number = elim (read (slice_get service.groups number)) [
-  | inl none ↦ ap (option_and_then (λ (e : Entry). slice_get service.groups e.like)) (listed_at service number ∙ ap (option_map (λ (group : List ℕ × GroupProps). new_entry group.0 number)) none) ∙ sym none
-  | inr at ↦ ap (option_and_then (λ (e : Entry). slice_get service.groups e.like)) (listed_at service number ∙ ap (option_map (λ (group : List ℕ × GroupProps). new_entry group.0 number)) at.1)
-]
+listed_count : (service : SettingsView) (number : ℕ) (like : List ℕ × GroupProps) → slice_get service.groups number ≡ Some like
+    → commands_at service (listed_entries service) number ≡ command_count like.1
+listed_count service number like at =
+    let entry : ℕ → List ℕ × GroupProps → Entry = λ place group. new_entry group.0 place in
+    let is : slice_get (listed_entries service) number ≡ Some (new_entry like.0 number) =
+    each_at 0 entry service.groups number ∙ ap (option_map (entry (0 + number))) at ∙ ap (λ n. Some (entry n like)) (omega arith) in
+    ap (count_like service) is ∙ ap (λ o. option_map_or (λ (l : List ℕ × GroupProps). command_count l.1) o 0) at
 
 pub watched_new : (service : SettingsView) (groups : GroupsView) (lanes : Lanes) → GroupsShow service groups (new_course service) → AreNewLanes service.groups lanes → IsWatched service groups lanes (new_course service)
 watched_new service groups lanes shows new = record {
   shows = shows;
   count = new.count ∙ sym (length-each_from 0 (λ place (group : List ℕ × GroupProps). new_entry group.0 place) service.groups);
-  fit = λ g like own likes found. new.fit g like own (sym (listed_like service g) ∙ likes) found;
+  each = λ g own found. (
+      let inside : g < length service.groups = omega (arith, slice_get_within lanes g own found, new.count) in
+      let (like, at) = read_within service.groups g inside in
+      new.fit g like own at found ∙ sym (listed_count service g like at));
 }
 
 module _ (service : SettingsView) (was now : GroupsView) (l0 l1 : Lanes) (before : Course) (name : List ℕ) (place : ℕ) (like : List ℕ × GroupProps) (own : Vec Lane Global)
@@ -234,17 +263,20 @@ module _ (service : SettingsView) (was now : GroupsView) (l0 l1 : Lanes) (before
   watched_registered shows = record {
     shows = shows;
     count = ap length is ∙ length-append l0 (own ∷ []) ∙ (λ i. watched.count i + 1) ∙ sym (length-append before.entries (new_entry name place ∷ []));
-    fit = λ g liked lanes likes found. elim (either g (length l0)) [
+    each = λ g lanes found. elim (either g (length l0)) [
       | inl last ↦ (
           let own_is : Some own ≡ Some lanes = sym (ap (λ ls. slice_get ls g) is ∙ ap (slice_get (l0 ++ own ∷ [])) last ∙ push_here l0 own) ∙ found in
           let mine : own ≡ lanes = cc in
-          let at : Some like ≡ Some liked = sym (ap (option_and_then (λ (e : Entry). slice_get service.groups e.like)) (ap (entry_at (before.entries ++ new_entry name place ∷ [])) (last ∙ watched.count) ∙ entry-pushed before.entries name place) ∙ listed) ∙ likes in
-          let same : like ≡ liked = cc in
-          ap (λ (v : Vec Lane Global). length v.items) (sym mine) ∙ count ∙ ap (λ (l : List ℕ × GroupProps). command_count l.1) same)
+          let entry : slice_get (before.entries ++ new_entry name place ∷ []) g ≡ Some (new_entry name place) =
+          ap (slice_get (before.entries ++ new_entry name place ∷ [])) (last ∙ watched.count) ∙ push_here before.entries (new_entry name place) in
+          let many : commands_at service (before.entries ++ new_entry name place ∷ []) g ≡ command_count like.1 =
+          ap (count_like service) entry ∙ ap (λ o. option_map_or (λ (l : List ℕ × GroupProps). command_count l.1) o 0) listed in
+          ap (λ (v : Vec Lane Global). length v.items) (sym mine) ∙ count ∙ sym many)
       | inr differ ↦ (
-          let old : like_at service before.entries g ≡ Some liked = sym (ap (option_and_then (λ (e : Entry). slice_get service.groups e.like)) (entry-push before.entries (new_entry name place) g (λ e. differ (e ∙ sym watched.count)))) ∙ likes in
           let within : g < length l0 = (let all : g < length l1 = slice_get_within l1 g lanes found in let many = ap length is ∙ length-append l0 (own ∷ []) in omega (arith, all, many, differ)) in
-          watched.fit g liked lanes old (sym (ap (λ ls. slice_get ls g) is ∙ push_before l0 own g within) ∙ found))
+          let old : commands_at service (before.entries ++ new_entry name place ∷ []) g ≡ commands_at service before.entries g =
+          ap (count_like service) (push_before before.entries (new_entry name place) g (omega (arith, within, watched.count))) in
+          watched.each g lanes (sym (ap (λ ls. slice_get ls g) is ∙ push_before l0 own g within) ∙ found) ∙ sym old)
     ];
   }
 
@@ -252,6 +284,19 @@ module _ (service : SettingsView) (was now : GroupsView) (l0 l1 : Lanes) (before
   tallies_registered g k = ap (λ ls. tally_at ls g k) is ∙ tally_push l0 own none g k
 
 -- ---- one group fewer
+
+-- a group that was retired has as many commands as it had
+count_without : (service : SettingsView) (es : List Entry) (n g : ℕ) → commands_at service (without n es) g ≡ commands_at service es g
+count_without service es n g = elim (read (slice_get es n)) [
+  | inl none ↦ ap (λ l. commands_at service l g) (ap (λ o. option_map_or (λ (k : Entry). set es n (record k { live = false })) o es) none)
+  | inr at ↦ (
+      let is = without_is es n at.0 at.1 in
+      let gone : Entry = record at.0 { live = false } in elim (either g n) [
+        | inl here ↦ ap (λ l. commands_at service l g) is ∙ ap (commands_at service (set es n gone)) here ∙ ap (count_like service) (slice_get-set_same es n at.0 gone at.1)
+            ∙ sym (ap (commands_at service es) here ∙ ap (count_like service) at.1)
+        | inr differ ↦ ap (λ l. commands_at service l g) is ∙ ap (count_like service) (slice_get-set_other es n gone g differ)
+      ])
+]
 
 pub watched_retired : (service : SettingsView) (now : GroupsView) (was : GroupsView) (lanes : Lanes) (before : Course) (n : ℕ) → IsWatched service was lanes before
     → GroupsShow service now (with_act service before (act.Retire (record { 0 = n }))) → IsWatched service now lanes (with_act service before (act.Retire (record { 0 = n })))
@@ -261,14 +306,11 @@ watched_retired service now was lanes before n watched = at (held_at service bef
     fewer = record before { entries = without n before.entries }
 
     at : (held : Bool) → GroupsShow service now (if held then before else record before { entries = without n before.entries }) → IsWatched service now lanes (if held then before else record before { entries = without n before.entries })
-    at true shows = record { shows = shows; count = watched.count; fit = watched.fit }
+    at true shows = record { shows = shows; count = watched.count; each = watched.each }
     at false shows = record {
       shows = shows;
       count = watched.count ∙ sym (length-without before.entries n);
-      fit = λ g like own likes found. elim (either g n) [
-        | inl here ↦ absurd (let both : None ≡ Some like = sym (ap (option_and_then (λ (e : Entry). slice_get service.groups e.like)) (ap (entry_at (without n before.entries)) here ∙ entry-without_same before.entries n)) ∙ likes in cc)
-        | inr differ ↦ watched.fit g like own (sym (ap (option_and_then (λ (e : Entry). slice_get service.groups e.like)) (entry-without_other before.entries n g differ)) ∙ likes) found
-      ];
+      each = λ g own found. watched.each g own found ∙ sym (count_without service before.entries n g);
     }
 
 -- what holds whatever came of it

@@ -1,5 +1,5 @@
 -- What a reply tells of one request.
-use Rattle.std.specs.Prelude.{true, false, Option, Some, None}
+use Rattle.std.specs.Prelude.{false, Option, Some, None}
 use Rattle.bh_base.specs.declared.reply.Answer.{Answer}
 use Rattle.bh_base.specs.declared.reply.Answer.TheVariants as answer
 use Rattle.bh_base.specs.declared.reply.Cause.{Cause}

@@ -1,5 +1,5 @@
 -- What is looked at of a command before a step and behind it.
-use Rattle.std.specs.Prelude.{◌≡◌, ◌-◌, ◌<◌, ◌≤◌, ℕ, Bool, true, false, List, Option, Some, length, slice_get}
+use Rattle.std.specs.Prelude.{◌≡◌, ◌-◌, ◌<◌, ◌≤◌, ℕ, Bool, true, false, List, Some, length, slice_get}
 use Rattle.bh_base.specs.Commands.{command_count}
 use Rattle.bh_base.specs.Machine.{circuit_of}
 use Rattle.bh_base.specs.Runs.{View, begun}

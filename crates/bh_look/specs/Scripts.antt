@@ -1,5 +1,5 @@
 -- What the lines of a script did to the commands of its groups.
-use Rattle.std.specs.Prelude.{ℕ, ◌==◌, List, Result, Ok, Err, if◌then◌else◌}
+use Rattle.std.specs.Prelude.{ℕ, ◌==◌, Result, Ok, Err, if◌then◌else◌}
 use Rattle.bh_faults.specs.declared.fault.Fault.{Fault}
 use Rattle.bh_lines.specs.Lines.{Cut, line, ended, stopped}
 use Rattle.bh_port.specs.declared.act.LineAct.{LineAct}
@@ -9,6 +9,12 @@ use Rattle.bh_port.specs.Text.{course_with}
 use Rattle.bh_props.specs.SettingsView.{SettingsView}
 use Rattle.bh_look.specs.declared.tally.Tally.{Tally}
 use Rattle.bh_look.specs.Steps.{tally_in}
+
+-- the run after all lines that follow a run so far, up to a line that is too long or not UTF-8
+unfoldable pub course_after : SettingsView → Course → Cut → Course
+course_after service course (line bytes rest) = course_after service (course_with service course (line_act service course.entries bytes)) rest
+course_after service course ended = course
+course_after service course stopped = course
 
 -- the tally of a group's command with what an act did: only a step of the group counts
 abbrev pub tally_done : SettingsView → Course → LineAct → ℕ → ℕ → Tally → Tally

@@ -1,5 +1,5 @@
 -- What a step did to the commands of its group.
-use Rattle.std.specs.Prelude.{ℕ, ◌-◌, Bool, true, false, ◌&&◌, ◌==◌, nat_lt, List, Option, Some, None, option_map, count_by, if◌then◌else◌}
+use Rattle.std.specs.Prelude.{ℕ, ◌-◌, ◌&&◌, ◌==◌, nat_lt, List, Option, Some, None, option_map, count_by, if◌then◌else◌}
 use Rattle.bh_base.specs.Commands.{command_count}
 use Rattle.bh_base.specs.Machine.{circuit_of, is_due}
 use Rattle.bh_base.specs.Runs.{State, View, begun, is_worn, view}

@@ -1,5 +1,5 @@
 -- What is kept of a script while its lines come.
-use Rattle.std.specs.Prelude.{◌≡◌, ℕ, true, false, List, ◌++◌, length, Option, Some, None, Result, Ok, Err, Vec, option_and_then, slice_get}
+use Rattle.std.specs.Prelude.{◌≡◌, ℕ, true, false, List, ◌++◌, length, Some, Result, Ok, Err, Vec, option_and_then, slice_get}
 use Rattle.std.specs.Option.{option_map_or}
 use Rattle.std.specs.declared.alloc.Global.{Global}
 use Rattle.bh_base.specs.Commands.{command_count}
@@ -7,14 +7,15 @@ use Rattle.bh_base.specs.Props.{GroupProps}
 use Rattle.bh_lines.specs.declared.port_error.PortError.{PortError}
 use Rattle.bh_lines.specs.declared.port_error.PortError.TheVariants.{Read, Write, Line, Memory}
 use Rattle.bh_lines.specs.Lines.{Cut, cut, stops}
-use Rattle.bh_port.specs.Course.{Course, like_at, line_act}
+use Rattle.bh_port.specs.declared.groups.Entry.{Entry}
+use Rattle.bh_port.specs.Course.{Course, line_act}
 use Rattle.bh_port.specs.GroupsView.{GroupsView}
 use Rattle.bh_port.specs.Script.{GroupsShow}
 use Rattle.bh_port.specs.Text.{course_with}
 use Rattle.bh_props.specs.SettingsView.{SettingsView}
 use Rattle.bh_look.specs.declared.lane.Lane.{Lane}
 use Rattle.bh_look.specs.declared.tally.Tally.{Tally}
-use Rattle.bh_look.specs.Scripts.{tally_of, tally_said}
+use Rattle.bh_look.specs.Scripts.{course_after, tally_of, tally_said}
 use Rattle.bh_look.specs.Tallies.{no_tally}
 
 -- the lanes of all groups, by the numbers of the groups, and of each by those of its commands
@@ -32,12 +33,16 @@ pub record AreNewLanes (groups : List (List ℕ × GroupProps)) (lanes : Lanes) 
   pub fit : (place : ℕ) (like : List ℕ × GroupProps) (own : Vec Lane Global) → slice_get groups place ≡ Some like → slice_get lanes place ≡ Some own → length own.items ≡ command_count like.1
   pub none : (group command : ℕ) → tally_at lanes group command ≡ no_tally
 
--- the groups are those of the run so far, and for each that is there a lane is kept for each of its commands
+-- how many commands the group of the number has, whether it is there or was retired
+abbrev pub commands_at : SettingsView → List Entry → ℕ → ℕ
+commands_at service entries group =
+    option_map_or (λ like. command_count like.1) (option_and_then (λ e. slice_get service.groups e.like) (slice_get entries group)) 0
+
+-- the groups are those of the run so far, and of each, whether it is there or was retired, a lane is kept for each command
 pub record IsWatched (service : SettingsView) (groups : GroupsView) (lanes : Lanes) (course : Course) : Type 0 where
   pub shows : GroupsShow service groups course
   pub count : length lanes ≡ length course.entries
-  pub fit : (group : ℕ) (like : List ℕ × GroupProps) (own : Vec Lane Global) → like_at service course.entries group ≡ Some like → slice_get lanes group ≡ Some own
-      → length own.items ≡ command_count like.1
+  pub each : (group : ℕ) (own : Vec Lane Global) → slice_get lanes group ≡ Some own → length own.items ≡ commands_at service course.entries group
 
 -- what the line asks for was done, and each tally is that of the line
 pub record TakesLine (service : SettingsView) (before : Course) (bytes : List ℕ) (groups : GroupsView) (old new : Lanes) : Type 0 where
@@ -48,6 +53,7 @@ pub record TakesLine (service : SettingsView) (before : Course) (bytes : List �
 pub record TakenUpTo (service : SettingsView) (before : Course) (groups : GroupsView) (l0 l1 : Lanes) (old new : List ℕ) : Type 0 where
   pub later : Course
   pub watched : IsWatched service groups l1 later
+  pub course_is : (more : List ℕ) → course_after service before (cut (old ++ more)) ≡ course_after service later (cut (new ++ more))
   pub tallies : (group command : ℕ) (more : List ℕ) → tally_of service before (cut (old ++ more)) group command (tally_at l0 group command)
       ≡ tally_of service later (cut (new ++ more)) group command (tally_at l1 group command)
   pub stops_is : (more : List ℕ) → stops (cut (old ++ more)) ≡ stops (cut (new ++ more))

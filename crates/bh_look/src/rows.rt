@@ -1,5 +1,10 @@
 //! The commands that are told of, each with all that groups of its name came to.
 
+ghost use Rattle.std.specs.Prelude.{◌≡◌, map, unwrap_or, IfOk, OnOk};
+ghost use Rattle.bh_props.specs.SettingsView.{SettingsView};
+ghost use Rattle.bh_props.specs.Shown.{settings_view};
+ghost use Rattle.bh_look.specs.Rows.{AreNamesIn, ArePlaces, name_kept, new_row, row_said, rows_of, tallies_in, with_row, with_tallies, with_tally};
+
 use crate::lane::Lane;
 use crate::tally::Tally;
 use crate::times::Times;
@@ -20,118 +25,113 @@ pub struct Row {
     pub times: Times,
 }
 
+/// The names of the further commands, by the places of their groups in the settings and their numbers there.
+pub type FurtherNames = IndexMap<(u64, u64), Text<32>>;
+
+/// The places of the rows, by the names of their groups and commands.
+type Places = IndexMap<(Text<32>, Text<32>), usize>;
+
+impl Row {
+    /// A row of the names, with nothing in it.
+    fn new(alloc: Global, group: Text<32>, command: Text<32>) -> Row
+        ensures { row_said result ≡ new_row group command }
+    {
+        Row {
+            group,
+            command,
+            tally: Tally::new(),
+            times: Times::new(alloc),
+        }
+    }
+
+    /// Adds what a command of the names came to.
+    fn add(&mut self, lane: &Lane) -> Result<(), AllocError>
+        ensures { OnOk result (row_said self.new ≡ with_tally lane.now.tally (row_said self.old)) }
+    {
+        self.tally.add(&lane.tally);
+        self.times.add_all(&lane.times)
+    }
+}
+
 /// The commands of all groups so far, in the order in which their groups were registered first, and within a group in that
 /// of their numbers. It fails only for want of memory.
-pub fn rows(alloc: Global, settings: &Settings, watch: &Watch) -> Result<Vec<Row>, AllocError> {
+pub fn rows(alloc: Global, settings: &Settings, watch: &Watch) -> Result<Vec<Row>, AllocError>
+    ensures { IfOk result (λ rows. map row_said rows.items ≡ rows_of (settings_view settings.now) watch.now.groups.entries (tallies_in watch.now.lanes.items)) }
+{
     let names = further_names(alloc, settings)?;
     let mut rows = Vec::new(alloc);
     let mut places = IndexMap::new(alloc);
     for (entry, lanes) in watch.groups.entries().iter().zip(watch.lanes.iter()) {
-        let further = names.get(entry.like as usize);
-        add_group(alloc, &mut rows, &mut places, entry, further, lanes)?;
+        add_group(alloc, &names, entry, lanes, &mut rows, &mut places)?;
     }
     Ok(rows)
 }
 
-/// The names of the further commands by the places of their groups in the settings, and within a group by their numbers,
-/// from 1.
-pub fn further_names(alloc: Global, settings: &Settings) -> Result<Vec<Vec<Text<32>>>, AllocError> {
-    let mut names = Vec::with_capacity(alloc, settings.groups.len())?;
-    for (name, props) in settings.groups.iter() {
-        let mut own = Vec::with_capacity(alloc, props.commands.len())?;
-        for _ in 0..props.commands.len() {
-            own.push(*name)?;
-        }
-        names.push(own)?;
-    }
+/// The names of the further commands of the settings. It fails only for want of memory.
+pub fn further_names(alloc: Global, settings: &Settings) -> Result<FurtherNames, AllocError>
+    ensures { IfOk result (AreNamesIn (settings_view settings.now)) }
+{
+    let mut names = IndexMap::new(alloc);
     for (name, (place, number)) in settings.commands.iter() {
-        if let Some(own) = names.get_mut(*place as usize) {
-            if let Some(slot) = own.get_mut(*number as usize) {
-                *slot = *name;
-            }
+        let key = (u64::from(*place), u64::from(*number));
+        if !names.contains_key(&key) {
+            names.insert(key, *name)?;
         }
     }
     Ok(names)
 }
 
+/// The name of the command of the number in a group of the name, like that at the place in the settings: the own one has
+/// the group's.
+pub fn command_name(names: &FurtherNames, group: Text<32>, like: u64, number: u64) -> Text<32>
+    ensures { result ≡ unwrap_or (name_kept names.now like number) group }
+{
+    if number == 0 {
+        return group;
+    }
+    names.get(&(like, number)).copied().unwrap_or(group)
+}
+
 /// Adds what the commands of a group came to, each to the row of its name.
 fn add_group(
     alloc: Global,
-    rows: &mut Vec<Row>,
-    places: &mut IndexMap<Text<32>, Vec<usize>>,
+    names: &FurtherNames,
     entry: &Entry,
-    names: Option<&Vec<Text<32>>>,
     lanes: &[Lane],
-) -> Result<(), AllocError> {
+    rows: &mut Vec<Row>,
+    places: &mut Places,
+) -> Result<(), AllocError>
+    requires { ArePlaces (map row_said rows.old.items) places.old }
+    ensures places { OnOk result (ArePlaces (map row_said rows.new.items) places.new) }
+    ensures rows { OnOk result ((service : SettingsView) → AreNamesIn service names.now →
+        map row_said rows.new.items ≡ with_tallies service entry.now 0 (map (λ lane. lane.tally) lanes.now) (map row_said rows.old.items)) }
+{
     for (number, lane) in lanes.iter().enumerate() {
-        let command = command_name(entry, names, number);
-        let row = row_of(alloc, rows, places, entry.name, command)?;
-        if let Some(row) = rows.get_mut(row) {
-            row.tally.add(&lane.tally);
-            row.times.add_all(&lane.times)?;
-        }
+        let command = command_name(names, entry.name, entry.like, number as u64);
+        add_lane(alloc, entry.name, command, lane, rows, places)?;
     }
     Ok(())
 }
 
-/// The name of the command of the number: the own one has the group's.
-fn command_name(entry: &Entry, names: Option<&Vec<Text<32>>>, number: usize) -> Text<32> {
-    if number == 0 {
-        return entry.name;
-    }
-    match names {
-        Some(names) => names.get(number).copied().unwrap_or(entry.name),
-        None => entry.name,
-    }
-}
-
-/// The place of the row of the command, a new one where there was none.
-fn row_of(
+/// Adds what a command of the names came to, to their row, or to a new one where there was none.
+fn add_lane(
     alloc: Global,
-    rows: &mut Vec<Row>,
-    places: &mut IndexMap<Text<32>, Vec<usize>>,
     group: Text<32>,
     command: Text<32>,
-) -> Result<usize, AllocError> {
-    if let Some(own) = places.get(&group) {
-        for place in own.iter() {
-            if is_of(rows, *place, command) {
-                return Ok(*place);
-            }
-        }
+    lane: &Lane,
+    rows: &mut Vec<Row>,
+    places: &mut Places,
+) -> Result<(), AllocError>
+    requires { ArePlaces (map row_said rows.old.items) places.old }
+    ensures places { OnOk result (ArePlaces (map row_said rows.new.items) places.new) }
+    ensures rows { OnOk result (map row_said rows.new.items ≡ with_row group command lane.now.tally (map row_said rows.old.items)) }
+{
+    if let Some(place) = places.get(&(group, command)) {
+        return rows[*place].add(lane);
     }
-    let place = rows.len();
-    rows.push(Row {
-        group,
-        command,
-        tally: Tally::new(),
-        times: Times::new(alloc),
-    })?;
-    note_place(alloc, places, group, place)?;
-    Ok(place)
-}
-
-/// Whether the row at the place is of the command.
-fn is_of(rows: &[Row], place: usize, command: Text<32>) -> bool {
-    match rows.get(place) {
-        Some(row) => row.command == command,
-        None => false,
-    }
-}
-
-/// The group of the name has a row at the place, too.
-fn note_place(
-    alloc: Global,
-    places: &mut IndexMap<Text<32>, Vec<usize>>,
-    group: Text<32>,
-    place: usize,
-) -> Result<(), AllocError> {
-    if let Some(own) = places.get_mut(&group) {
-        own.push(place)?;
-        return Ok(());
-    }
-    let mut own = Vec::new(alloc);
-    own.push(place)?;
-    places.insert(group, own)?;
+    let mut row = Row::new(alloc, group, command);
+    row.add(lane)?;
+    places.insert((group, command), rows.len())?;
+    rows.push(row)?;
     Ok(())
 }

@@ -1,10 +1,11 @@
 //! A run over a script that keeps what it came to, and writes no answer.
 
-ghost use Rattle.std.specs.Prelude.{◌≡◌, ◌≤◌, ◌+◌, ◌^◌, IfSome};
+ghost use Rattle.std.specs.Prelude.{◌≡◌, ◌≤◌, ◌+◌, ◌^◌, IfSome, OnOk};
 ghost use Rattle.bh_lines.specs.Lines.{cut};
 ghost use Rattle.bh_port.specs.Course.{Course};
 ghost use Rattle.bh_props.specs.Shown.{settings_view};
 ghost use Rattle.bh_streams.specs.Watched.{bytes_left, reader_of, reads_of};
+ghost use Rattle.bh_look.specs.Scripts.{course_after};
 ghost use Rattle.bh_look.specs.Watched.{IsWatched, WatchOutcome};
 
 use crate::watch::Watch;
@@ -34,6 +35,8 @@ pub fn watch_script<R: Read>(
 ) -> Result<(), PortError>
     ensures reader { (reader_of reader.new).ghost_name ≡ (reader_of reader.old).ghost_name }
     ensures reads { reads_of reader.new ≤ reads_of reader.old + 2 ^ 40 }
+    ensures watched { OnOk result ((before : Course) → IsWatched (settings_view settings.now) watch.old.groups watch.old.lanes.items before → IfSome (bytes_left R.remaining reader.old) (λ input.
+        IsWatched (settings_view settings.now) watch.new.groups watch.new.lanes.items (course_after (settings_view settings.now) before (cut input)))) }
     ensures outcome { (before : Course) → IsWatched (settings_view settings.now) watch.old.groups watch.old.lanes.items before → IfSome (bytes_left R.remaining reader.old) (λ input.
         WatchOutcome (settings_view settings.now) before (cut input) watch.old.lanes.items watch.new.lanes.items result) }
 {

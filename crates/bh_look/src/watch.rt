@@ -9,7 +9,7 @@ ghost use Rattle.bh_port.specs.Course.{Course, IsActOf, new_course};
 ghost use Rattle.bh_port.specs.Script.{GroupsShow};
 ghost use Rattle.bh_port.specs.Text.{with_act};
 ghost use Rattle.bh_props.specs.Shown.{settings_view};
-ghost use Rattle.bh_look.specs.Scripts.{tally_done};
+ghost use Rattle.bh_look.specs.Scripts.{course_after, tally_done};
 ghost use Rattle.bh_look.specs.Tallies.{no_tally};
 ghost use Rattle.bh_look.specs.Watched.{AreNewLanes, IsWatched, TakenUpTo, TakesLine, WatchOutcome, tally_at};
 
@@ -84,6 +84,8 @@ impl Watch {
     pub fn take_last(&mut self, settings: &Settings, rest: &mut BytesMut) -> Result<(), PortError>
         requires { has_line rest.old.items ≡ false }
         ensures kinds { IfErr result IsMemoryOrLine }
+        ensures watched { OnOk result ((before : Course) → IsWatched (settings_view settings.now) self.old.groups self.old.lanes.items before →
+            IsWatched (settings_view settings.now) self.new.groups self.new.lanes.items (course_after (settings_view settings.now) before (cut rest.old.items))) }
         ensures outcome { (before : Course) → IsWatched (settings_view settings.now) self.old.groups self.old.lanes.items before →
             WatchOutcome (settings_view settings.now) before (cut rest.old.items) self.old.lanes.items self.new.lanes.items result }
     {

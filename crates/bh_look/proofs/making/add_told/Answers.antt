@@ -1,4 +1,4 @@
-use Rattle.std.proofs.Common.{◌≡◌, ◌∙◌, refl, sym, ap, arith}
+use Rattle.std.proofs.Common.{◌∙◌, sym, ap, arith}
 use Rattle.bh_look.specs.Steps.{with_told}
 use Rattle.bh_look.proofs.Adding.{told_at, told_past}
 use Rattle.bh_look.proofs.making.add_told.Goals as goal

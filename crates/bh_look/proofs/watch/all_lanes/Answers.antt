@@ -1,4 +1,4 @@
-use Rattle.std.proofs.Common.{◌≡◌, ℕ, List, [], ◌∷◌, ◌++◌, ◌∙◌, refl, sym, subst, ap, arith, append_assoc, append-nil, rules}
+use Rattle.std.proofs.Common.{◌≡◌, ℕ, List, [], ◌∷◌, ◌++◌, ◌∙◌, sym, subst, ap, arith, append_assoc, append-nil, rules}
 use Rattle.std.proofs.lemmas.Grind.{common_steps}
 use Rattle.bh_base.specs.Props.{GroupProps}
 use Rattle.bh_look.specs.Watched.{AreNewLanes, Lanes}

@@ -1,10 +1,9 @@
-use Rattle.std.proofs.Common.{◌≡◌, ◌<◌, ◌++◌, [], ◌∷◌, ℕ, Some, length, set, refl, sym, ap, subst, ◌∙◌, arith}
+use Rattle.std.proofs.Common.{◌≡◌, ◌<◌, ℕ, Some, length, set, refl, sym, ap, subst, ◌∙◌, arith}
 use Rattle.std.specs.Prelude.{IsSome, Vec, slice_get}
 use Rattle.std.specs.declared.alloc.Global.{Global}
 use Rattle.std.specs.Vec.{with_items}
 use Rattle.std.proofs.lemmas.Option.{slice_get_read}
 use Rattle.bh_base.specs.Commands.{command_count}
-use Rattle.bh_base.specs.Props.{GroupProps}
 use Rattle.bh_base.specs.Ranges.{IsInRange}
 use Rattle.bh_base.specs.Runs.{view}
 use Rattle.bh_base.specs.declared.step.Step.{Step}
@@ -14,7 +13,6 @@ use Rattle.bh_port.specs.Entries.{entry_at}
 use Rattle.bh_port.specs.Script.{GroupsShow}
 use Rattle.bh_port.specs.Text.{with_act}
 use Rattle.bh_port.proofs.Lists.{read_within}
-use Rattle.bh_port.proofs.Naming.{entry_within}
 use Rattle.bh_port.proofs.Outcomes.{both_ok}
 use Rattle.bh_props.specs.Shown.{settings_view}
 use Rattle.bh_look.specs.declared.lane.Lane.{Lane}
@@ -22,7 +20,7 @@ use Rattle.bh_look.specs.Looked.{EachLane}
 use Rattle.bh_look.specs.Scripts.{tally_done}
 use Rattle.bh_look.specs.Steps.{tally_with}
 use Rattle.bh_look.specs.Watched.{IsWatched, tally_at}
-use Rattle.bh_look.proofs.Watching.{always, like_in_range, items_are, like_of, state_there, tallies_registered, tallies_step, watched_registered, watched_retired, watched_step}
+use Rattle.bh_look.proofs.Watching.{always, fit, items_are, like_in_range, like_of, state_there, tallies_registered, tallies_step, watched_registered, watched_retired, watched_step}
 use Rattle.bh_look.proofs.watch.Watch.take_act.Goals as goal
 
 pub returns-else-place-len-clause-watched : goal.returns-else-place-len-clause-watched
@@ -56,7 +54,7 @@ returns-else-place-len-clause-tallies c = always c.make_step.result (λ before w
     let shown = was.shows.shows n s state in
     let like = like_of service before n s state in
     let in_range : IsInRange s.present.props = subst IsInRange (sym like.props) (like_in_range service (entry_at before.entries n) like.like c.args.settings.now.in_range like.is) in
-    let count : length old.items ≡ command_count s.present.props = was.fit n like.like old like.is at ∙ sym (ap command_count like.props) in
+    let count : length old.items ≡ command_count s.present.props = fit service c.args.self.now.groups l0 before was n like.like old like.is at ∙ sym (ap command_count like.props) in
     let each = c.make_step.ensures.tallies s shown in_range (ap length c.deref_mut.ensures.value ∙ count) in
     let lanes = c.make_step.new.lanes in
     let same : length lanes ≡ length old.items = omega (arith, c.make_step.auto.lanes, ap length c.deref_mut.ensures.value) in
@@ -87,3 +85,13 @@ returns-in_ok-own-in-Register-clause-tallies c = both_ok c.register.result c.reg
     let count = c.in_ok-own-in-Register.ensures.count ∙ c.command_count.ensures like at in
     λ g k. tallies_registered service c.args.self.now.groups c.register.new.self.groups c.args.self.now.lanes.items c.register.new.self.lanes.items before c.in-Register.name c.in-Register.like like c.in_ok-own-in-Register.own was lanes at count c.in_ok-own-in-Register.ensures.none g k
     ∙ sym (ap (λ a. tally_done service before a g k (tally_at c.args.self.now.lanes.items g k)) c.in-Register.is))
+
+pub returns-in-Retire-clause-watched : goal.returns-in-Retire-clause-watched
+returns-in-Retire-clause-watched c = both_ok c.retire.result c.retire.ensures.shows c.retire.ensures.lanes (λ shows lanes before was.
+    let service = settings_view c.args.settings.now in
+    let later = with_act service before (act.Retire c.in-Retire.field-0) in
+    let shown : GroupsShow service c.retire.new.self.groups later = subst (λ a. GroupsShow service c.retire.new.self.groups (with_act service before a)) c.in-Retire.is (shows before was) in
+    let retired : IsWatched service c.retire.new.self.groups c.args.self.now.lanes.items later =
+    watched_retired service c.retire.new.self.groups c.args.self.now.groups c.args.self.now.lanes.items before c.in-Retire.field-0.0 was shown in
+    subst (λ a. IsWatched service c.retire.new.self.groups c.retire.new.self.lanes.items (with_act service before a)) (sym c.in-Retire.is)
+    (subst (λ (ls : Vec (Vec Lane Global) Global). IsWatched service c.retire.new.self.groups ls.items later) (sym lanes) retired))

@@ -1,0 +1,7 @@
+use Rattle.std.proofs.Common.{◌≡◌, ◌++◌, map, take}
+use Rattle.std.specs.List.{flat_map, zip}
+use Rattle.bh_look.specs.Tables.{at_right, cell_text}
+use Rattle.bh_look.proofs.table.put_cells.Given as goal
+
+abbrev pub invariant-loop-column : goal.invariant-loop-column
+invariant-loop-column l = l.out.items ≡ l.initial.out.items ++ flat_map at_right (take l.column (zip l.widths (map cell_text l.cells)))
