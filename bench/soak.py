@@ -27,13 +27,15 @@ from collections.abc import Callable
 from dataclasses import dataclass, field
 from pathlib import Path
 
-from tried_service import ADDRESS, PATIENCE, Failed, Service, ask, call
+from tried_service import ADDRESS, PATIENCE, Failed, Service, ask, call, hear, send
 
 CALLERS = 48
 HOSTILE = 12
 GROUPS = 8
 # A connection of a caller makes so many calls at most.
 MOST_CALLS = 200
+# The service ends a connection that was idle for so many seconds.
+IDLE = 1
 # So many seconds at most calls are made.
 MOST_SECONDS = 3540
 SETTINGS = """hystrix.command.default.execution.timeout.enabled = false
@@ -54,32 +56,62 @@ class Soak:
     failures: list[str] = field(default_factory=list)
 
 
+class LetGo(Exception):
+    """The caller was idle for so long that the service ended its connection, as it has to."""
+
+
 class Caller(threading.Thread):
-    """Makes calls over one connection after the other, and counts them by group."""
+    """Makes calls over one connection after the other, and counts them by group.
+
+    Where the machine does not let it go on in time, the service ends its connection before the call is sent whole. Such a
+    call was not made, and is counted by itself.
+    """
 
     def __init__(self, soak: Soak, number: int) -> None:
         super().__init__()
         self.soak = soak
         self.number = number
         self.made: dict[str, int] = {}
+        self.count = 0
+        self.let_go = 0
+        # When the service may have begun to wait for its next line, at the earliest.
+        self.awaited = 0.0
 
     def run(self) -> None:
         chance = random.Random(self.number)
-        count = 0
         try:
             while not self.soak.over.is_set():
-                with self.soak.service.connect() as connection:
-                    for _ in range(chance.randint(1, MOST_CALLS)):
-                        count += 1
-                        self.make(connection, f"g{chance.randrange(GROUPS)}", f"c{self.number} {count}")
-                        if self.soak.over.is_set():
-                            break
+                self.awaited = time.monotonic()
+                try:
+                    with self.soak.service.connect() as connection:
+                        self.make_some(connection, chance)
+                except LetGo:
+                    self.let_go += 1
         except (Failed, OSError) as failure:
             self.soak.failures.append(f"caller {self.number}: {failure!r}")
 
+    def make_some(self, connection: socket.socket, chance: random.Random) -> None:
+        """Makes some calls over a connection."""
+        for _ in range(chance.randint(1, MOST_CALLS)):
+            self.count += 1
+            self.make(connection, f"g{chance.randrange(GROUPS)}", f"c{self.number} {self.count}")
+            if self.soak.over.is_set():
+                return
+
     def make(self, connection: socket.socket, group: str, arg: str) -> None:
         """Makes one call, which has to be answered by its own argument."""
-        answer = ask(connection, call(group, arg))
+        line = call(group, arg)
+        begun = time.monotonic()
+        sent = None
+        try:
+            send(connection, line)
+            sent = time.monotonic()
+            answer = hear(connection, line)
+        except (Failed, ConnectionError) as failure:
+            if (sent or time.monotonic()) - self.awaited >= IDLE:
+                raise LetGo from failure
+            raise
+        self.awaited = begun
         if answer != f'{{"body":"{arg}","reply":"value"}}':
             raise Failed(f"{arg!r} is answered {answer}")
         self.made[group] = self.made.get(group, 0) + 1
@@ -156,6 +188,9 @@ def call_all(service: Service, seconds: float, look_after: float) -> int:
         thread.join()
     if soak.failures:
         raise Failed("; ".join(soak.failures[:3]))
+    let_go = sum(caller.let_go for caller in callers)
+    if let_go:
+        print(f"{let_go} calls were not made, since their callers were held up for {IDLE} second and more", flush=True)
     for group in (f"g{number}" for number in range(GROUPS)):
         made = sum(caller.made.get(group, 0) for caller in callers)
         if counted(service, group) != made:
@@ -186,7 +221,7 @@ def soak(program: Path, port: int, seconds: int, library: Path, folder: Path) ->
     settings.write_text(f"service.groups = [{listed}]\n{SETTINGS}", encoding="utf-8")
     words = ["env", f"LD_PRELOAD={library}", f"LIVE={folder / 'live'}"]
     words += [str(program), "serve", str(settings), "--port", str(port)]
-    words += ["--keep-serving", "--connections", "64", "--idle", "1"]
+    words += ["--keep-serving", "--connections", "64", "--idle", str(IDLE)]
     with open(folder / "errors", "wb") as errors:
         service = Service(words, (ADDRESS, port), errors.fileno())
         service.start()

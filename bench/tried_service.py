@@ -90,7 +90,17 @@ class Service:
 
 def ask(connection: socket.socket, line: str) -> str:
     """Sends a line, and returns the line that answers it."""
+    send(connection, line)
+    return hear(connection, line)
+
+
+def send(connection: socket.socket, line: str) -> None:
+    """Sends a line."""
     connection.sendall(line.encode() + b"\n")
+
+
+def hear(connection: socket.socket, line: str) -> str:
+    """The line that answers a line that was sent."""
     answer = b""
     while not answer.endswith(b"\n"):
         piece = connection.recv(4096)
