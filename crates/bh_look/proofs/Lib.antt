@@ -8,3 +8,6 @@ pub mod Naming  -- the names of the further commands, once those up to one of th
 pub mod Summaries  -- the rows of a script
 pub mod Objects  -- the texts of rows, with one row more
 pub mod Tables  -- lists that grow by an element of two others, and texts by what they tell
+pub mod Grades  -- where the grades of times begin, and that their times are near to one another
+pub mod Counts  -- counts of times by grade, and what they say of ranks
+pub mod Kept  -- what is kept of times as more of them come

@@ -1,7 +1,8 @@
 //! What is kept of a command: its tally, its times, and what it showed before the step at hand.
 
-ghost use Rattle.std.specs.Prelude.{◌≡◌, All, length, IfOk};
+ghost use Rattle.std.specs.Prelude.{◌≡◌, [], All, length, IfOk};
 ghost use Rattle.bh_look.specs.Tallies.{no_tally};
+ghost use Rattle.bh_look.specs.Times.{AreTimes};
 
 use crate::tally::Tally;
 use crate::times::Times;
@@ -29,6 +30,7 @@ pub struct Shown {
 pub fn new_lanes(alloc: Global, count: usize) -> Result<Vec<Lane>, AllocError>
     ensures count { IfOk result (λ lanes. length lanes.items ≡ count) }
     ensures none { IfOk result (λ lanes. All (λ lane. lane.tally ≡ no_tally) lanes.items) }
+    ensures times { IfOk result (λ lanes. All (λ lane. AreTimes [] lane.times) lanes.items) }
 {
     let mut lanes = Vec::with_capacity(alloc, count)?;
     for _ in 0..count {

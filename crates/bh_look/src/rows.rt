@@ -1,9 +1,10 @@
 //! The commands that are told of, each with all that groups of its name came to.
 
-ghost use Rattle.std.specs.Prelude.{◌≡◌, map, unwrap_or, IfOk, OnOk};
+ghost use Rattle.std.specs.Prelude.{◌≡◌, ℕ, ◌+◌, ◌^◌, ◌<◌, ◌++◌, List, length, map, unwrap_or, IfOk, OnOk};
 ghost use Rattle.bh_props.specs.SettingsView.{SettingsView};
 ghost use Rattle.bh_props.specs.Shown.{settings_view};
 ghost use Rattle.bh_look.specs.Rows.{AreNamesIn, ArePlaces, name_kept, new_row, row_said, rows_of, tallies_in, with_row, with_tallies, with_tally};
+ghost use Rattle.bh_look.specs.Times.{AreTimes};
 
 use crate::lane::Lane;
 use crate::tally::Tally;
@@ -46,7 +47,8 @@ impl Row {
 
     /// Adds what a command of the names came to.
     fn add(&mut self, lane: &Lane) -> Result<(), AllocError>
-        ensures { OnOk result (row_said self.new ≡ with_tally lane.now.tally (row_said self.old)) }
+        ensures tally { OnOk result (row_said self.new ≡ with_tally lane.now.tally (row_said self.old)) }
+        ensures times { OnOk result ((ts us : List ℕ) → AreTimes ts self.old.times → AreTimes us lane.now.times → length us + length ts < 2 ^ 64 → AreTimes (us ++ ts) self.new.times) }
     {
         self.tally.add(&lane.tally);
         self.times.add_all(&lane.times)

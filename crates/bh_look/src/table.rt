@@ -1,10 +1,11 @@
 //! The rows as a text: a table for a terminal, or an object of JSON for each.
 
-ghost use Rattle.std.specs.Prelude.{◌≡◌, ◌<◌, ◌++◌, List, [], codes, decimal, length, map, slice_index_or, IfOk, OnOk};
+ghost use Rattle.std.specs.Prelude.{◌≡◌, ◌<◌, ◌++◌, ℕ, List, [], codes, decimal, length, map, slice_index_or, IfOk, OnOk};
 ghost use Rattle.std.specs.List.{flat_map, zip};
 ghost use Rattle.bh_look.specs.Objects.{member_text, members_of, number_or_null, numbers_text, object_of, objects_of};
 ghost use Rattle.bh_look.specs.Rows.{row_said};
 ghost use Rattle.bh_look.specs.Tables.{all_cells, at_left, at_right, cell_text, cells_of, heads, lines_line, name_of, name_width, row_line, spaces, table_line, table_of, table_with, width_of, widths_of};
+ghost use Rattle.bh_look.specs.Times.{AreTimes, TellsTimes};
 
 use crate::rows::Row;
 use crate::tally::Tally;
@@ -48,7 +49,9 @@ pub struct TimesTold {
 type Member = (&'static str, Option<u64>);
 
 /// What is told of the times.
-fn times_told(times: &Times) -> TimesTold {
+fn times_told(times: &Times) -> TimesTold
+    ensures { (ts : List ℕ) → AreTimes ts times.now → TellsTimes ts result }
+{
     TimesTold {
         least: times.least(),
         median: times.median(),
