@@ -1,7 +1,7 @@
 -- What is kept of times as more of them come, and what it says of ranks.
-use Rattle.std.proofs.Common.{◌≡◌, ℕ, ◌+◌, ◌<◌, ◌≤◌, true, false, Some, None, Ok, Err, Result, List, [], ◌∷◌, ◌++◌, length, get_or, set, min, max, suc, sym, ap, ◌∙◌, subst, ⊎_elim, refl, arith}
+use Rattle.std.proofs.Common.{◌≡◌, ℕ, ◌+◌, ◌<◌, ◌≤◌, true, false, Some, None, List, [], ◌∷◌, ◌++◌, length, get_or, set, min, max, suc, sym, ap, ◌∙◌, subst, ⊎_elim, refl, arith}
 use Prim.Native.Nat.{zero}
-use Rattle.std.specs.Prelude.{◌&&◌, nat_lt, nat_le, All, OnErr, sum, count_by}
+use Rattle.std.specs.Prelude.{◌&&◌, nat_lt, nat_le, All, sum, count_by}
 use Rattle.std.proofs.lemmas.Bool.{cases_lt}
 use Rattle.std.proofs.lemmas.List.{get_or-set_other, length-set, length-append, take_all}
 use Rattle.std.proofs.lemmas.List.Elements.{All-cons, All-head, All-tail, All-append, All-weaker}
@@ -124,7 +124,3 @@ some_told ts v rank b t are le at near = record {
       let inside = between ts rank x pos le of in
       near_within t x (least_of ts) (most_of ts) (near x graded.0 graded.1) inside.0 inside.1;
 }
-
-pub on_err : {T E P : Type 0} (r : Result T E) → P → OnErr r P
-on_err (Ok x) p = tt
-on_err (Err e) p = p

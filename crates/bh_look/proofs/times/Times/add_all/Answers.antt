@@ -3,7 +3,8 @@ use Rattle.bh_look.specs.Times.{AreTimes, TimesView}
 use Rattle.bh_look.specs.Inside.{times_of}
 use Rattle.std.specs.Vec.{with_items}
 use Rattle.std.proofs.lemmas.List.{with_items_is}
-use Rattle.bh_look.proofs.Kept.{on_err, padded_kept, with_all}
+use Rattle.bh_port.proofs.Outcomes.{on_err}
+use Rattle.bh_look.proofs.Kept.{padded_kept, with_all}
 use Rattle.bh_look.proofs.times.Times.add_all.Goals as goal
 
 pub returns-in_err-reach-clause-err : goal.returns-in_err-reach-clause-err
