@@ -3,13 +3,13 @@
     python3 soak.py PROGRAM PORT SECONDS LIBRARY
 
 Calls are made for 59 minutes at most, so that none has left the window of an hour when the metrics are read. Asserted are
-that each call is answered once and by its own argument, that the metrics add up to the calls made, that the memory which
-the service has once its clients are gone is within two percent of what it had before they came, and that no thread and no
-descriptor is left over. LIBRARY is built of `live.c`, and counts the memory.
+that each call is answered once and by its own argument, that the metrics add up to the calls made, and that no thread and no
+descriptor is left over. After the first minute, or the first quarter of a shorter run, the clients leave once; asserted are,
+too, that the resident size and the memory which the service has once its clients are gone are at the end within two percent
+of what they were then. LIBRARY is built of `live.c`, and counts the memory.
 
-The resident size is printed, and not asserted: the C library gives memory that was given back to it to the system late, and
-has up to 32 heaps for the threads, each of which stays as large as it once was. So the resident size rises for some minutes,
-while each thread comes to serve clients of each kind, beside different others.
+What the service has before its first client is no measure: each thread of it takes buffers for its connections as it needs
+them, and keeps them.
 """
 
 from __future__ import annotations
@@ -171,31 +171,52 @@ def live(file: Path) -> int:
     return int.from_bytes(file.read_bytes()[:8], "little")
 
 
-def call_all(service: Service, seconds: float, look_after: float) -> int:
-    """Has the service called for so long, prints its resident size after a while and at the end, and returns how many calls
-    were made."""
-    soak = Soak(service)
-    callers = [Caller(soak, number) for number in range(CALLERS)]
-    hostile = [threading.Thread(target=harm, args=(soak, number)) for number in range(HOSTILE)]
-    for thread in [*callers, *hostile]:
-        thread.start()
-    time.sleep(look_after)
-    size = service.resident()
-    time.sleep(seconds - look_after)
-    print(f"{size} KiB are resident after {look_after:.0f} seconds, {service.resident()} KiB at the end", flush=True)
-    soak.over.set()
-    for thread in [*callers, *hostile]:
-        thread.join()
-    if soak.failures:
-        raise Failed("; ".join(soak.failures[:3]))
-    let_go = sum(caller.let_go for caller in callers)
-    if let_go:
-        print(f"{let_go} calls were not made, since their callers were held up for {IDLE} second and more", flush=True)
-    for group in (f"g{number}" for number in range(GROUPS)):
-        made = sum(caller.made.get(group, 0) for caller in callers)
-        if counted(service, group) != made:
-            raise Failed(f"group {group}: {made} calls were made, and {counted(service, group)} are counted")
-    return sum(sum(caller.made.values()) for caller in callers)
+@dataclass
+class Size:
+    """What the service takes."""
+
+    resident: int
+    live: int
+
+    def __str__(self) -> str:
+        return f"{self.live} bytes of memory, {self.resident} KiB resident"
+
+
+class Clients:
+    """All clients, who come and go as often as they are let."""
+
+    def __init__(self, service: Service) -> None:
+        self.service = service
+        self.made: dict[str, int] = {}
+        self.let_go = 0
+
+    def come(self, seconds: float, numbers: range) -> None:
+        """Has the service called for so long. Callers have these numbers."""
+        soak = Soak(self.service)
+        callers = [Caller(soak, number) for number in numbers]
+        hostile = [threading.Thread(target=harm, args=(soak, number)) for number in range(HOSTILE)]
+        for thread in [*callers, *hostile]:
+            thread.start()
+        time.sleep(seconds)
+        soak.over.set()
+        for thread in [*callers, *hostile]:
+            thread.join()
+        if soak.failures:
+            raise Failed("; ".join(soak.failures[:3]))
+        self.let_go += sum(caller.let_go for caller in callers)
+        for caller in callers:
+            for group, calls in caller.made.items():
+                self.made[group] = self.made.get(group, 0) + calls
+
+    def account(self) -> int:
+        """Compares what was called with what the service counts, and returns how many calls were made."""
+        if self.let_go:
+            print(f"{self.let_go} calls were not made, since their callers were held up for {IDLE} second and more", flush=True)
+        for group in (f"g{number}" for number in range(GROUPS)):
+            made = self.made.get(group, 0)
+            if counted(self.service, group) != made:
+                raise Failed(f"group {group}: {made} calls were made, and {counted(self.service, group)} are counted")
+        return sum(self.made.values())
 
 
 def wait_for(what: str, wanted: int, tells: Callable[[], int]) -> None:
@@ -226,13 +247,23 @@ def soak(program: Path, port: int, seconds: int, library: Path, folder: Path) ->
         service = Service(words, (ADDRESS, port), errors.fileno())
         service.start()
         try:
-            threads, descriptors, before = service.threads(), service.descriptors(), live(folder / "live")
-            calls = call_all(service, min(seconds, MOST_SECONDS), min(60.0, seconds / 4))
-            rest(service, threads, descriptors)
-            after = live(folder / "live")
-            print(f"{calls} calls, {before} bytes of memory before them, {after} after them", flush=True)
-            if abs(after - before) * 50 > before:
-                raise Failed("the memory of a service without clients has moved by more than two percent")
+            threads, descriptors = service.threads(), service.descriptors()
+
+            def size() -> Size:
+                rest(service, threads, descriptors)
+                return Size(service.resident(), live(folder / "live"))
+
+            clients, first = Clients(service), min(60.0, seconds / 4)
+            print(f"before the first client: {size()}", flush=True)
+            clients.come(first, range(CALLERS))
+            before = size()
+            print(f"after {first:.0f} seconds: {before}", flush=True)
+            clients.come(min(seconds, MOST_SECONDS) - first, range(CALLERS, 2 * CALLERS))
+            calls, after = clients.account(), size()
+            print(f"after {calls} calls: {after}", flush=True)
+            for what, was, now in (("memory", before.live, after.live), ("resident size", before.resident, after.resident)):
+                if abs(now - was) * 50 > was:
+                    raise Failed(f"the {what} of a service without clients has moved by more than two percent")
             print(f"ended after {service.end(2.0):.2f} seconds")
         finally:
             service.kill()

@@ -42,6 +42,18 @@ impl Received {
         }
     }
 
+    /// The same, with room for so many bytes, which is taken at once. It fails only for want of memory.
+    pub fn with_room(alloc: Global, room: usize) -> Result<Received, AllocError>
+        ensures { IfOk result (λ received. received ≡ []) }
+    {
+        let bytes = BytesMut::with_capacity(alloc, room)?;
+        Ok(Received {
+            alloc,
+            bytes,
+            scratch: Scratch::new(alloc),
+        })
+    }
+
     /// Puts a piece behind what has come.
     pub fn push(&mut self, piece: &[u8]) -> Result<(), AllocError>
         ensures ok { OnOk result (self.new ≡ self.old ++ piece.now) }

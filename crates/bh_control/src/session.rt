@@ -13,7 +13,7 @@ use crate::control_line::Asked;
 use crate::received::Received;
 use bh_lines::PortError;
 use bh_streams::{WatchedReader, WatchedWriter, write};
-use std::alloc::Global;
+use std::alloc::{AllocError, Global};
 use std::io::{Read, Write};
 
 /// So many bytes are asked of the reader at a time.
@@ -21,6 +21,41 @@ const READ_SIZE: usize = 4096;
 
 /// Once so many bytes of answers are held, they are written before the next line is answered.
 const MOST_HELD: usize = 8192;
+
+/// What a session has at most of bytes that were not taken: a line that has not ended, and what one read brings.
+const LINES_ROOM: usize = 2 * READ_SIZE;
+
+/// What it has at most of answers, as long as none has more than 2,048 bytes: that of the names of many groups alone has.
+const ANSWERS_ROOM: usize = MOST_HELD + 2048;
+
+/// What a session keeps of bytes: those that have come and were not taken, and the answers that are held.
+///
+/// It keeps the memory that it has taken, so whoever has one session after the other in the same buffers takes more only for
+/// longer lines or answers than there were in any session before.
+#[derive(Drop)]
+pub struct Buffers {
+    received: Received,
+    answers: Vec<u8>,
+}
+
+impl Buffers {
+    /// Buffers of which no session was had. They take no memory yet.
+    pub fn new(alloc: Global) -> Buffers {
+        Buffers {
+            received: Received::new(alloc),
+            answers: Vec::new(alloc),
+        }
+    }
+
+    /// The same, with some 18 KiB that are taken at once: what a session takes beside is that of lines with escapes, or of
+    /// many names of groups. It fails only for want of memory.
+    pub fn with_room(alloc: Global) -> Result<Buffers, AllocError> {
+        Ok(Buffers {
+            received: Received::with_room(alloc, LINES_ROOM)?,
+            answers: Vec::with_capacity(alloc, ANSWERS_ROOM)?,
+        })
+    }
+}
 
 /// Answers the control lines of the reader to the writer, as they come, to the end of the input.
 ///
@@ -49,18 +84,42 @@ pub fn converse<R: Read, W: Write, C: Control>(
     ensures answers { IfSome (bytes_left R.remaining reader.old) (λ input.
         SessionOutcome (responder (C.names control.old) C.may_show C.may_answer C.may_close) (bytes_held W.contents writer.old) (bytes_held W.contents writer.new) (cut input) result) }
 {
+    converse_in(&mut Buffers::new(alloc), alloc, reader, writer, control)
+}
+
+/// The same, in buffers that further sessions may be had in: what was left in them is forgotten.
+pub fn converse_in<R: Read, W: Write, C: Control>(
+    buffers: &mut Buffers,
+    alloc: Global,
+    reader: &mut WatchedReader<'_, R>,
+    writer: &mut WatchedWriter<'_, W>,
+    control: &mut C,
+) -> Result<(), PortError>
+    ensures same_reader { (reader_of reader.new).ghost_name ≡ (reader_of reader.old).ghost_name }
+    ensures same_writer { (writer_of writer.new).ghost_name ≡ (writer_of writer.old).ghost_name }
+    ensures groups { C.names control.new ≡ C.names control.old }
+    ensures read { result ≡ Err PortError.Read → OneFailed reader.old reader.new ⊎ HasRead (2 ^ 64 - 1) reader.old reader.new }
+    ensures not_failed { (result ≡ Err PortError.Read) ⊎ NoneFailed reader.old reader.new }
+    ensures answered { result ≡ Err PortError.Read → HasAnswered (responder (C.names control.old) C.may_show C.may_answer C.may_close)
+        (bytes_held W.contents writer.old) (bytes_held W.contents writer.new) (bytes_left R.remaining reader.old) (bytes_left R.remaining reader.new) }
+    ensures write { result ≡ Err PortError.Write → OneRefused writer.old writer.new }
+    ensures not_refused { (result ≡ Err PortError.Write) ⊎ NoneRefused writer.old writer.new }
+    ensures answers { IfSome (bytes_left R.remaining reader.old) (λ input.
+        SessionOutcome (responder (C.names control.old) C.may_show C.may_answer C.may_close) (bytes_held W.contents writer.old) (bytes_held W.contents writer.new) (cut input) result) }
+{
     let mut piece = [0u8; READ_SIZE];
-    let mut received = Received::new(alloc);
-    let mut answers = Vec::new(alloc);
+    let Buffers { received, answers } = buffers;
+    received.clear();
+    answers.clear();
     for _ in 0..u64::MAX {
         let Ok(count) = reader.read(&mut piece) else {
             return Err(PortError::Read);
         };
         if count == 0 {
-            return answer_last(alloc, &mut received, control, &mut answers, writer);
+            return answer_last(alloc, received, control, answers, writer);
         }
         received.push(&piece[..count])?;
-        answer_piece(alloc, &mut received, control, &mut answers, writer)?;
+        answer_piece(alloc, received, control, answers, writer)?;
     }
     Err(PortError::Read)
 }

@@ -7,6 +7,7 @@ use crate::serve::ServeError;
 use std::alloc::{AllocError, Global};
 use std::net::{Net, OpenListener, Shutdown, TcpStream};
 use std::rt::Clock;
+use std::sync::atomic::{AtomicU64, Ordering};
 use std::sync::{Arc, Condvar, Mutex, MutexGuard, Wait};
 use std::thread;
 use std::time::Duration;
@@ -42,6 +43,8 @@ pub struct Acceptor {
     turn: Mutex<()>,
     inside: Mutex<Inside>,
     changed: Condvar,
+    /// How many connections are open.
+    open: AtomicU64,
     threads: u32,
     idle_seconds: u32,
 }
@@ -100,6 +103,7 @@ impl Acceptor {
                 open,
             }),
             changed: Condvar::new(),
+            open: AtomicU64::new(0),
             threads,
             idle_seconds: limits.idle_seconds,
         })
@@ -245,16 +249,23 @@ impl Acceptor {
         if let Some(place) = inside.open.get_mut(number) {
             *place = Some(stream);
         }
+        self.open.fetch_add(1, Ordering::SeqCst);
         Ok(true)
     }
 
-    /// The thread has no connection any more.
+    /// The thread, which had entered, has no connection any more.
     pub fn leave<R: Wait>(&self, rt: &R, number: usize) {
         let mut inside = self.inside.lock(rt);
         let inside = &mut *inside;
         if let Some(place) = inside.open.get_mut(number) {
             *place = None;
         }
+        self.open.fetch_sub(1, Ordering::SeqCst);
+    }
+
+    /// Whether just one connection is open.
+    pub fn has_one_open(&self) -> bool {
+        self.open.load(Ordering::SeqCst) == 1
     }
 
     /// Closes the connections of a service that was told to stop: no more is read of them, and those that have not

@@ -20,6 +20,10 @@ use thiserror::Error;
 /// How long a write may take before it counts as one that waits for room, in milliseconds.
 const SOON: u64 = 1;
 
+/// How often the only connection of a service looks whether something has come before it sleeps: some twenty microseconds in
+/// all, in which a client that waits for each answer has sent its next line.
+const LONE_LOOKS: u32 = 50;
+
 /// How often a service that was told to stop looks whether its client had sent more, a millisecond apart.
 const LAST_LOOKS: u32 = 20;
 
@@ -80,7 +84,7 @@ pub fn ready(stream: &TcpStream) -> Result<(), ConnectionFault>
 }
 
 /// What a client sends. A read waits as long as the clock of the connection leaves, and notes why it ended where it waited in
-/// vain.
+/// vain. What the only connection of a service finds before it sleeps counts as waited for no time.
 #[derive(Drop)]
 pub struct Incoming<'e, R> {
     rt: &'e R,
@@ -114,10 +118,29 @@ impl<'e, R: Wait + Clock> Incoming<'e, R> {
     pub fn read_now(&mut self, buf: &mut [u8]) -> Option<io::Result<usize>>
         ensures { IfSome result (λ outcome. ReadsAtMost outcome buf.new) }
     {
-        match look(self.stream, buf) {
-            Err(error) if error.kind() == ErrorKind::WouldBlock => None,
-            outcome => Some(self.note_at_once(outcome, buf)),
+        self.look(1, buf)
+    }
+
+    /// Looks so many times for what comes, and reads it, without a sleep; None where nothing has come.
+    fn look(&mut self, times: u32, buf: &mut [u8]) -> Option<io::Result<usize>>
+        ensures { IfSome result (λ outcome. ReadsAtMost outcome buf.new) }
+    {
+        let outcome = look(self.stream, times, buf);
+        if has_none(&outcome) {
+            return None;
         }
+        Some(self.note_at_once(outcome, buf))
+    }
+
+    /// Looks for what comes where no other connection is open, which could use the time; None where nothing has come, or the
+    /// client has kept the service waiting too long.
+    fn look_alone(&mut self, buf: &mut [u8]) -> Option<io::Result<usize>>
+        ensures { IfSome result (λ outcome. ReadsAtMost outcome buf.new) }
+    {
+        if self.clock.left() == Some(0) || !self.acceptor.has_one_open() {
+            return None;
+        }
+        self.look(LONE_LOOKS, buf)
     }
 
     /// Reads once something has come, and notes how long that took.
@@ -197,7 +220,11 @@ impl<'e, R: Wait + Clock> Incoming<'e, R> {
 
 impl<R: Wait + Clock> Read for Incoming<'_, R> {
     fn read(&mut self, buf: &mut [u8]) -> io::Result<usize> {
-        match self.await_bytes(buf) {
+        let outcome = match self.look_alone(buf) {
+            Some(outcome) => outcome,
+            None => self.await_bytes(buf),
+        };
+        match outcome {
             Ok(0) => self.read_last(buf),
             outcome => outcome,
         }
@@ -270,12 +297,23 @@ fn micros(time: Duration) -> u64 {
     u64::try_from(time.as_micros()).unwrap_or(u64::MAX)
 }
 
-/// Reads what has come, without a wait.
-fn look(mut stream: &TcpStream, buf: &mut [u8]) -> io::Result<usize>
+/// Whether nothing had come.
+fn has_none(outcome: &io::Result<usize>) -> bool {
+    matches!(outcome, Err(error) if error.kind() == ErrorKind::WouldBlock)
+}
+
+/// Looks so many times, and once at least, whether something has come, and reads it, without a sleep.
+fn look(mut stream: &TcpStream, times: u32, buf: &mut [u8]) -> io::Result<usize>
     ensures { ReadsAtMost result buf.new }
 {
     stream.set_nonblocking(true)?;
-    let outcome = stream.read(buf);
+    let mut outcome = stream.read(buf);
+    for _ in 1..times {
+        if !has_none(&outcome) {
+            break;
+        }
+        outcome = stream.read(buf);
+    }
     stream.set_nonblocking(false)?;
     outcome
 }

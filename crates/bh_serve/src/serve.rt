@@ -13,6 +13,7 @@ use crate::report::Report;
 use crate::reporter::Reports;
 use crate::threads::Server;
 use bh_audit::{Book, Shared};
+use bh_control::session::Buffers;
 use bh_port::script::open;
 use bh_props::Settings;
 use std::alloc::{AllocError, AllocFailed, Global};
@@ -189,6 +190,7 @@ fn serve<R: Threads + Wait + Clock + Sync, L: OpenListener<Stream = TcpStream> +
     let shared = service(alloc, settings)?;
     let echo = Echo::new(rt);
     let clock = MachineClock::start(rt);
+    let buffers = buffers(alloc, acceptor.threads())?;
     let server = Server {
         rt,
         alloc,
@@ -196,6 +198,7 @@ fn serve<R: Threads + Wait + Clock + Sync, L: OpenListener<Stream = TcpStream> +
         names: &names,
         echo: &echo,
         clock: &clock,
+        buffers: buffers.as_slice(),
         connections: Connections {
             rt,
             alloc,
@@ -206,6 +209,15 @@ fn serve<R: Threads + Wait + Clock + Sync, L: OpenListener<Stream = TcpStream> +
         },
     };
     Ok(server.run(output))
+}
+
+/// What so many threads of connections keep from one to the next.
+fn buffers(alloc: Global, threads: u32) -> Result<Vec<Mutex<Buffers>>, AllocError> {
+    let mut buffers = Vec::new(alloc);
+    for _ in 0..threads {
+        buffers.push(Mutex::new(Buffers::with_room(alloc)?))?;
+    }
+    Ok(buffers)
 }
 
 /// The service of the groups of the settings, all new. It is not audited.

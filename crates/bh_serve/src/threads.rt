@@ -12,6 +12,7 @@ use crate::serve::ServeError;
 use bh_audit::{Pass, Shared};
 use bh_base::GroupId;
 use bh_control::converse;
+use bh_control::session::{Buffers, converse_in};
 use bh_lines::PortError;
 use bh_streams::{WatchedReader, WatchedWriter};
 use bh_workers::{timer_loop, worker_loop};
@@ -19,7 +20,7 @@ use std::alloc::Global;
 use std::io::Write;
 use std::net::{OpenListener, TcpStream};
 use std::rt::Clock;
-use std::sync::Wait;
+use std::sync::{Mutex, Wait};
 use std::thread;
 use std::thread::{JoinHandle, Scope, Threads};
 use std::time::Duration;
@@ -39,6 +40,8 @@ pub struct Server<'e, R, L> {
     pub names: &'e GroupNames<'e>,
     pub echo: &'e Echo<'e, R>,
     pub clock: &'e MachineClock<'e, R>,
+    /// What each thread of connections keeps from one to the next, by its number.
+    pub buffers: &'e [Mutex<Buffers>],
     pub connections: Connections<'e, R, L>,
 }
 
@@ -186,12 +189,12 @@ impl<'e, R: Threads + Wait + Clock + Sync, L: OpenListener<Stream = TcpStream> +
 }
 
 impl<'e, R: Wait + Clock, L> Answering for Server<'e, R, L> {
-    fn answer_lines(&self, _number: usize, stream: &TcpStream) -> Result<(), ConnectionFault> {
+    fn answer_lines(&self, number: usize, stream: &TcpStream) -> Result<(), ConnectionFault> {
         ready(stream)?;
         let acceptor = self.connections.acceptor;
         let mut input = Incoming::new(self.rt, stream, acceptor);
         let mut output = Outgoing::new(self.rt, stream, acceptor);
-        let outcome = self.answer(&mut input, &mut output);
+        let outcome = self.answer(number, &mut input, &mut output);
         end_of(outcome, input.fault().or(output.fault()))
     }
 
@@ -226,9 +229,10 @@ impl<'e, R: Wait + Clock, L> Server<'e, R, L> {
         count
     }
 
-    /// Answers the control lines of the input to the output.
+    /// Answers the control lines of the input to the output, by the thread of that number.
     fn answer(
         &self,
+        number: usize,
         input: &mut Incoming<'_, R>,
         output: &mut Outgoing<'_, R>,
     ) -> Result<(), PortError> {
@@ -242,6 +246,18 @@ impl<'e, R: Wait + Clock, L> Server<'e, R, L> {
         );
         let mut reader = WatchedReader::new(input);
         let mut writer = WatchedWriter::new(output);
-        converse(self.alloc, &mut reader, &mut writer, &mut control)
+        match self.buffers.get(number) {
+            Some(kept) => {
+                let mut kept = kept.lock(self.rt);
+                converse_in(
+                    &mut *kept,
+                    self.alloc,
+                    &mut reader,
+                    &mut writer,
+                    &mut control,
+                )
+            }
+            None => converse(self.alloc, &mut reader, &mut writer, &mut control),
+        }
     }
 }

@@ -3,7 +3,7 @@ use Rattle.bh_lines.specs.Lines.{has_line}
 use Rattle.bh_streams.specs.Watched.{saturating_count, reader_of, reads_of, bytes_left, NoneFailed, writer_of, bytes_held, NoneRefused}
 use Rattle.bh_control.specs.AnswerLine.{responder}
 use Rattle.bh_control.proofs.Progress.{Progress}
-use Rattle.bh_control.proofs.session.converse.Given as goal
+use Rattle.bh_control.proofs.session.converse_in.Given as goal
 
 abbrev pub invariant-loop : goal.invariant-loop
 invariant-loop g l = record {

@@ -6,7 +6,7 @@ use Rattle.bh_lines.specs.Names.{Names}
 use Rattle.bh_control.specs.AnswerLine.{responder}
 use Rattle.bh_control.specs.Session.{PieceOutcome, LastOutcome}
 use Rattle.bh_control.proofs.Progress.{progress-start, progress-piece, progress-stops, progress-refused, progress-fails, progress-ends, progress-answered, memory-refused}
-use Rattle.bh_control.proofs.session.converse.Goals as goal
+use Rattle.bh_control.proofs.session.converse_in.Goals as goal
 
 pub returns-then-count-eq0-clause-answers : goal.returns-then-count-eq0-clause-answers
 returns-then-count-eq0-clause-answers g c =
@@ -62,12 +62,12 @@ loop-init g c = record {
   same_reader = refl;
   same_writer = refl;
   names = refl;
-  none_held = c.new-answers.ensures.items;
-  no_line = rw c.new-received.ensures refl;
+  none_held = c.clear-2.ensures.items;
+  no_line = rw c.clear.ensures refl;
   read_enough = omega arith;
   none_failed = refl;
   none_refused = refl;
-  progress = progress-start _ _ _ _ c.new-received.ensures;
+  progress = progress-start _ _ _ _ c.clear.ensures;
 }
 
 pub returns-in_default-clause-answered : goal.returns-in_default-clause-answered
