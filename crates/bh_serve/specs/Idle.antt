@@ -1,5 +1,5 @@
 -- How long a connection may keep the service waiting, and why it ended.
-use Rattle.std.specs.Prelude.{⊤, ℕ, ◌+◌, ◌-◌, ◌^◌, List, length, slice_get, Bool, true, false, not, ◌==◌, ◌&&◌, Option, Some, None, Result, Ok, Err, min, if◌then◌else◌}
+use Rattle.std.specs.Prelude.{⊤, ℕ, ◌+◌, ◌-◌, ◌^◌, List, length, slice_get, Bool, false, not, ◌==◌, ◌&&◌, Option, Some, None, Result, Ok, Err, min, if◌then◌else◌}
 use Rattle.std.specs.List.{list_any}
 use Rattle.bh_serve.specs.declared.connection.ConnectionFault.{ConnectionFault}
 use Rattle.bh_serve.specs.declared.connection.ConnectionFault.TheVariants.{Idle, Slow, Port}
