@@ -45,6 +45,8 @@ pub struct Acceptor {
     changed: Condvar,
     /// How many connections are open.
     open: AtomicU64,
+    /// How many workers run what connections ask for.
+    workers: AtomicU64,
     threads: u32,
     idle_seconds: u32,
 }
@@ -104,6 +106,7 @@ impl Acceptor {
             }),
             changed: Condvar::new(),
             open: AtomicU64::new(0),
+            workers: AtomicU64::new(0),
             threads,
             idle_seconds: limits.idle_seconds,
         })
@@ -263,9 +266,15 @@ impl Acceptor {
         self.open.fetch_sub(1, Ordering::SeqCst);
     }
 
-    /// Whether just one connection is open.
-    pub fn has_one_open(&self) -> bool {
-        self.open.load(Ordering::SeqCst) == 1
+    /// One more worker is about to be started.
+    pub fn worker_begins(&self) {
+        self.workers.fetch_add(1, Ordering::SeqCst);
+    }
+
+    /// Whether the thread of an open connection is the only one that its lines keep busy: no other is open, and no worker
+    /// runs what they ask for.
+    pub fn is_alone(&self) -> bool {
+        self.open.load(Ordering::SeqCst) == 1 && self.workers.load(Ordering::SeqCst) == 0
     }
 
     /// Closes the connections of a service that was told to stop: no more is read of them, and those that have not

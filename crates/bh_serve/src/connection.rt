@@ -20,8 +20,8 @@ use thiserror::Error;
 /// How long a write may take before it counts as one that waits for room, in milliseconds.
 const SOON: u64 = 1;
 
-/// How often the only connection of a service looks whether something has come before it sleeps: some twenty microseconds in
-/// all, in which a client that waits for each answer has sent its next line.
+/// How often the only connection of a service without workers looks whether something has come before it sleeps: some twenty
+/// microseconds in all, in which a client that waits for each answer has sent its next line.
 const LONE_LOOKS: u32 = 50;
 
 /// How often a service that was told to stop looks whether its client had sent more, a millisecond apart.
@@ -132,12 +132,12 @@ impl<'e, R: Wait + Clock> Incoming<'e, R> {
         Some(self.note_at_once(outcome, buf))
     }
 
-    /// Looks for what comes where no other connection is open, which could use the time; None where nothing has come, or the
+    /// Looks for what comes where no other connection and no worker could use the time; None where nothing has come, or the
     /// client has kept the service waiting too long.
     fn look_alone(&mut self, buf: &mut [u8]) -> Option<io::Result<usize>>
         ensures { IfSome result (λ outcome. ReadsAtMost outcome buf.new) }
     {
-        if self.clock.left() == Some(0) || !self.acceptor.has_one_open() {
+        if self.clock.left() == Some(0) || !self.acceptor.is_alone() {
             return None;
         }
         self.look(LONE_LOOKS, buf)

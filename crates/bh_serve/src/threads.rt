@@ -146,6 +146,7 @@ impl<'e, R: Threads + Wait + Clock + Sync, L: OpenListener<Stream = TcpStream> +
         group: GroupId,
     ) -> Result<(), ServeError> {
         let pass = self.pass(group)?;
+        self.connections.acceptor.worker_begins();
         let Ok(worker) = scope.spawn(move || self.work(pass)) else {
             return Err(ServeError::Thread);
         };
