@@ -3,14 +3,12 @@
     python3 soak.py PROGRAM PORT SECONDS LIBRARY
 
 Calls are made for 59 minutes at most, so that none has left the window of an hour when the metrics are read. Asserted are
-that each call is answered once and by its own argument, that the metrics add up to the calls made, and that no thread and no
-descriptor is left over. After the first minute, or the first quarter of a shorter run, the clients leave once; asserted are,
-too, that the memory which the service has once its clients are gone is at the end within two percent of what it was then, and
-its resident size within five: what the C library keeps of memory that was given back to it rises a little longer. LIBRARY is
-built of `live.c`, and counts the memory.
+that each call is answered once and by its own argument, that the metrics add up to the calls made, that the memory which
+the service has once its clients are gone is within two percent of what it had before they came, and that no thread and no
+descriptor is left over. LIBRARY is built of `live.c`, and counts the memory.
 
-What the service has before its first client is no measure: each thread of it takes buffers for its connections as it needs
-them, and keeps them.
+After the first minute, or the first quarter of a shorter run, the clients leave once: at the end the resident size has to be
+within five percent of what it was then. What the C library keeps of memory that was given back to it rises for a while.
 """
 
 from __future__ import annotations
@@ -261,15 +259,16 @@ def soak(program: Path, port: int, seconds: int, library: Path, folder: Path) ->
                 return Size(service.resident(), live(folder / "live"))
 
             clients, first = Clients(service), min(60.0, seconds / 4)
-            print(f"before the first client: {size()}", flush=True)
-            clients.come(first, range(CALLERS))
             before = size()
-            print(f"after {first:.0f} seconds: {before}", flush=True)
+            print(f"before the first client: {before}", flush=True)
+            clients.come(first, range(CALLERS))
+            warm = size()
+            print(f"after {first:.0f} seconds: {warm}", flush=True)
             clients.come(min(seconds, MOST_SECONDS) - first, range(CALLERS, 2 * CALLERS))
             calls, after = clients.account(), size()
             print(f"after {calls} calls: {after}", flush=True)
             within("memory", 2, before.live, after.live)
-            within("resident size", 5, before.resident, after.resident)
+            within("resident size", 5, warm.resident, after.resident)
             print(f"ended after {service.end(2.0):.2f} seconds")
         finally:
             service.kill()
