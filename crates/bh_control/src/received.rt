@@ -7,6 +7,7 @@ ghost use Rattle.bh_control.specs.Taken.{TakesAsked, IsLastAsked};
 
 use crate::control::Control;
 use crate::control_line::{Asked, ControlLine};
+use bh_lines::lines::LINE_LIMIT;
 use bh_lines::{PortError, front_line, last_line, next_line};
 use bytes::BytesMut;
 use json::Scratch;
@@ -42,15 +43,18 @@ impl Received {
         }
     }
 
-    /// The same, with room for so many bytes, which is taken at once. It fails only for want of memory.
+    /// The same, with room for so many bytes and for what reading the longest line takes, which is taken at once. It fails
+    /// only for want of memory.
     pub fn with_room(alloc: Global, room: usize) -> Result<Received, AllocError>
         ensures { IfOk result (λ received. received ≡ []) }
     {
         let bytes = BytesMut::with_capacity(alloc, room)?;
+        let mut scratch = Scratch::new(alloc);
+        scratch.reserve(LINE_LIMIT)?;
         Ok(Received {
             alloc,
             bytes,
-            scratch: Scratch::new(alloc),
+            scratch,
         })
     }
 

@@ -47,14 +47,23 @@ impl Buffers {
         }
     }
 
-    /// The same, with some 18 KiB that are taken at once: what a session takes beside is that of lines with escapes, or of
-    /// many names of groups. It fails only for want of memory.
+    /// The same, with some 19 KiB that are taken and written to at once, so that a system that gives memory as it is written
+    /// to gives no more of it later: what a session takes beside is that of lines with escapes, or of many names of groups.
+    /// It fails only for want of memory.
     pub fn with_room(alloc: Global) -> Result<Buffers, AllocError> {
         Ok(Buffers {
             received: Received::with_room(alloc, LINES_ROOM)?,
-            answers: Vec::with_capacity(alloc, ANSWERS_ROOM)?,
+            answers: written_to(alloc, ANSWERS_ROOM)?,
         })
     }
+}
+
+/// No bytes, with room for so many that was written to.
+fn written_to(alloc: Global, room: usize) -> Result<Vec<u8>, AllocError> {
+    let mut bytes = Vec::with_capacity(alloc, room)?;
+    bytes.resize(room, b' ')?;
+    bytes.clear();
+    Ok(bytes)
 }
 
 /// Answers the control lines of the reader to the writer, as they come, to the end of the input.
