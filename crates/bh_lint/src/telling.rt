@@ -43,14 +43,55 @@ pub(crate) fn tell(
     ensures { IfOk result (λ told. map (λ t. t.finding) told.items ≡ findings.now) }
 {
     let sections = Sections::of(root);
-    let mut sought = sought_for(alloc, &sections, findings)?;
-    find_places(alloc, text, &mut sought)?;
-    let names = Known::of(alloc, root)?;
+    let sought = places_of(alloc, text, &sections, findings)?;
+    told_in(alloc, root, &sections, &sought, findings)
+}
+
+/// The same, where the places are found.
+fn told_in(
+    alloc: Global,
+    root: &Value,
+    sections: &Sections,
+    sought: &Sought,
+    findings: &[Finding],
+) -> Result<Vec<Told>, AllocError>
+    requires { AreFound sections.now }
+    ensures { IfOk result (λ told. map (λ t. t.finding) told.items ≡ findings.now) }
+{
+    let known = Known::of(alloc, root)?;
+    told_of(alloc, sections, sought, &known, findings)
+}
+
+/// The same, where the names are known too.
+fn told_of(
+    alloc: Global,
+    sections: &Sections,
+    sought: &Sought,
+    known: &Known,
+    findings: &[Finding],
+) -> Result<Vec<Told>, AllocError>
+    requires { AreFound sections.now }
+    ensures { IfOk result (λ told. map (λ t. t.finding) told.items ≡ findings.now) }
+{
     let mut told = Vec::new(alloc);
     for finding in findings {
-        told.push(told_at(alloc, &sections, &sought, &names, finding)?)?;
+        told.push(told_at(alloc, sections, sought, known, finding)?)?;
     }
     Ok(told)
+}
+
+/// The places of the findings' names, where the text has them.
+fn places_of(
+    alloc: Global,
+    text: &str,
+    sections: &Sections,
+    findings: &[Finding],
+) -> Result<Sought, AllocError>
+    requires { AreFound sections.now }
+{
+    let mut sought = sought_for(alloc, sections, findings)?;
+    find_places(alloc, text, &mut sought)?;
+    Ok(sought)
 }
 
 /// The paths of the findings' names.

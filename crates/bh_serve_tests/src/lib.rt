@@ -1,4 +1,4 @@
-//! Tests of a service over the loopback interface, with its clients in threads beside it.
+//! Tests of a service over the loopback interface, and of one that connections share, with its clients in threads beside it.
 #![tactic(auto)]
 
 #[cfg(test)]
@@ -6,6 +6,18 @@ mod acceptor;
 #[cfg(test)]
 mod clients;
 #[cfg(test)]
+mod leaving;
+#[cfg(test)]
+mod lines;
+#[cfg(test)]
+mod many;
+#[cfg(test)]
+mod records;
+#[cfg(test)]
 mod reports;
 #[cfg(test)]
+mod scene;
+#[cfg(test)]
 mod talks;
+#[cfg(test)]
+mod waiting;

@@ -1,7 +1,8 @@
 //! Readers that give little at a time or fail, and writers that take little, fail or take none.
 
 use crate::operations::CACHE;
-use crate::scripts::{Texts, assert_bytes, assert_end, script_of, texts_of};
+use crate::runs::{assert_bytes, assert_end};
+use crate::scripts::{Texts, script_of, texts_of};
 use bh_commands::run_file;
 use std::io;
 use std::io::{ErrorKind, Read, Write};

@@ -1,6 +1,6 @@
 //! Scripts of which the lines of some groups are cut out: which lines these are, and how a cut ends.
 
-use crate::scripts::{assert_bytes, assert_end};
+use crate::runs::{assert_bytes, assert_end};
 use crate::streams::pieces;
 use bh_commands::cut_file;
 use std::process::Abort;

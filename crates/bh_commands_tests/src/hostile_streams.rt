@@ -2,7 +2,8 @@
 //! fewer calls.
 
 use crate::operations::CACHE;
-use crate::scripts::{Texts, assert_bytes, assert_end, script_of, texts_of};
+use crate::runs::{assert_bytes, assert_end};
+use crate::scripts::{Texts, script_of, texts_of};
 use crate::streams::{PieceReader, PieceWriter, pieces, writer};
 use bh_commands::run_file;
 use std::process::Abort;

@@ -1,7 +1,7 @@
 //! Random scripts of several groups, which come and go: the lines of some of them are answered by themselves as they were
 //! among all others.
 
-use crate::scripts::{assert_bytes, assert_end};
+use crate::runs::{assert_bytes, assert_end};
 use bh_commands::{cut_file, run_file};
 use rand_core::{Rng, SeedableRng};
 use rand_xoshiro::Xoshiro256PlusPlus;

@@ -1,6 +1,6 @@
 //! Summaries of scripts: what the requests of each command came to, worked out by hand.
 
-use crate::scripts::{assert_bytes, assert_end};
+use crate::runs::{assert_bytes, assert_end};
 use crate::streams::pieces;
 use bh_commands::{SummaryForm, summary_file};
 use std::process::Abort;

@@ -1,6 +1,7 @@
 //! Scripts in which groups come and go.
 
-use crate::scripts::{assert_bytes, assert_end, assert_scripts};
+use crate::runs::{assert_bytes, assert_end};
+use crate::scripts::assert_scripts;
 use bh_commands::run_file;
 use std::process::Abort;
 

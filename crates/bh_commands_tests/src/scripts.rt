@@ -3,6 +3,7 @@
 //! A script is what it shows, its settings, and behind an empty line its lines, each with its answer behind ` -> `. Two
 //! empty lines stand between scripts.
 
+use crate::runs::{assert_bytes, assert_end};
 use bh_commands::run_file;
 use std::process::Abort;
 
@@ -48,16 +49,6 @@ pub(crate) fn texts_of<R: Abort + AllocGlobal>(rt: &R, lines: &str) -> Texts {
 fn push_line<R: Abort>(rt: &R, text: &mut String, line: &str) {
     text.push_str(line).expect(rt, "memory");
     text.push_str("\n").expect(rt, "memory");
-}
-
-/// Asserts the exit status.
-pub(crate) fn assert_end<R: Abort>(rt: &R, answered: u8, status: u8) {
-    assert_eq!(rt; answered, status);
-}
-
-/// Asserts the bytes that were written; what they are is told where they differ.
-pub(crate) fn assert_bytes<R: Abort>(rt: &R, written: &Vec<u8>, want: &str, what: &str) {
-    assert_eq!(rt; written.as_slice(), want.as_bytes(), "{what}");
 }
 
 /// Runs the script, and asserts that its lines are answered as it says.
