@@ -1,10 +1,10 @@
 #!/bin/bash
 # Refuses each allocation in turn, and fails where that ends in another way than it should: of each call of the
-# libraries by the tests of `bh_refusals` and `bh_service_refusals`, and of the whole program for several command lines.
+# libraries by the tests of `bh_refusals`, and of the whole program for several command lines.
 #
 #   bench/refused.sh [-p PORT] [PROGRAM TESTS..]
 #
-# PROGRAM is `bulkhead` and TESTS the built tests of the two crates; all are proved and built where they are not given.
+# PROGRAM is `bulkhead` and TESTS the built tests of that crate; both are proved and built where they are not given.
 # Nothing here may take longer than twenty seconds, so that nothing hangs unseen.
 set -euo pipefail
 
@@ -14,7 +14,6 @@ declare -A options=([p]=port)
 port=7413
 . "$here/options.sh"
 program=${1:-$crates/bulkhead/out/bulkhead}
-refusals=(bh_refusals bh_service_refusals)
 built=("${@:2}")
 work=$(mktemp -d)
 trap 'rm -r "$work"' EXIT
@@ -22,10 +21,8 @@ failures=0
 
 if [ $# -eq 0 ]; then
     (cd "$crates/bulkhead" && rt run -- --help >"$work/build" 2>&1) || { cat "$work/build"; exit 1; }
-    for crate in "${refusals[@]}"; do
-        (cd "$crates/$crate" && rt test >"$work/build" 2>&1) || { cat "$work/build"; exit 1; }
-        built+=("$crates/$crate/out/${crate}_tests")
-    done
+    (cd "$crates/bh_refusals" && rt test >"$work/build" 2>&1) || { cat "$work/build"; exit 1; }
+    built=("$crates/bh_refusals/out/bh_refusals_tests")
 fi
 cc -O2 -shared -fPIC -o "$work/refuse.so" "$here/refuse.c" -ldl
 

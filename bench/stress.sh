@@ -2,8 +2,8 @@
 # Runs each test with threads many times in a row, alone and then while every processor is kept busy, and fails where
 # one fails or takes longer than a minute.
 #
-#   bench/stress.sh [-n TIMES] [TESTS..]     TESTS are the built tests of `bh_audit_tests` and `bh_workers_tests`, proved
-#                                            and built where not given
+#   bench/stress.sh [-n TIMES] [TESTS..]     TESTS are the built tests of `bh_workers_tests`, proved and built where not
+#                                            given
 set -euo pipefail
 
 here=$(cd "$(dirname "$0")" && pwd)
@@ -49,10 +49,8 @@ run_all() {
 }
 
 if [ $# -eq 0 ]; then
-    for crate in bh_audit_tests bh_workers_tests; do
-        (cd "$crates/$crate" && rt test >"$work/build" 2>&1) || { cat "$work/build"; exit 1; }
-        built+=("$crates/$crate/out/${crate}_tests")
-    done
+    (cd "$crates/bh_workers_tests" && rt test >"$work/build" 2>&1) || { cat "$work/build"; exit 1; }
+    built=("$crates/bh_workers_tests/out/bh_workers_tests_tests")
 fi
 run_all alone
 load_all

@@ -1,7 +1,10 @@
-//! Tests of what the program does over memory: scripts, each line beside its answer, scripts of which some groups are cut out,
-//! readers and writers that give and take little or fail, faulty and long lines, and settings that are refused or shown.
+//! Tests of what the program does over memory: command lines that are refused, scripts, each line beside its answer, scripts of
+//! which some groups are cut out, readers and writers that give and take little or fail, faulty and long lines, and settings
+//! that are refused or shown.
 #![tactic(auto)]
 
+#[cfg(test)]
+mod arguments;
 #[cfg(test)]
 mod cuts;
 #[cfg(test)]

@@ -1,5 +1,6 @@
-//! Tests of what a refused allocation leaves, for every call of the libraries without threads that takes memory. They
-//! stand apart from the other tests, as they are run under an allocator that refuses (`bench/refused.sh`).
+//! Tests of what a refused allocation leaves, for every call of the libraries that takes memory, and for the threads that
+//! drive a service. They stand apart from the other tests, as they are run under an allocator that refuses
+//! (`bench/refused.sh`).
 #![tactic(auto)]
 
 #[cfg(test)]
@@ -14,5 +15,7 @@ mod parts;
 mod places;
 #[cfg(test)]
 mod refusing;
+#[cfg(test)]
+mod services;
 #[cfg(test)]
 mod worked;

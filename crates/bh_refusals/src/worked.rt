@@ -1,11 +1,12 @@
 //! Two groups that answer a worked run as new ones do.
 
-ghost use Rattle.std.specs.Prelude.{◌≤◌, ◌^◌, length};
+ghost use Rattle.std.specs.Prelude.{◌≤◌, ◌^◌, OnOk, length};
 ghost use Rattle.std.specs.List.{AllByRecursion};
 ghost use Rattle.bh_base.specs.Ranges.{IsCommandInRange, IsInRange};
+ghost use Rattle.bh_audit.specs.Books.{AreNew};
 
-use bh_base::{CommandProps, GroupProps};
-use bh_core::Core;
+use bh_base::{CommandProps, GroupId, GroupProps};
+use bh_core::{Core, RegisterError};
 use bh_scripts::samples::{command, command_by_callers, props_of};
 use bh_scripts::worked::{replies, steps};
 use std::process::Abort;
@@ -41,14 +42,29 @@ pub(crate) fn props_of_two<R: Abort + AllocGlobal>(rt: &R) -> GroupProps
     small(vec![in rt.alloc(); command(), command_by_callers()].expect(rt, "memory"))
 }
 
+/// Adds a group that did no step.
+fn add<R: Abort + AllocGlobal>(
+    rt: &R,
+    core: &mut Core,
+    steps: u64,
+) -> Result<GroupId, RegisterError>
+    requires some { 1 ≤ steps }
+    requires few { steps ≤ 2 ^ 40 }
+    requires new { AreNew steps core.old }
+    ensures { OnOk result (AreNew steps core.new) }
+{
+    core.register(&props(rt), steps)
+}
+
 /// A core of the two groups, each of which may do so many steps, with slots for a third.
 pub(crate) fn two_groups<R: Abort + AllocGlobal>(rt: &R, steps: u64) -> Core
     requires some { 1 ≤ steps }
     requires few { steps ≤ 2 ^ 40 }
+    ensures { AreNew steps result }
 {
     let mut core = Core::new(rt.alloc(), 12);
-    core.register(&props(rt), steps).expect(rt, "memory");
-    core.register(&props(rt), steps).expect(rt, "memory");
+    add(rt, &mut core, steps).expect(rt, "memory");
+    add(rt, &mut core, steps).expect(rt, "memory");
     core
 }
 

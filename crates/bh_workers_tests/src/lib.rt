@@ -1,8 +1,13 @@
-//! Tests of workers, callers and the timer over a service: what threads do beside one another.
+//! Tests of books and of the service that threads share, and of workers, callers and the timer over it: what threads do beside
+//! one another.
 #![tactic(auto)]
 
 #[cfg(test)]
+mod books;
+#[cfg(test)]
 mod calls;
+#[cfg(test)]
+mod collecting;
 #[cfg(test)]
 mod commands;
 #[cfg(test)]
@@ -12,8 +17,16 @@ mod lives;
 #[cfg(test)]
 mod mixed;
 #[cfg(test)]
+mod receipts;
+#[cfg(test)]
 mod samples;
+#[cfg(test)]
+mod script;
+#[cfg(test)]
+mod services;
 #[cfg(test)]
 mod stress;
 #[cfg(test)]
 mod threads;
+#[cfg(test)]
+mod waking;

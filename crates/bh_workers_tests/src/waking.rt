@@ -3,8 +3,9 @@
 
 ghost use Rattle.bh_base.specs.Ranges.{IsInRange};
 
+use crate::driving::{assert_end, assert_text, service};
 use crate::samples::props;
-use crate::script::{assert_end, assert_text, play, service, take_passes};
+use crate::script::{play, take_passes};
 use bh_audit::{Pass, Shared};
 use bh_base::{GroupId, GroupProps, Op, Reply};
 use bh_scripts::samples::{step, submit};

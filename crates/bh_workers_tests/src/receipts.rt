@@ -1,7 +1,8 @@
 //! Receipts of another service: what the end of a service says of them.
 
+use crate::driving::assert_end;
 use crate::samples::props;
-use crate::script::{assert_end, play, take_passes};
+use crate::script::{play, take_passes};
 use bh_audit::{Pass, Shared};
 use bh_core::Core;
 use bh_services::services::{A, add, service_of};

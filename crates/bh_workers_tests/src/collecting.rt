@@ -1,7 +1,8 @@
 //! A step with a Collect behind it, in one turn of the lock.
 
+use crate::driving::{assert_end, assert_text, service};
 use crate::samples::props;
-use crate::script::{assert_end, assert_text, service, take_passes};
+use crate::script::take_passes;
 use bh_audit::{Clock, Pass, Receipt, Shared};
 use bh_base::{Answer, Reply};
 use bh_scripts::replies::reply_text;

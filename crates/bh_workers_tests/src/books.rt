@@ -3,8 +3,8 @@
 ghost use Rattle.std.specs.Prelude.{◌≤◌};
 ghost use Rattle.bh_base.specs.Ranges.{IsInRange};
 
+use crate::driving::assert_text;
 use crate::samples::props;
-use crate::script::assert_text;
 use bh_audit::Book;
 use bh_base::{GroupId, GroupProps, Op, Reply};
 use bh_core::{Core, RegisterError, RetireError};

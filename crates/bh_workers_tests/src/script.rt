@@ -2,33 +2,16 @@
 //! answered.
 
 ghost use Rattle.std.specs.Prelude.{◌≤◌, ◌^◌};
-ghost use Rattle.bh_base.specs.Ranges.{IsInRange};
 
+use crate::driving::assert_text;
 use crate::samples::props;
 use bh_audit::{Pass, Shared};
-use bh_base::{GroupId, GroupProps};
+use bh_base::GroupId;
 use bh_scripts::words::{number, split_line, split_word};
-use bh_services::accounts::end_text;
 use bh_services::asking::ask;
-use bh_services::services::{add, service_of, service_of_two, two_groups};
-use std::alloc::AllocError;
+use bh_services::services::{add, service_of, two_groups};
 use std::process::Abort;
 use std::sync::Wait;
-
-/// An audited service of two groups.
-pub(crate) fn service<R: Abort + AllocGlobal>(
-    rt: &R,
-    first: GroupProps,
-    second: GroupProps,
-    steps: u64,
-) -> Shared
-    requires first { IsInRange first }
-    requires second { IsInRange second }
-    requires some { 1 ≤ steps }
-    requires few { steps ≤ 2 ^ 40 }
-{
-    service_of_two(rt.alloc(), first, second, steps).expect(rt, "memory")
-}
 
 /// An audited service of three groups.
 pub(crate) fn three_groups<R: Abort + AllocGlobal>(rt: &R, steps: u64) -> Shared
@@ -56,17 +39,6 @@ pub(crate) fn take_passes<R: Wait + Abort + AllocGlobal>(
     passes
 }
 
-/// Asserts that the text was made, and is the other.
-pub(crate) fn assert_text<R: Abort>(
-    rt: &R,
-    told: Result<String, AllocError>,
-    want: &str,
-    at: &str,
-) {
-    let told = told.expect(rt, "memory");
-    assert_eq!(rt; told.as_str(), want, "at {at}");
-}
-
 /// Asserts what is said to each line, which begins with the number of a pass.
 pub(crate) fn play<R: Abort + Wait + AllocGlobal>(
     rt: &R,
@@ -80,15 +52,4 @@ pub(crate) fn play<R: Abort + Wait + AllocGlobal>(
         let pass = passes.get_mut(number(at) as usize).expect(rt, "a pass");
         assert_text(rt, ask(rt, rt.alloc(), shared, pass, words), want, line);
     }
-}
-
-/// Asserts what the end of the service says with these passes.
-pub(crate) fn assert_end<R: Abort + AllocGlobal>(
-    rt: &R,
-    shared: Shared,
-    passes: Vec<Pass>,
-    want: &str,
-) {
-    let finished = shared.finish(rt.alloc(), passes);
-    assert_text(rt, end_text(rt.alloc(), &finished), want, "the end");
 }

@@ -2,8 +2,9 @@
 
 ghost use Rattle.std.specs.Prelude.{◌≤◌, ◌^◌};
 
+use crate::driving::{assert_end, assert_text, service};
 use crate::samples::{by_callers, props};
-use crate::script::{assert_end, assert_text, play, service, take_passes, three_groups};
+use crate::script::{play, take_passes, three_groups};
 use bh_audit::{PassError, Shared};
 use bh_base::{GroupId, Op, Reply};
 use bh_scripts::samples::step;
