@@ -1,5 +1,5 @@
 -- Runs that ended well took all lines.
-use Rattle.std.proofs.Common.{◌≡◌, ◌∙◌, ℕ, List, Option, Some, None, Result, Ok, Err, IfSome, ap, codes, length, map, subst, sym}
+use Rattle.std.proofs.Common.{◌≡◌, ◌∙◌, ℕ, List, Option, Some, None, Result, Ok, Err, IfSome, IsOk, ap, codes, length, map, subst, sym, true}
 use Rattle.std.proofs.lemmas.List.{length-map}
 use Rattle.std.specs.Prelude.{false, OnOk}
 use Rattle.std.specs.Io.KnownBytes.{Appends}
@@ -33,13 +33,13 @@ lines-whole : (i : Option (List ℕ)) (P : List ℕ → Type 0) → IfSome i (λ
 lines-whole None P o = tt
 lines-whole (Some bytes) P o = o.1
 
--- of the lines that a picture is drawn from
-pub recorded-whole : (i j : Option (List ℕ)) (service : SettingsView) (sel : Selection) (run : KeptRun) (groups : GroupsView) (kept : Kept) (r : Result (Unit {0}) PortError) (x : Unit {0})
-    → i ≡ j → r ≡ Ok x → IfSome i (λ bytes. RecordOutcome service sel run (cut bytes) groups kept r) → IsWhole j
-recorded-whole i j service sel run groups kept r x same is o =
-    subst (λ (k : Option (List ℕ)). IsWhole k) same
-    (lines-whole i (λ bytes. IsRecorded service sel groups kept (run_after service sel.from sel.to (cut bytes) run))
-    (subst (λ (q : Result (Unit {0}) PortError). IfSome i (λ bytes. RecordOutcome service sel run (cut bytes) groups kept q)) is o))
+-- of the lines that a picture is drawn from, where it is told that they ended well
+pub recorded-whole : {E : Type 0} (i j : Option (List ℕ)) (service : SettingsView) (sel : Selection) (run : KeptRun) (groups : GroupsView) (kept : Kept) (r : Result (Unit {0}) PortError) (out : Result (Unit {0}) E)
+    → i ≡ j → OnOk out (IsOk r) → IfSome i (λ bytes. RecordOutcome service sel run (cut bytes) groups kept r) → OnOk out (IsWhole j)
+recorded-whole i j service sel run groups kept (Ok x) (Ok y) same is o =
+    subst (λ (k : Option (List ℕ)). IsWhole k) same (lines-whole i (λ bytes. IsRecorded service sel groups kept (run_after service sel.from sel.to (cut bytes) run)) o)
+recorded-whole i j service sel run groups kept (Err e) (Ok y) same is o = let no : false ≡ true = is in cc
+recorded-whole i j service sel run groups kept r (Err e) same is o = tt
 
 -- of the lines that a summary is of
 pub watched-whole : (i j : Option (List ℕ)) (service : SettingsView) (before : Course) (l0 l1 : Lanes) (r : Result (Unit {0}) PortError)

@@ -1,6 +1,6 @@
 //! The picture of a script.
 
-ghost use Rattle.std.specs.Prelude.{◌≡◌, ◌⊎◌, IsErr, OnOk};
+ghost use Rattle.std.specs.Prelude.{◌≡◌, ◌⊎◌, IsErr, IsOk, OnOk};
 ghost use Rattle.bh_props.specs.SettingsFile.{settings_in};
 ghost use Rattle.bh_commands.specs.Status.{IsWhole, WritesPicture};
 
@@ -121,10 +121,25 @@ fn write_picture<R: Read, W: Write>(
     let mut recording = Recording::new(alloc, settings, selection)?;
     let mut reader = WatchedReader::new(reader);
     let ended = record_script(alloc, &mut reader, settings, &mut recording);
+    write_recorded(alloc, settings, drawing, &recording, ended, writer)
+}
+
+/// Writes the picture of what was recorded until the lines ended so.
+fn write_recorded<W: Write>(
+    alloc: Global,
+    settings: &Settings,
+    drawing: Drawing<'_>,
+    recording: &Recording,
+    ended: Result<(), PortError>,
+    writer: &mut W,
+) -> Result<(), DrawError>
+    ensures drawn { OnOk result (WritesPicture (W.contents writer.old) (W.contents writer.new)) }
+    ensures whole { OnOk result (IsOk ended) }
+{
     if ended.is_ok() {
-        find_groups(&recording, drawing.groups)?;
+        find_groups(recording, drawing.groups)?;
     }
-    let drawn = picture(alloc, settings, &recording, drawing.columns, ended.err())?;
+    let drawn = picture(alloc, settings, recording, drawing.columns, ended.err())?;
     let mut writer = WatchedWriter::new(writer);
     write(&mut writer, drawn.as_str().as_bytes())?;
     Ok(ended?)

@@ -135,7 +135,7 @@ where
         status
     }
 
-    /// Serves the connections to the listener, with a thread that waits for the end of the input.
+    /// Serves the connections to the listener, and tells the service to stop at the end of the input, where there is one.
     fn serve_listener<I, E, W>(
         &self,
         listener: &PlaceListener,
@@ -153,15 +153,33 @@ where
         let Ok(acceptor) = shared_acceptor(self.alloc, self.serving.limits) else {
             return report::settings(&mut errors, SettingsError::Memory);
         };
-        let watcher = match input {
-            Some(input) => match self.start_watcher(input, &acceptor, door) {
-                Some(watcher) => Some(watcher),
-                None => return report::thread(&mut errors),
-            },
-            None => None,
+        match input {
+            Some(input) => self.serve_watched(&acceptor, listener, door, service, input, errors),
+            None => self.serve_reported(&acceptor, listener, &door, service, errors),
+        }
+    }
+
+    /// Serves the connections of the listener, with a thread that waits for the end of the input.
+    fn serve_watched<I, E, W>(
+        &self,
+        acceptor: &Arc<Acceptor, Global>,
+        listener: &PlaceListener,
+        door: Door,
+        service: Service<W>,
+        input: I,
+        mut errors: E,
+    ) -> u8
+    where
+        I: Read + Send + Drop + 'static,
+        E: Write + Send + Drop + 'static,
+        W: Write + Send + Drop,
+        ensures { (result ≡ 0) ⊎ (result ≡ 3) }
+    {
+        let Some(watcher) = self.start_watcher(input, acceptor, door) else {
+            return report::thread(&mut errors);
         };
-        let status = self.serve_reported(&acceptor, listener, &door, service, errors);
-        self.join_if_told(&acceptor, watcher);
+        let status = self.serve_reported(acceptor, listener, &door, service, errors);
+        self.join_if_told(acceptor, watcher);
         status
     }
 
@@ -179,17 +197,33 @@ where
         W: Write + Send + Drop,
         ensures { (result ≡ 0) ⊎ (result ≡ 3) }
     {
-        let errors = match Arc::new(self.alloc, Mutex::new(errors)) {
-            Ok(errors) => errors,
+        match Arc::new(self.alloc, Mutex::new(errors)) {
+            Ok(errors) => self.serve_told(acceptor, listener, door, service, &errors),
             Err(refused) => {
                 let mut errors = refused.value.into_inner();
-                return report::settings(&mut errors, SettingsError::Memory);
+                report::settings(&mut errors, SettingsError::Memory)
             }
-        };
+        }
+    }
+
+    /// The same, where the thread can be handed what it writes to.
+    fn serve_told<E, W>(
+        &self,
+        acceptor: &Acceptor,
+        listener: &PlaceListener,
+        door: &Door,
+        service: Service<W>,
+        errors: &Arc<Mutex<E>, Global>,
+    ) -> u8
+    where
+        E: Write + Send + Drop + 'static,
+        W: Write + Send + Drop,
+        ensures { (result ≡ 0) ⊎ (result ≡ 3) }
+    {
         let Ok(reports) = Arc::new(self.alloc, Reports::new()) else {
             return report::settings(&mut *errors.lock(self.rt), SettingsError::Memory);
         };
-        let Some(writer) = self.start_writer(&reports, &errors) else {
+        let Some(writer) = self.start_writer(&reports, errors) else {
             return report::thread(&mut *errors.lock(self.rt));
         };
         let status = self.serve_connections(acceptor, listener, door, service, &reports);
@@ -268,10 +302,8 @@ where
 
     /// Waits for the watcher, where the input has ended. Where a fault ended the service, it may still wait for that end, and
     /// the end of the program cuts it off.
-    fn join_if_told(&self, acceptor: &Acceptor, watcher: Option<JoinHandle<()>>) {
-        if let Some(watcher) = watcher
-            && acceptor.was_told(self.rt)
-        {
+    fn join_if_told(&self, acceptor: &Acceptor, watcher: JoinHandle<()>) {
+        if acceptor.was_told(self.rt) {
             watcher.join(self.rt);
         }
     }
