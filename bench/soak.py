@@ -8,7 +8,7 @@ the service has once its clients are gone is within two percent of what it had b
 descriptor is left over. LIBRARY is built of `live.c`, and counts the memory.
 
 After the first minute, or the first quarter of a shorter run, the clients leave once: at the end the resident size has to be
-within five percent of what it was then. What the C library keeps of memory that was given back to it rises for a while.
+within two percent of what it was then.
 """
 
 from __future__ import annotations
@@ -268,7 +268,7 @@ def soak(program: Path, port: int, seconds: int, library: Path, folder: Path) ->
             calls, after = clients.account(), size()
             print(f"after {calls} calls: {after}", flush=True)
             within("memory", 2, before.live, after.live)
-            within("resident size", 5, warm.resident, after.resident)
+            within("resident size", 2, warm.resident, after.resident)
             print(f"ended after {service.end(2.0):.2f} seconds")
         finally:
             service.kill()
