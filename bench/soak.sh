@@ -1,7 +1,7 @@
 #!/bin/bash
 # Calls a service over connections that come and go, hostile ones among them, for an hour: each call has to be answered
 # once and by its own argument, the metrics have to add up, the memory that the service has once they are gone has to be
-# within two percent of what it had before they came, its resident size within two of what it was when all had left it after
+# within two percent of what it had before they came, its resident size at most two more than when all had left it after
 # the first minute, and no thread and no descriptor may be left over (soak.py). It needs cc.
 #
 #   bench/soak.sh [-s SECONDS] [-p PORT] [PROGRAM]     PROGRAM is proved and built where none is given
