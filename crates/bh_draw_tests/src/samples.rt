@@ -7,7 +7,7 @@ use bh_look::tally::Tally;
 use std::process::Abort;
 
 /// Nothing in progress.
-pub fn no_usage() -> Usage {
+pub(crate) fn no_usage() -> Usage {
     Usage {
         busy_ms: 0,
         queued_ms: 0,
@@ -16,7 +16,7 @@ pub fn no_usage() -> Usage {
 }
 
 /// A column that was closed for so long from that moment on, and had so many values.
-pub fn column(moment: u64, closed_ms: u64, values: u64) -> Column {
+pub(crate) fn column(moment: u64, closed_ms: u64, values: u64) -> Column {
     let mut tally = Tally::new();
     tally.admitted = values;
     tally.values = values;
@@ -35,12 +35,12 @@ pub fn column(moment: u64, closed_ms: u64, values: u64) -> Column {
 }
 
 /// A name.
-pub fn name<R: Abort>(rt: &R, words: &str) -> Text<32> {
+pub(crate) fn name<R: Abort>(rt: &R, words: &str) -> Text<32> {
     Text::new(words).expect(rt, "a short name")
 }
 
 /// A lane of the command over columns of a second each, all of them alike.
-pub fn lane<R: Abort + AllocGlobal>(rt: &R, command: &str, count: u64, values: u64) -> Lane {
+pub(crate) fn lane<R: Abort + AllocGlobal>(rt: &R, command: &str, count: u64, values: u64) -> Lane {
     let mut columns = Vec::new(rt.alloc());
     for number in 0..count {
         let made = column(number.saturating_mul(1000), 1000, values);
@@ -55,7 +55,12 @@ pub fn lane<R: Abort + AllocGlobal>(rt: &R, command: &str, count: u64, values: u
 }
 
 /// A panel of the group with these lanes and a pool without use.
-pub fn panel<R: Abort + AllocGlobal>(rt: &R, group: &str, count: u64, lanes: Vec<Lane>) -> Panel {
+pub(crate) fn panel<R: Abort + AllocGlobal>(
+    rt: &R,
+    group: &str,
+    count: u64,
+    lanes: Vec<Lane>,
+) -> Panel {
     let mut pool = Vec::new(rt.alloc());
     for _ in 0..count {
         pool.push(no_usage()).expect(rt, "memory");
@@ -77,7 +82,7 @@ pub fn panel<R: Abort + AllocGlobal>(rt: &R, group: &str, count: u64, lanes: Vec
 }
 
 /// A chart of these panels over so many columns of a second.
-pub fn chart(count: u64, panels: Vec<Panel>) -> Chart {
+pub(crate) fn chart(count: u64, panels: Vec<Panel>) -> Chart {
     Chart {
         begin: 0,
         width: 1000,
@@ -90,12 +95,12 @@ pub fn chart(count: u64, panels: Vec<Panel>) -> Chart {
 }
 
 /// How often the part stands in the text.
-pub fn count_of(text: &str, part: &str) -> usize {
+pub(crate) fn count_of(text: &str, part: &str) -> usize {
     text.split(part).count().saturating_sub(1)
 }
 
 /// Asserts that each element of the picture ends, in the order in which XML wants it.
-pub fn assert_well_formed<R: Abort + AllocGlobal>(rt: &R, text: &str) {
+pub(crate) fn assert_well_formed<R: Abort + AllocGlobal>(rt: &R, text: &str) {
     let mut open: Vec<&str> = Vec::new(rt.alloc());
     for piece in text.split('<').skip(1) {
         let Some((tag, _words)) = piece.split_once('>') else {

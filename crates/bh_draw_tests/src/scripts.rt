@@ -2,14 +2,14 @@
 
 /// Two groups, one of them with a further command. A single failure opens the circuit of the first, and the second has one
 /// worker.
-pub const SETTINGS: &str = "service.groups = [\"a\", \"b\"]
+pub(crate) const SETTINGS: &str = "service.groups = [\"a\", \"b\"]
 service.command.refund.group = \"b\"
 hystrix.command.a.circuitBreaker.requestVolumeThreshold = 1
 hystrix.threadpool.b.coreSize = 1
 ";
 
 /// The first group fails, is short-circuited, and recovers with its test call.
-pub const FIRST: &str = r#"{"op":"submit","group":"a","now":0,"arg":"x"}
+pub(crate) const FIRST: &str = r#"{"op":"submit","group":"a","now":0,"arg":"x"}
 {"op":"start","group":"a","now":10}
 {"op":"fail","group":"a","now":30,"ticket":1,"bad":false}
 {"op":"collect","group":"a","now":40,"ticket":1}
@@ -27,7 +27,7 @@ pub const FIRST: &str = r#"{"op":"submit","group":"a","now":0,"arg":"x"}
 "#;
 
 /// In the second one run times out, one is rejected, and two share a third.
-pub const SECOND: &str = r#"{"op":"submit","group":"b","now":0,"arg":"x"}
+pub(crate) const SECOND: &str = r#"{"op":"submit","group":"b","now":0,"arg":"x"}
 {"op":"start","group":"b","now":0}
 {"op":"submit","group":"b","command":"refund","now":10,"arg":"x"}
 {"op":"collect","group":"b","now":20,"ticket":2}

@@ -4,7 +4,7 @@ use crate::driving::{assert_end, assert_text, service};
 use crate::samples::props;
 use crate::script::take_passes;
 use bh_audit::{Clock, Pass, Receipt, Shared};
-use bh_base::{Answer, Reply};
+use bh_base::{Answer, Moment, Reply};
 use bh_scripts::replies::reply_text;
 use bh_scripts::samples::text;
 use bh_scripts::steps::step_of;
@@ -15,14 +15,14 @@ use std::alloc::{AllocError, Global};
 use std::process::Abort;
 use std::sync::Wait;
 
-/// A clock that stands still.
+/// A clock that always says this moment.
 #[derive(Drop)]
-struct Still(u64);
+struct Stopped(Moment);
 
-impl Clock for Still {
+impl Clock for Stopped {
     ghost moments = { λ moment. Unit {0} };
 
-    fn now(&self) -> u64 {
+    fn now(&self) -> Moment {
         self.0
     }
 }
@@ -42,7 +42,7 @@ fn both_text<R: Wait>(
         return format!(in alloc; "no step");
     };
     let mut reply = Reply::Queued(99);
-    let clock = Still(number(now));
+    let clock = Stopped(number(now));
     let told = shared.step_and_collect_to(rt, pass, &step, number(serial), &clock, &mut reply);
     let reply = reply_text(alloc, &reply)?;
     match told {

@@ -225,7 +225,7 @@ pub(crate) fn assert_call<R: Wait + Abort + AllocGlobal, D: Dependency>(
 
 /// Always says 0.
 #[derive(Drop)]
-pub struct Still;
+pub(crate) struct Still;
 
 impl Clock for Still {
     ghost moments = { λ moment. moment ≡ 0 };
@@ -237,7 +237,7 @@ impl Clock for Still {
 
 /// Goes on as long as it is asked, and lets other threads run.
 #[derive(Drop)]
-pub struct Steady;
+pub(crate) struct Steady;
 
 impl Pace for Steady {
     fn go_on(&mut self) -> bool {
@@ -256,7 +256,7 @@ pub(crate) fn success(arg: &Text<64>) -> RunEnd {
 
 /// Answers each run with its argument.
 #[derive(Drop)]
-pub struct Echo;
+pub(crate) struct Echo;
 
 impl Dependency for Echo {
     ghost ends = { λ group command arg end. Unit {0} };
