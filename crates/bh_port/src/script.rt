@@ -1,11 +1,12 @@
 //! A script: each line of a reader is answered by a line to a writer, as the lines come.
 
-ghost use Rattle.std.specs.Prelude.{◌≡◌, ◌≤◌, ◌+◌, ◌^◌, ◌⊎◌, Err, IfErr, IfOk, IfSome};
+ghost use Rattle.std.specs.Prelude.{◌≡◌, ◌≤◌, ◌+◌, ◌^◌, ◌⊎◌, [], Err, IfErr, IfOk, IfSome};
 ghost use Rattle.bh_props.specs.Shown.{settings_view};
 ghost use Rattle.bh_port.specs.Course.{new_course, opened_core, step_limit};
 ghost use Rattle.bh_lines.specs.Lines.{cut};
 ghost use Rattle.bh_streams.specs.Watched.{reader_of, reads_of, bytes_left, HasRead, OneFailed, NoneFailed, writer_of, bytes_held, OneRefused, NoneRefused};
-ghost use Rattle.bh_port.specs.Script.{ScriptHasAnswered, ScriptOutcome};
+ghost use Rattle.bh_port.specs.CommandPlaces.{AreCommandPlaces};
+ghost use Rattle.bh_port.specs.Script.{GroupsShow, ScriptHasAnswered, ScriptOutcome};
 
 use crate::act::LineAct;
 use crate::groups::Groups;
@@ -63,26 +64,56 @@ pub fn script<R: Read, W: Write>(
     ensures text { IfSome (bytes_left R.remaining reader.old) (λ input.
         ScriptOutcome (bytes_held W.contents writer.old) (bytes_held W.contents writer.new) (settings_view settings.now) (new_course (settings_view settings.now)) (cut input) result) }
 {
-    let groups = Groups::open(alloc, settings)?;
-    let places = CommandPlaces::of(alloc, settings)?;
-    let mut run = Run {
-        alloc,
-        groups,
-        act: LineAct::Retire(GroupId(0)),
-        reply: Reply::NoGroup,
-        out: Vec::new(alloc),
-        line: Vec::new(alloc),
-        scratch: Scratch::new(alloc),
-    };
-    let mut buffer = BytesMut::new(alloc);
+    let mut opened = OpenScript::begin(alloc, settings)?;
     let mut piece = [0u8; READ_SIZE];
     for _ in 0..MOST_READS {
-        run.write_answers(settings, &places, &mut buffer, writer)?;
-        if !fill(reader, &mut piece, &mut buffer)? {
-            return run.write_last(settings, &places, &mut buffer, writer);
+        let OpenScript {
+            run,
+            places,
+            buffer,
+        } = &mut opened;
+        run.write_answers(settings, places, buffer, writer)?;
+        if !fill(reader, &mut piece, buffer)? {
+            return run.write_last(settings, places, buffer, writer);
         }
     }
     Err(PortError::Read)
+}
+
+/// A script that is being answered.
+#[derive(Drop)]
+struct OpenScript {
+    run: Run,
+    places: CommandPlaces,
+    /// What was read, and is not answered yet.
+    buffer: BytesMut,
+}
+
+impl OpenScript {
+    /// The groups are those of the settings, all new, and nothing was read yet. It fails only for want of memory, as `Memory`.
+    fn begin(alloc: Global, settings: &Settings) -> Result<OpenScript, PortError>
+        ensures agrees { IfOk result (λ opened. GroupsShow (settings_view settings.now) opened.run.groups (new_course (settings_view settings.now))) }
+        ensures places { IfOk result (λ opened. AreCommandPlaces (settings_view settings.now).commands opened.places) }
+        ensures empty { IfOk result (λ opened. opened.buffer.items ≡ []) }
+        ensures err { IfErr result (λ e. e ≡ PortError.Memory) }
+    {
+        let groups = Groups::open(alloc, settings)?;
+        let places = CommandPlaces::of(alloc, settings)?;
+        let run = Run {
+            alloc,
+            groups,
+            act: LineAct::Retire(GroupId(0)),
+            reply: Reply::NoGroup,
+            out: Vec::new(alloc),
+            line: Vec::new(alloc),
+            scratch: Scratch::new(alloc),
+        };
+        Ok(OpenScript {
+            run,
+            places,
+            buffer: BytesMut::new(alloc),
+        })
+    }
 }
 
 /// The groups of the settings, all new, each with its own properties and the steps that it may do.

@@ -1,19 +1,12 @@
-use Rattle.std.proofs.Common.{rules, arith, refl, ap, ◌∙◌, Result, Ok, IfErr, ◌≡◌, inr, Err, subst, sym}
+use Rattle.std.proofs.Common.{rules, arith, refl, ap, ◌∙◌, Result, Ok, IfErr, ◌≡◌, inr, Err}
 use Rattle.std.proofs.lemmas.Result.{err_from_is_err_and}
 use Rattle.bh_lines.specs.declared.port_error.PortError.TheVariants.{Read, Write, Line, Memory}
 use Rattle.bh_lines.specs.declared.port_error.PortError.{PortError}
 use Rattle.bh_lines.proofs.PortErrors.{unless-ok}
 use Rattle.bh_streams.specs.Watched.{bytes_left, bytes_held}
-use Rattle.bh_port.specs.Script.{IsMemoryOrRead, IsNotRead}
+use Rattle.bh_port.specs.Script.{IsNotRead}
 use Rattle.bh_port.proofs.Running.{progress-start, progress-lines, progress-read, progress-stops, progress-ends, progress-front, progress-failed}
 use Rattle.bh_port.proofs.script.script.Goals as goal
-
-pub returns-in_err-places-clause-text : goal.returns-in_err-places-clause-text
-returns-in_err-places-clause-text g c =
-    let p = err_from_is_err_and c.from_residual-in_err-places.result c.from_residual-in_err-places.ensures.1 in
-    let start = progress-start (bytes_left g.R.Read.remaining c.args.reader.now) (bytes_held g.W.Write.contents c.args.writer.now) _ _ c.in_ok-groups.ensures.agrees in
-    let kind : IsMemoryOrRead c.in_err-places.field-0.0 = subst IsMemoryOrRead (sym c.in_err-places.ensures.err) tt in
-    rw (p.1, p.2) (progress-front _ _ _ _ _ _ _ _ start kind)
 
 pub returns-in_err-write_answers-clause-text : goal.returns-in_err-write_answers-clause-text
 returns-in_err-write_answers-clause-text g c =
@@ -45,6 +38,7 @@ loop-preserved g c =
       none_failed = unless-ok _ _ c.in_ok-fill.ensures.not_failed ∙ c.loop.invariant.none_failed;
       none_refused = unless-ok _ _ c.in_ok-write_answers.ensures.not_refused ∙ c.loop.invariant.none_refused;
       piece = omega (arith, c.fill.auto.piece);
+      places = c.loop.invariant.places;
       progress = progress-read _ _ _ _ _ _ _ _ _ _ now piece.1 piece.2;
     }
 
@@ -98,5 +92,6 @@ loop-init g c = record {
   none_failed = refl;
   none_refused = refl;
   piece = search rules;
-  progress = rw c.new-buffer.ensures.items (progress-start (bytes_left g.R.Read.remaining c.args.reader.now) (bytes_held g.W.Write.contents c.args.writer.now) _ _ c.in_ok-groups.ensures.agrees);
+  places = c.in_ok-opened.ensures.places;
+  progress = rw c.in_ok-opened.ensures.empty (progress-start (bytes_left g.R.Read.remaining c.args.reader.now) (bytes_held g.W.Write.contents c.args.writer.now) _ _ c.in_ok-opened.ensures.agrees);
 }

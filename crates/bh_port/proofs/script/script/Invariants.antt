@@ -1,6 +1,7 @@
 use Rattle.std.proofs.Common.{◌+◌, ◌≤◌, length, ◌≡◌}
 use Rattle.bh_props.specs.Shown.{settings_view}
 use Rattle.bh_streams.specs.Watched.{saturating_count, reader_of, reads_of, bytes_left, NoneFailed, writer_of, bytes_held, NoneRefused}
+use Rattle.bh_port.specs.CommandPlaces.{AreCommandPlaces}
 use Rattle.bh_port.proofs.Running.{Progress}
 use Rattle.bh_port.proofs.script.script.Given as goal
 
@@ -13,6 +14,7 @@ invariant-loop g l = record {
   none_failed : NoneFailed l.fn.reader l.reader;
   none_refused : NoneRefused l.fn.writer l.writer;
   piece : length l.piece ≡ 65536;
+  places : AreCommandPlaces (settings_view l.settings).commands l.opened.places;
   progress : Progress (bytes_left g.R.Read.remaining l.fn.reader) (bytes_left g.R.Read.remaining l.reader)
-      (bytes_held g.W.Write.contents l.fn.writer) (bytes_held g.W.Write.contents l.writer) (settings_view l.settings) l.run.groups l.buffer.items;
+      (bytes_held g.W.Write.contents l.fn.writer) (bytes_held g.W.Write.contents l.writer) (settings_view l.settings) l.opened.run.groups l.opened.buffer.items;
 }
