@@ -74,15 +74,8 @@ pub(crate) fn draw_band(
     columns: &[Column],
     top: u64,
 ) -> Result<(), AllocError> {
-    let mut band = Band::new(alloc, top);
-    for (number, column) in columns.iter().enumerate() {
-        band.add_column(axis, number, column)?;
-    }
-    band.end_run()?;
-    canvas.put_path("closed", CLOSED, &band.closed)?;
-    canvas.put_path("open", BAND, &band.open)?;
-    canvas.put_path("half", BAND, &band.half_open)?;
-    canvas.put(band.names.as_str())?;
+    let band = Band::of(alloc, axis, columns, top)?;
+    band.draw(canvas)?;
     draw_trips(alloc, canvas, axis, columns, top)
 }
 
@@ -106,6 +99,24 @@ struct Run {
 }
 
 impl Band {
+    /// The band of the columns below that height.
+    fn of(alloc: Global, axis: Axis, columns: &[Column], top: u64) -> Result<Band, AllocError> {
+        let mut band = Band::new(alloc, top);
+        for (number, column) in columns.iter().enumerate() {
+            band.add_column(axis, number, column)?;
+        }
+        band.end_run()?;
+        Ok(band)
+    }
+
+    /// Draws its paths, and the names over them.
+    fn draw(&self, canvas: &mut Canvas) -> Result<(), AllocError> {
+        canvas.put_path("closed", CLOSED, &self.closed)?;
+        canvas.put_path("open", BAND, &self.open)?;
+        canvas.put_path("half", BAND, &self.half_open)?;
+        canvas.put(self.names.as_str())
+    }
+
     /// A band without a state.
     fn new(alloc: Global, top: u64) -> Band {
         Band {

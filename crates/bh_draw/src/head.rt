@@ -331,12 +331,7 @@ fn draw_never_open(
 ) -> Result<u64, AllocError> {
     let closed = commands(alloc, of, false)?;
     let mut flow = Flow::new(alloc, "", LETTER, y);
-    for (place, ranked) in closed.iter().take(MOST_NAMED).enumerate() {
-        let before = if place == 0 { "Never open: " } else { "" };
-        let is_last = place.saturating_add(1) == closed.len();
-        let words = closed_words(alloc, before, of, *ranked, is_last)?;
-        flow.add(alloc, canvas, words.as_str())?;
-    }
+    name_closed(alloc, canvas, of, closed.as_slice(), &mut flow)?;
     let more = closed.len().saturating_sub(MOST_NAMED);
     if more > 0 {
         let words = more_words(alloc, "and ", more, " more")?;
@@ -344,6 +339,23 @@ fn draw_never_open(
     }
     flow.end(alloc, canvas)?;
     Ok(flow.y)
+}
+
+/// Adds the first names of these commands to the flow.
+fn name_closed(
+    alloc: Global,
+    canvas: &mut Canvas,
+    of: HeadOf<'_>,
+    closed: &[Ranked],
+    flow: &mut Flow,
+) -> Result<(), AllocError> {
+    for (place, ranked) in closed.iter().take(MOST_NAMED).enumerate() {
+        let before = if place == 0 { "Never open: " } else { "" };
+        let is_last = place.saturating_add(1) == closed.len();
+        let words = closed_words(alloc, before, of, *ranked, is_last)?;
+        flow.add(alloc, canvas, words.as_str())?;
+    }
+    Ok(())
 }
 
 /// The name of a command that never opened, how many of its requests had no value, and a comma unless it is the last.
@@ -359,14 +371,19 @@ fn closed_words(
         return Ok(words);
     };
     words.put(before)?;
-    put_name(&mut words, panel, lane)?;
+    put_closed(&mut words, panel, lane)?;
+    words.put(if is_last { "" } else { "," })?;
+    Ok(words)
+}
+
+/// Adds the name of a command, and how many of its requests had no value.
+fn put_closed(words: &mut Canvas, panel: &Panel, lane: &Lane) -> Result<(), AllocError> {
+    put_name(words, panel, lane)?;
     words.put(" (")?;
     words.put_grouped(without_value(lane))?;
     words.put(" of ")?;
     words.put_grouped(lane.total.tally.requests())?;
-    words.put(" without a value)")?;
-    words.put(if is_last { "" } else { "," })?;
-    Ok(words)
+    words.put(" without a value)")
 }
 
 /// Says how many commands are not drawn, and of how many groups nothing is kept.

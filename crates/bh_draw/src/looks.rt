@@ -144,19 +144,28 @@ const SHAPES: &str =
 
 /// Adds the style sheet, and the patterns. Nothing in it is a variable, which some readers of SVG do not know.
 pub(crate) fn put_looks(canvas: &mut Canvas) -> Result<(), AllocError> {
+    let looks: &[Look] = &LOOKS;
     canvas.put("<style>")?;
+    put_light(canvas, looks)?;
+    put_dark(canvas, looks)?;
+    canvas.put("</style>\n")?;
+    put_patterns(canvas, looks)
+}
+
+/// Adds what is the same on both grounds, and the light one.
+fn put_light(canvas: &mut Canvas, looks: &[Look]) -> Result<(), AllocError> {
     canvas.put(SHAPES)?;
     put_ground(canvas, &LIGHT)?;
-    put_colours(canvas, 0)?;
-    put_patterned(canvas)?;
+    put_colours(canvas, looks, 0)?;
+    put_patterned(canvas, looks)
+}
+
+/// Adds the dark ground, for readers that want it.
+fn put_dark(canvas: &mut Canvas, looks: &[Look]) -> Result<(), AllocError> {
     canvas.put("@media(prefers-color-scheme:dark){")?;
     put_ground(canvas, &DARK)?;
-    put_colours(canvas, 1)?;
-    canvas.put("}</style>\n<defs>")?;
-    for look in LOOKS.iter() {
-        put_pattern(canvas, look)?;
-    }
-    canvas.put("</defs>\n")
+    put_colours(canvas, looks, 1)?;
+    canvas.put("}")
 }
 
 /// Adds what a ground gives to what is not a kind.
@@ -172,8 +181,8 @@ fn put_ground(canvas: &mut Canvas, ground: &Ground) -> Result<(), AllocError> {
 }
 
 /// Adds the colours of all kinds on the light ground, 0, or the dark one, 1.
-fn put_colours(canvas: &mut Canvas, ground: usize) -> Result<(), AllocError> {
-    for look in LOOKS.iter() {
+fn put_colours(canvas: &mut Canvas, looks: &[Look], ground: usize) -> Result<(), AllocError> {
+    for look in looks.iter() {
         let colour = look.colours.get(ground).copied().unwrap_or("");
         put_colour(canvas, look, colour)?;
     }
@@ -193,8 +202,8 @@ fn put_colour(canvas: &mut Canvas, look: &Look, colour: &str) -> Result<(), Allo
 }
 
 /// Adds that strokes of kinds with lines are filled with their patterns.
-fn put_patterned(canvas: &mut Canvas) -> Result<(), AllocError> {
-    for look in LOOKS.iter() {
+fn put_patterned(canvas: &mut Canvas, looks: &[Look]) -> Result<(), AllocError> {
+    for look in looks.iter() {
         put_stroke(canvas, look)?;
     }
     Ok(())
@@ -225,6 +234,15 @@ fn put_rule(
     canvas.put(":")?;
     canvas.put(value)?;
     canvas.put("}")
+}
+
+/// Adds the patterns of all kinds that have one.
+fn put_patterns(canvas: &mut Canvas, looks: &[Look]) -> Result<(), AllocError> {
+    canvas.put("<defs>")?;
+    for look in looks.iter() {
+        put_pattern(canvas, look)?;
+    }
+    canvas.put("</defs>\n")
 }
 
 /// Adds the pattern of a kind, if it has one: its ground and its lines.

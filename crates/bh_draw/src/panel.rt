@@ -38,24 +38,9 @@ pub(crate) fn draw_panel(
     canvas: &mut Canvas,
     at: PanelAt<'_>,
 ) -> Result<u64, AllocError> {
-    let mut inner = Inner {
-        canvas: Canvas::new(alloc),
-        grid: Path::new(alloc),
-        bottom: at.top,
-        grid_top: None,
-    };
-    for (number, lane) in at.panel.lanes.iter().enumerate() {
-        if at.drawn.has(at.place, number) {
-            inner.add_lane(alloc, at, number, lane)?;
-        }
-    }
-    inner.add_pool(alloc, at)?;
+    let inner = Inner::of(alloc, at)?;
     draw_ground(canvas, at.top, inner.bottom)?;
-    canvas.put_path("grid", PIXEL, &inner.grid)?;
-    canvas.put(inner.canvas.as_str())?;
-    if let Some(top) = inner.grid_top {
-        draw_lives(alloc, canvas, at, top, inner.bottom)?;
-    }
+    inner.draw(alloc, canvas, at)?;
     Ok(inner.bottom.saturating_add(GAP))
 }
 
@@ -79,6 +64,33 @@ struct Inner {
 }
 
 impl Inner {
+    /// What stands in the panel: the lanes of the commands that are drawn, and the pool.
+    fn of(alloc: Global, at: PanelAt<'_>) -> Result<Inner, AllocError> {
+        let mut inner = Inner {
+            canvas: Canvas::new(alloc),
+            grid: Path::new(alloc),
+            bottom: at.top,
+            grid_top: None,
+        };
+        for (number, lane) in at.panel.lanes.iter().enumerate() {
+            if at.drawn.has(at.place, number) {
+                inner.add_lane(alloc, at, number, lane)?;
+            }
+        }
+        inner.add_pool(alloc, at)?;
+        Ok(inner)
+    }
+
+    /// Draws the grid, what stands over it, and the lives of the group over both.
+    fn draw(&self, alloc: Global, canvas: &mut Canvas, at: PanelAt<'_>) -> Result<(), AllocError> {
+        canvas.put_path("grid", PIXEL, &self.grid)?;
+        canvas.put(self.canvas.as_str())?;
+        match self.grid_top {
+            Some(top) => draw_lives(alloc, canvas, at, top, self.bottom),
+            None => Ok(()),
+        }
+    }
+
     /// Adds the lane of a command, and below it its permits, if it has them.
     fn add_lane(
         &mut self,

@@ -213,16 +213,26 @@ fn framed(alloc: Global, title: &str, body: &str, height: u64) -> Result<Canvas,
     ensures { IfOk result (EndsIn (codes "</svg>\n")) }
 {
     let mut canvas = Canvas::new(alloc);
+    open_frame(&mut canvas, title, height)?;
+    put_looks(&mut canvas)?;
+    draw_page(&mut canvas, height)?;
+    canvas.put(body)?;
+    canvas.put("</svg>\n")?;
+    Ok(canvas)
+}
+
+/// Opens the SVG, and gives it its title.
+fn open_frame(canvas: &mut Canvas, title: &str, height: u64) -> Result<(), AllocError> {
     canvas.put("<svg xmlns=\"http://www.w3.org/2000/svg\" viewBox=\"0 0 1000 ")?;
     canvas.put_tenths(height)?;
     canvas.put("\" role=\"img\"><title>")?;
     canvas.put_escaped(title)?;
-    canvas.put("</title>")?;
-    put_looks(&mut canvas)?;
+    canvas.put("</title>")
+}
+
+/// Draws the ground of the page.
+fn draw_page(canvas: &mut Canvas, height: u64) -> Result<(), AllocError> {
     canvas.put("<rect class=\"page\" width=\"1000\" height=\"")?;
     canvas.put_tenths(height)?;
-    canvas.put("\"/>\n")?;
-    canvas.put(body)?;
-    canvas.put("</svg>\n")?;
-    Ok(canvas)
+    canvas.put("\"/>\n")
 }
