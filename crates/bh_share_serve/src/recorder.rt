@@ -37,26 +37,31 @@ impl<R: Wait + Clock> Recorder<'_, R> {
     ///
     /// Where the record ends before, a text says why, and the log of the service takes no more steps. A record that does not
     /// ends with a line that says so.
-    pub fn write_to<W: Write>(&self, log: StepLog, writer: &mut W) {
-        if let Err(end) = self.write_all(log, writer) {
+    pub fn write_to<W: Write>(&self, mut log: StepLog, writer: &mut W) {
+        let mut out = Vec::new(self.alloc);
+        if let Err(end) = self.write_all(&mut log, &mut out, writer) {
             self.reports.put(self.rt, Report::Record(end));
         }
         self.shared.end_record(self.rt);
     }
 
-    /// Writes all steps and the end.
-    fn write_all<W: Write>(&self, mut log: StepLog, writer: &mut W) -> Result<(), RecordEnd> {
-        let mut out = Vec::new(self.alloc);
+    /// Writes all steps and the end, by way of an empty buffer.
+    fn write_all<W: Write>(
+        &self,
+        log: &mut StepLog,
+        out: &mut Vec<u8>,
+        writer: &mut W,
+    ) -> Result<(), RecordEnd> {
         let mut latest = 0;
         for _ in self.rt.forever() {
             let ended = self.shared.has_ended(self.rt);
-            self.shared.swap_log(self.rt, &mut log);
+            self.shared.swap_log(self.rt, log);
             if let Some(step) = log.as_slice().last() {
                 latest = step.now;
             } else if !ended {
                 thread::sleep(self.rt, Duration::from_millis(PAUSE));
             }
-            self.write_steps(&log, &mut out, writer)?;
+            self.write_steps(log, out, writer)?;
             if log.has_lost() {
                 return Err(RecordEnd::Full);
             }
@@ -65,8 +70,8 @@ impl<R: Wait + Clock> Recorder<'_, R> {
             }
             log.clear();
         }
-        put_end(self.alloc, self.names, &mut out, latest)?;
-        write_out(&mut out, writer)
+        put_end(self.alloc, self.names, out, latest)?;
+        write_out(out, writer)
     }
 
     /// Writes the steps of the log, or those before the first whose line could not be put. Nothing is held then.

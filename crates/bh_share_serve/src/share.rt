@@ -102,23 +102,8 @@ fn share<
     reports: &'x Reports,
 ) -> Result<Ending, AllocError> {
     let names = Names::of(alloc, settings)?;
-    let Ok(core) = open(alloc, settings) else {
-        return Err(AllocError);
-    };
-    let Ok(book) = Book::new(alloc, core, None) else {
-        return Err(AllocError);
-    };
-    let (log, record) = match record {
-        Some(writer) => {
-            let spare = StepLog::new(alloc, MOST_STEPS)?;
-            (
-                Some(StepLog::new(alloc, MOST_STEPS)?),
-                Some((spare, writer)),
-            )
-        }
-        None => (None, None),
-    };
-    let shared = SharedGroups::new(alloc, book, acceptor.threads(), log)?;
+    let (log, record) = logs(alloc, record)?;
+    let shared = shared_groups(alloc, settings, acceptor.threads(), log)?;
     let clock = MachineClock::start(rt);
     let server = Server {
         rt,
@@ -137,4 +122,33 @@ fn share<
         },
     };
     Ok(server.run(record, output))
+}
+
+/// The log of a service that is recorded, and with the record's writer a further one, which that log is swapped for.
+type Logs<W> = (Option<StepLog>, Option<(StepLog, W)>);
+
+/// The logs, both empty, where there is a record.
+fn logs<W: Drop>(alloc: Global, record: Option<W>) -> Result<Logs<W>, AllocError> {
+    let Some(writer) = record else {
+        return Ok((None, None));
+    };
+    let log = StepLog::new(alloc, MOST_STEPS)?;
+    let spare = StepLog::new(alloc, MOST_STEPS)?;
+    Ok((Some(log), Some((spare, writer))))
+}
+
+/// The groups of the settings, all new, for so many connections. They are not audited.
+fn shared_groups(
+    alloc: Global,
+    settings: &Settings,
+    connections: u32,
+    log: Option<StepLog>,
+) -> Result<SharedGroups, AllocError> {
+    let Ok(core) = open(alloc, settings) else {
+        return Err(AllocError);
+    };
+    let Ok(book) = Book::new(alloc, core, None) else {
+        return Err(AllocError);
+    };
+    SharedGroups::new(alloc, book, connections, log)
 }
