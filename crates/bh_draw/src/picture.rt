@@ -8,7 +8,7 @@ use crate::canvas::{Canvas, PIXEL};
 use crate::head::{Course, HeadOf, draw_head, put_title};
 use crate::legend::draw_legend;
 use crate::lives::is_marked;
-use crate::looks::put_looks;
+use crate::looks::LOOKS;
 use crate::order::{Drawn, Ranked, ranking};
 use crate::panel::{PanelAt, draw_panel};
 use bh_base::GroupProps;
@@ -228,6 +228,14 @@ fn open_frame(canvas: &mut Canvas, title: &str, height: u64) -> Result<(), Alloc
     canvas.put("\" role=\"img\"><title>")?;
     canvas.put_escaped(title)?;
     canvas.put("</title>")
+}
+
+/// Adds the style sheet, and the patterns.
+fn put_looks(canvas: &mut Canvas) -> Result<(), AllocError> {
+    for part in LOOKS {
+        canvas.put(part)?;
+    }
+    Ok(())
 }
 
 /// Draws the ground of the page.
