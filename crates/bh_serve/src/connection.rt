@@ -10,7 +10,7 @@ use crate::acceptor::Acceptor;
 use crate::idle_clock::IdleClock;
 use bh_lines::PortError;
 use std::io::{ErrorKind, Read, Write};
-use std::net::TcpStream;
+use std::net::{Shutdown, TcpStream};
 use std::rt::Clock;
 use std::sync::Wait;
 use std::time::{Duration, Instant};
@@ -24,8 +24,12 @@ const SOON: u64 = 1;
 /// microseconds in all, in which a client that waits for each answer has sent its next line.
 const LONE_LOOKS: u32 = 50;
 
-/// How often a service that was told to stop looks whether its client had sent more, a millisecond apart.
+/// How often a service that was told to stop, or that ends a connection, looks whether its client had sent more, a
+/// millisecond apart.
 const LAST_LOOKS: u32 = 20;
+
+/// How many reads of what a client still sends are passed over at most, where the service ends its connection.
+const MOST_PASSED_OVER: u32 = 1000;
 
 /// Why a connection ended before its client ended it.
 #[derive(Clone, Copy, Debug, PartialEq, Eq, Error)]
@@ -300,6 +304,28 @@ fn micros(time: Duration) -> u64 {
 /// Whether nothing had come.
 fn has_none(outcome: &io::Result<usize>) -> bool {
     matches!(outcome, Err(error) if error.kind() == ErrorKind::WouldBlock)
+}
+
+/// Ends what is sent to a client, and passes over what it still sends, until a fiftieth of a second nothing has come, for a
+/// second or so at most. A connection that is closed while something of it is not read is reset, and answers are lost that
+/// are on their way.
+pub(crate) fn part_from<R: Clock>(rt: &R, stream: &TcpStream) {
+    if stream.shutdown(Shutdown::Write).is_err() {
+        return;
+    }
+    let mut ignored = [0u8; 4096];
+    let mut looks = 0u32;
+    for _ in 0..MOST_PASSED_OVER {
+        match look(stream, 1, &mut ignored) {
+            Ok(0) => return,
+            Ok(_) => looks = 0,
+            Err(error) if error.kind() == ErrorKind::WouldBlock && looks < LAST_LOOKS => {
+                looks = looks.saturating_add(1);
+                thread::sleep(rt, Duration::from_millis(1));
+            }
+            Err(_) => return,
+        }
+    }
 }
 
 /// Looks so many times, and once at least, whether something has come, and reads it, without a sleep.

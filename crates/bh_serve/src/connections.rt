@@ -4,7 +4,7 @@ ghost use Rattle.std.specs.Prelude.{◌≡◌, ◌⊎◌, IfErr};
 ghost use Rattle.bh_serve.specs.declared.serve.ServeError.TheVariants as errors;
 
 use crate::acceptor::Acceptor;
-use crate::connection::ConnectionFault;
+use crate::connection::{ConnectionFault, part_from};
 use crate::door::Door;
 use crate::ending::{Due, Ending};
 use crate::report::Report;
@@ -117,6 +117,9 @@ impl<'e, R: Wait + Clock, L: OpenListener<Stream = TcpStream>> Connections<'e, R
             Err(_) => return Err(ConnectionFault::Port(PortError::Memory)),
         }
         let served = answering.answer_lines(number, &stream);
+        if matches!(served, Err(fault) if leaves_unread(fault)) {
+            part_from(self.rt, &stream);
+        }
         self.acceptor.leave(self.rt, number);
         served
     }
@@ -149,4 +152,12 @@ impl<'e, R: Threads + Wait + Clock + Sync, L: OpenListener<Stream = TcpStream> +
         }
         Ok(())
     }
+}
+
+/// Whether a conversation that ends so may leave something unread that its client sent.
+fn leaves_unread(fault: ConnectionFault) -> bool {
+    matches!(
+        fault,
+        ConnectionFault::Port(PortError::Line | PortError::Memory)
+    )
 }

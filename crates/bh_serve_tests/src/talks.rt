@@ -39,6 +39,9 @@ service.groups = ["g0", "g1", "g2", "g3", "g4", "g5", "g6", "g7"]
 hystrix.command.default.execution.timeout.enabled = false
 "#;
 
+/// What the service of three groups answers where it is asked for all.
+const ALL_GROUPS: &str = "{\"groups\":[\"a\",\"b\",\"timed\"],\"reply\":\"groups\"}\n";
+
 /// How many connections call at once.
 const CONNECTIONS: usize = 64;
 
@@ -305,13 +308,15 @@ fn say_half<R: Net<Listener = TcpListener, Stream = TcpStream> + Abort + AllocGl
     assert_heard(rt, &half, "", "half a line");
 }
 
-/// A connection that says a line which is too long.
+/// A connection that asks something, and says a line which is too long, with more behind it, before it reads the answer.
 fn say_long<R: Net<Listener = TcpListener, Stream = TcpStream> + Abort + AllocGlobal>(
     rt: &R,
     addr: SocketAddr,
 ) {
     let long = connect(rt, addr);
-    say(rt, &long, &[b'x'; 2000]);
+    say(rt, &long, b"{\"op\":\"groups\"}\n");
+    say(rt, &long, &[b'x'; 20_000]);
+    assert_heard(rt, &long, ALL_GROUPS, "before a long line");
     assert_heard(rt, &long, "", "a long line");
 }
 
