@@ -200,6 +200,7 @@ with socket.socket(socket.AF_UNIX) as connection:
     connection.shutdown(socket.SHUT_WR)
     sys.stdout.writelines(connection.makefile())' <asked)
 agree "the answers of share" "$answered" "$(cat wanted)"
+tells 3 "fault: socket: a service listens at s" "" "${share[@]}" s --record record
 exec {hold}>&-
 status=0
 wait "$busy" || status=$?
@@ -210,6 +211,32 @@ agree "the socket of share at its end" "$(ls s 2>&1 >/dev/null | wc -l)" 1
 "$program" run settings.toml <record >replies
 agree "the answers to a record" "$(paste record replies | grep -v '"op":"\(expire\|read\)"' | cut -f 2)" "$(cat wanted)"
 agree "the last line of a record" "$(tail -n 1 record | grep -c '"end":true')" 1
+
+cp record before
+echo wrong >wrong.toml
+tells 1 "settings refused: 1 syntax" "explain: line 1, column 6: key with no value, expected \`=\`" share wrong.toml --socket s --record record
+agree "a record behind a start that was refused" "$(cat record)" "$(cat before)"
+
+# What came in the stead of a service's socket stays at its end.
+mkfifo again
+"$program" "${share[@]}" s <again >again.out &
+busy=$!
+exec {hold}>again
+until [ -s again.out ]; do sleep 0.02; done
+rm s
+echo another >s
+exec {hold}>&-
+wait "$busy" || true
+busy=
+agree "what came in the stead of a socket" "$(cat s)" another
+
+# Help and the version, where they can't be printed.
+for word in --help --version; do
+    status=0
+    "$program" "$word" >/dev/full 2>full.err || status=$?
+    agree "the status of $word on a full device" "$status" 3
+    agree "the errors of $word on a full device" "$(cat full.err)" "fault: write"
+done
 
 # Commands and options, one a line: of --help, of the program and of each command, and of the man page.
 options() {

@@ -9,9 +9,10 @@ use crate::served::{serve_path, share_path};
 use crate::settings_file::{check_path, cut_path, draw_path, lint_path, run_path, summary_path};
 use bh_commands::report;
 use bh_props::SettingsError;
+use clap::Error;
 use clap::error::ErrorKind;
 use std::alloc::AllocError;
-use std::fs::Files;
+use std::fs::{File, Files};
 use std::io;
 use std::io::Write;
 use std::net::{Net, TcpListener, TcpStream};
@@ -28,7 +29,7 @@ pub(crate) const BAD_ARGUMENTS: u8 = 2;
 pub fn run_program<R>(rt: &HostRuntime, handles: &R, arguments: io::Result<Vec<String>>) -> u8
 where
     R: Net<Listener = TcpListener, Stream = TcpStream>
-        + Files
+        + Files<File = File>
         + Threads
         + Wait
         + Clock
@@ -53,7 +54,7 @@ where
 /// connections starts threads and waits, by `handles`; all else is asked of `rt`.
 ///
 /// - 0: it was done, or help or the version was asked for and printed.
-/// - 1 and 3: as the command of `bh_commands` has them.
+/// - 1 and 3: as the command of `bh_commands` has them, and 3 where help or the version could not be printed.
 /// - 2: the arguments are refused, and a text on standard error says why.
 ///
 /// It fails where memory is refused for the arguments.
@@ -64,7 +65,7 @@ pub fn run_arguments<R>(
 ) -> Result<u8, AllocError>
 where
     R: Net<Listener = TcpListener, Stream = TcpStream>
-        + Files
+        + Files<File = File>
         + Threads
         + Wait
         + Clock
@@ -78,10 +79,7 @@ where
     let matches = match parse(rt.alloc(), arguments) {
         Ok(matches) => matches,
         Err(error) if error.kind() == ErrorKind::OutOfMemory => return Err(AllocError),
-        Err(error) => {
-            let _ = error.print(rt);
-            return Ok(error.exit_code() as u8);
-        }
+        Err(error) => return Ok(answer_unparsed(rt, &error)),
     };
     match invocation_in(&matches) {
         Some(invocation) => Ok(run_invocation(rt, handles, invocation)),
@@ -89,11 +87,21 @@ where
     }
 }
 
+/// Prints the help, the version, or why the arguments are refused, and answers the exit status.
+fn answer_unparsed(rt: &HostRuntime, error: &Error) -> u8
+    ensures { (result ≡ 0) ⊎ ((result ≡ 2) ⊎ (result ≡ 3)) }
+{
+    match error.print(rt) {
+        Err(_) if !error.use_stderr() => report::output(&mut rt.stderr()),
+        _ => error.exit_code() as u8,
+    }
+}
+
 /// Does what was asked for, and answers the exit status.
 fn run_invocation<R>(rt: &HostRuntime, handles: &R, invocation: Invocation<'_>) -> u8
 where
     R: Net<Listener = TcpListener, Stream = TcpStream>
-        + Files
+        + Files<File = File>
         + Threads
         + Wait
         + Clock

@@ -2,12 +2,10 @@
 
 ghost use Rattle.std.specs.Prelude.{◌≡◌, ◌⊎◌};
 
-use crate::invocation::{ServeArguments, SettingsFile, ShareArguments};
+use crate::invocation::{ServeArguments, ShareArguments};
 use crate::settings_file::{read_path, refuse_file};
-use bh_commands::{Service, explain, report, serve_file};
+use bh_commands::{Service, serve_file};
 use std::fs::{File, Files};
-use std::io;
-use std::io::Write;
 use std::net::{Net, TcpListener, TcpStream};
 use std::rt::Clock;
 use std::sync::Wait;
@@ -17,7 +15,7 @@ use std::thread::Threads;
 pub(crate) fn serve_path<R>(rt: &HostRuntime, handles: &R, arguments: ServeArguments<'_>) -> u8
 where
     R: Net<Listener = TcpListener, Stream = TcpStream>
-        + Files
+        + Files<File = File>
         + Threads
         + Wait
         + Clock
@@ -35,7 +33,7 @@ where
 pub(crate) fn share_path<R>(rt: &HostRuntime, handles: &R, arguments: ShareArguments<'_>) -> u8
 where
     R: Net<Listener = TcpListener, Stream = TcpStream>
-        + Files
+        + Files<File = File>
         + Threads
         + Wait
         + Clock
@@ -46,15 +44,11 @@ where
         + 'static,
     ensures { (result ≡ 0) ⊎ ((result ≡ 1) ⊎ (result ≡ 3)) }
 {
-    let (service, sharing) = (arguments.service, arguments.sharing);
-    let record = match arguments.record {
-        Some(path) => match File::create(rt, path) {
-            Ok(record) => Some(record),
-            Err(error) => return refuse_record(&mut rt.stderr(), service.file, path, &error),
-        },
-        None => None,
+    let service = Service::Shared {
+        sharing: arguments.sharing,
+        record: arguments.record,
     };
-    serve_service(rt, handles, service, Service::Shared { sharing, record })
+    serve_service(rt, handles, arguments.service, service)
 }
 
 /// Serves connections to a port or a socket under the settings of the file.
@@ -62,11 +56,11 @@ fn serve_service<R>(
     rt: &HostRuntime,
     handles: &R,
     arguments: ServeArguments<'_>,
-    service: Service<File>,
+    service: Service<'_>,
 ) -> u8
 where
     R: Net<Listener = TcpListener, Stream = TcpStream>
-        + Files
+        + Files<File = File>
         + Threads
         + Wait
         + Clock
@@ -89,20 +83,4 @@ where
         ),
         Err(unread) => refuse_file(&mut rt.stderr(), arguments.file, &unread),
     }
-}
-
-/// Says that the record can't be begun, and answers the exit status.
-fn refuse_record<E: Write>(
-    errors: &mut E,
-    file: SettingsFile<'_>,
-    path: &str,
-    error: &io::Error,
-) -> u8
-    ensures { result ≡ 3 }
-{
-    let status = report::record(errors);
-    if file.explains {
-        explain::unopened_record(errors, path, error);
-    }
-    status
 }

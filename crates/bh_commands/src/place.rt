@@ -1,6 +1,6 @@
 //! Where a service is to listen, and what listens there.
 
-use crate::socket::{SocketFault, bind_socket, remove_socket};
+use crate::socket::{FileId, SocketFault, bind_socket, file_at, remove_socket};
 use crate::{explain, report};
 use bh_base::Text;
 use bh_serve::{Door, SocketListener};
@@ -116,9 +116,20 @@ fn open_socket<R: Net + Files>(
     Ok((PlaceListener::Socket(listener), Door::Path(text)))
 }
 
-/// Takes away what listening at the place left there.
-pub fn leave<R: Files>(rt: &R, place: Place<'_>) {
-    if let Place::Socket(path) = place {
+/// Which file stands at the place, where listening there made one.
+pub fn made_at<R: Files>(rt: &R, place: Place<'_>) -> Option<FileId> {
+    match place {
+        Place::Port(_) => None,
+        Place::Socket(path) => file_at(rt, path),
+    }
+}
+
+/// Takes away the file that listening at the place made, where it is still there, and nothing that came in its stead.
+pub fn leave<R: Files>(rt: &R, place: Place<'_>, made: Option<FileId>) {
+    if let Place::Socket(path) = place
+        && made.is_some()
+        && file_at(rt, path) == made
+    {
         remove_socket(rt, path);
     }
 }

@@ -36,6 +36,14 @@ pub fn port<E: Write>(errors: &mut E, error: PortError) -> u8
     FAULT
 }
 
+/// Of help, or of a version, that can't be printed.
+pub fn output<E: Write>(errors: &mut E) -> u8
+    ensures { result ≡ 3 }
+{
+    let _ = writeln!(errors, "fault: write");
+    FAULT
+}
+
 /// Of a script without a group of the name.
 pub fn group<E: Write>(errors: &mut E, name: &str) -> u8
     ensures { result ≡ 3 }

@@ -3,13 +3,13 @@
 ghost use Rattle.std.specs.Prelude.{◌≡◌, ◌⊎◌, IsErr};
 ghost use Rattle.bh_props.specs.SettingsFile.{settings_in};
 
-use crate::place::{Place, PlaceListener, leave, listen};
+use crate::place::{Place, PlaceListener, leave, listen, made_at};
 use crate::{explain, report};
 use bh_props::{Settings, SettingsError, settings_in};
 use bh_serve::{Acceptor, Door, Limits, Reports, serve_through};
 use bh_share_serve::{Sharing, share_through};
 use std::alloc::{AllocError, Global};
-use std::fs::Files;
+use std::fs::{File, Files};
 use std::io::{Read, Write};
 use std::net::{Net, TcpListener, TcpStream};
 use std::rt::Clock;
@@ -29,12 +29,25 @@ pub struct Serving<'a> {
 }
 
 /// What is served.
-#[derive(Drop)]
-pub enum Service<W> {
+#[derive(Clone, Copy)]
+pub enum Service<'a> {
     /// Groups over a dependency that echoes, which answer control lines.
     Echo,
-    /// Groups whose dependencies the clients run, with a record where there is a writer for one.
-    Shared { sharing: Sharing, record: Option<W> },
+    /// Groups whose dependencies the clients run, with a record in the file of the path where there is one.
+    Shared {
+        sharing: Sharing,
+        record: Option<&'a str>,
+    },
+}
+
+/// What is served, with its record begun.
+#[derive(Drop)]
+enum Begun {
+    Echo,
+    Shared {
+        sharing: Sharing,
+        record: Option<File>,
+    },
 }
 
 /// Serves connections to a place under the settings, as many as the limits say, and answers the exit status. Where an input
@@ -42,26 +55,30 @@ pub enum Service<W> {
 ///
 /// - 0: the connections were served, or the input ended.
 /// - 1: the settings are refused, and nothing listened.
-/// - 3: nothing can listen there, or a fault of the service, as `serve_through` and `share_through` have them.
+/// - 3: nothing can listen there, the record can't be begun, or a fault of the service, as `serve_through` and
+///   `share_through` have them.
+///
+/// The file of a record is made once the service listens, and emptied where it was there: a start that is refused before
+/// leaves it as it is.
 ///
 /// With 1 and 3 a line on `errors` says why. A thread of its own writes what the service says there, so that it waits for no
 /// reader, and at its end for three quarters of a second at most. Once the threads of the service stand, the line
-/// `listening` with the port's number or the socket's path is printed. The socket is removed at the end.
-pub fn serve_file<R, I, E, W>(
+/// `listening` with the port's number or the socket's path is printed. The socket is removed at the end, where it is still this
+/// service's.
+pub fn serve_file<R, I, E>(
     rt: &R,
     alloc: Global,
     settings: &[u8],
     serving: Serving<'_>,
-    service: Service<W>,
+    service: Service<'_>,
     input: Option<I>,
     mut errors: E,
 ) -> u8
 where
     I: Read + Send + Drop + 'static,
     E: Write + Send + Drop + 'static,
-    W: Write + Send + Drop,
     R: Net<Listener = TcpListener, Stream = TcpStream>
-        + Files
+        + Files<File = File>
         + Threads
         + Wait
         + Clock
@@ -106,7 +123,7 @@ struct Server<'a, R> {
 impl<R> Server<'_, R>
 where
     R: Net<Listener = TcpListener, Stream = TcpStream>
-        + Files
+        + Files<File = File>
         + Threads
         + Wait
         + Clock
@@ -117,11 +134,10 @@ where
         + 'static,
 {
     /// Listens at the place, and serves the connections to it.
-    fn serve_place<I, E, W>(&self, service: Service<W>, input: Option<I>, mut errors: E) -> u8
+    fn serve_place<I, E>(&self, service: Service<'_>, input: Option<I>, mut errors: E) -> u8
     where
         I: Read + Send + Drop + 'static,
         E: Write + Send + Drop + 'static,
-        W: Write + Send + Drop,
         ensures { (result ≡ 0) ⊎ (result ≡ 3) }
     {
         let place = self.serving.place;
@@ -130,24 +146,54 @@ where
         else {
             return report::FAULT;
         };
-        let status = self.serve_listener(&listener, door, service, input, errors);
-        leave(self.rt, place);
+        let made = made_at(self.rt, place);
+        let status = match self.begin(service, &mut errors) {
+            Some(begun) => self.serve_listener(&listener, door, begun, input, errors),
+            None => report::FAULT,
+        };
+        leave(self.rt, place, made);
         status
     }
 
+    /// Begins the record, where there is to be one. Where that can't be, a line on `errors` says so.
+    fn begin<E: Write>(&self, service: Service<'_>, errors: &mut E) -> Option<Begun> {
+        let (sharing, path) = match service {
+            Service::Echo => return Some(Begun::Echo),
+            Service::Shared { sharing, record } => (sharing, record),
+        };
+        let Some(path) = path else {
+            return Some(Begun::Shared {
+                sharing,
+                record: None,
+            });
+        };
+        match File::create(self.rt, path) {
+            Ok(file) => Some(Begun::Shared {
+                sharing,
+                record: Some(file),
+            }),
+            Err(error) => {
+                report::record(errors);
+                if self.serving.explains {
+                    explain::unopened_record(errors, path, &error);
+                }
+                None
+            }
+        }
+    }
+
     /// Serves the connections to the listener, and tells the service to stop at the end of the input, where there is one.
-    fn serve_listener<I, E, W>(
+    fn serve_listener<I, E>(
         &self,
         listener: &PlaceListener,
         door: Door,
-        service: Service<W>,
+        service: Begun,
         input: Option<I>,
         mut errors: E,
     ) -> u8
     where
         I: Read + Send + Drop + 'static,
         E: Write + Send + Drop + 'static,
-        W: Write + Send + Drop,
         ensures { (result ≡ 0) ⊎ (result ≡ 3) }
     {
         let Ok(acceptor) = shared_acceptor(self.alloc, self.serving.limits) else {
@@ -160,19 +206,18 @@ where
     }
 
     /// Serves the connections of the listener, with a thread that waits for the end of the input.
-    fn serve_watched<I, E, W>(
+    fn serve_watched<I, E>(
         &self,
         acceptor: &Arc<Acceptor, Global>,
         listener: &PlaceListener,
         door: Door,
-        service: Service<W>,
+        service: Begun,
         input: I,
         mut errors: E,
     ) -> u8
     where
         I: Read + Send + Drop + 'static,
         E: Write + Send + Drop + 'static,
-        W: Write + Send + Drop,
         ensures { (result ≡ 0) ⊎ (result ≡ 3) }
     {
         let Some(watcher) = self.start_watcher(input, acceptor, door) else {
@@ -184,17 +229,16 @@ where
     }
 
     /// Serves the connections of the listener, with a thread that writes what is said of them.
-    fn serve_reported<E, W>(
+    fn serve_reported<E>(
         &self,
         acceptor: &Acceptor,
         listener: &PlaceListener,
         door: &Door,
-        service: Service<W>,
+        service: Begun,
         errors: E,
     ) -> u8
     where
         E: Write + Send + Drop + 'static,
-        W: Write + Send + Drop,
         ensures { (result ≡ 0) ⊎ (result ≡ 3) }
     {
         match Arc::new(self.alloc, Mutex::new(errors)) {
@@ -207,17 +251,16 @@ where
     }
 
     /// The same, where the thread can be handed what it writes to.
-    fn serve_told<E, W>(
+    fn serve_told<E>(
         &self,
         acceptor: &Acceptor,
         listener: &PlaceListener,
         door: &Door,
-        service: Service<W>,
+        service: Begun,
         errors: &Arc<Mutex<E>, Global>,
     ) -> u8
     where
         E: Write + Send + Drop + 'static,
-        W: Write + Send + Drop,
         ensures { (result ≡ 0) ⊎ (result ≡ 3) }
     {
         let Ok(reports) = Arc::new(self.alloc, Reports::new()) else {
@@ -235,19 +278,19 @@ where
     }
 
     /// Serves the connections of the listener, and says what is amiss to the reports.
-    fn serve_connections<W: Write + Send + Drop>(
+    fn serve_connections(
         &self,
         acceptor: &Acceptor,
         listener: &PlaceListener,
         door: &Door,
-        service: Service<W>,
+        service: Begun,
         reports: &Reports,
     ) -> u8
         ensures { (result ≡ 0) ⊎ (result ≡ 3) }
     {
         let mut output = io::writer(self.rt);
         match service {
-            Service::Echo => serve_through(
+            Begun::Echo => serve_through(
                 self.rt,
                 self.alloc,
                 acceptor,
@@ -257,7 +300,7 @@ where
                 &mut output,
                 reports,
             ),
-            Service::Shared { sharing, record } => share_through(
+            Begun::Shared { sharing, record } => share_through(
                 self.rt,
                 self.alloc,
                 acceptor,

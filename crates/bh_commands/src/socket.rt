@@ -5,7 +5,7 @@ use std::alloc::{AllocError, Global};
 use std::fs::{DirBuilder, Files, Permissions};
 use std::io::ErrorKind;
 use std::net::Net;
-use std::os::unix::fs::{DirBuilderExt, FileTypeExt, PermissionsExt};
+use std::os::unix::fs::{DirBuilderExt, FileTypeExt, MetadataExt, PermissionsExt};
 use std::os::unix::net::{UnixListener, UnixStream};
 use std::{fs, io};
 
@@ -65,6 +65,22 @@ pub fn bind_socket<R: Net + Files>(
     let bound = bind_in(rt, alloc, folder.as_str(), path);
     let _ = fs::remove_dir(rt, folder.as_str());
     bound
+}
+
+/// Which file it is: its device, and its number there.
+#[derive(Clone, Copy, Debug, PartialEq, Eq)]
+pub struct FileId {
+    device: u64,
+    number: u64,
+}
+
+/// The file that stands at the path; None where the system tells of none.
+pub fn file_at<R: Files>(rt: &R, path: &str) -> Option<FileId> {
+    let found = fs::symlink_metadata(rt, path).ok()?;
+    Some(FileId {
+        device: found.dev(),
+        number: found.ino(),
+    })
 }
 
 /// Takes the socket of a service that has ended away from the path.

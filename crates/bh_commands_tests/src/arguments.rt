@@ -1,7 +1,7 @@
 //! Arguments that are refused.
 
 use bh_arguments::{command, run_arguments};
-use std::fs::Files;
+use std::fs::{File, Files};
 use std::net::{Net, TcpListener, TcpStream};
 use std::process::Abort;
 use std::rt::Clock;
@@ -22,7 +22,7 @@ fn arguments<R: Abort + AllocGlobal>(rt: &R, line: &str) -> Vec<String> {
 /// Asserts the status that a command line leaves.
 fn assert_status<
     R: Net<Listener = TcpListener, Stream = TcpStream>
-        + Files
+        + Files<File = File>
         + Threads
         + Wait
         + Clock
