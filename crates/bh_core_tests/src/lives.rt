@@ -21,7 +21,7 @@ fn slots_of(props: GroupProps, slots: u64) -> GroupProps
 }
 
 /// Asserts what the registration of a group with so many slots is answered.
-fn assert_registered<R: Abort + AllocGlobal>(
+pub(crate) fn assert_registered<R: Abort + AllocGlobal>(
     rt: &R,
     core: &mut Core,
     slots: u64,
@@ -35,7 +35,12 @@ fn assert_registered<R: Abort + AllocGlobal>(
 }
 
 /// Asserts what the retirement of the group is answered.
-fn assert_retired<R: Abort>(rt: &R, core: &mut Core, group: u64, want: Result<(), RetireError>) {
+pub(crate) fn assert_retired<R: Abort>(
+    rt: &R,
+    core: &mut Core,
+    group: u64,
+    want: Result<(), RetireError>,
+) {
     let told = core.retire(GroupId(group));
     assert!(rt; told == want, "{told:?}");
 }

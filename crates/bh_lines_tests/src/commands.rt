@@ -1,7 +1,7 @@
 //! The names of further commands in the lines of scripts.
 
 use crate::asserts::assert_text;
-use bh_base::{GroupId, Reply};
+use bh_base::{GroupId, Reply, Text};
 use bh_port::commands::{command_name, command_number, told_command};
 use bh_port::groups::Groups;
 use bh_props::{Settings, read};
@@ -61,22 +61,45 @@ fn a_name_is_looked_up_in_its_own_group(rt: HostRuntime) {
     }
 }
 
-// Asserts the name of the group's further command of the number, if there is one.
-fn assert_name<R: Abort>(rt: &R, settings: &Settings, group: u64, number: u8, want: Option<&str>) {
-    let name = command_name(settings, GroupId(group), number);
-    assert_eq!(rt; name.map(|name| name.as_str()), want);
+// Of a group and a number the name of its further command, or `none`.
+const NAMES: [(u64, u8, &str); 7] = [
+    (0, 0, "none"),
+    (0, 1, "1"),
+    (0, 3, "c"),
+    (0, 4, "none"),
+    (1, 1, "-"),
+    (1, 4, "c9"),
+    (2, 1, "none"),
+];
+
+// Asserts that the name is this, or `none` that there is none.
+fn assert_name<R: Abort>(rt: &R, name: Option<&Text<32>>, want: &str) {
+    let name = match name {
+        Some(name) => name.as_str(),
+        None => "none",
+    };
+    assert_eq!(rt; name, want);
 }
 
 #[test]
 fn a_further_command_has_a_name_by_its_number(rt: HostRuntime) {
     let settings = settings_of(&rt, NUMBERED);
-    assert_name(&rt, &settings, 0, 0, None);
-    assert_name(&rt, &settings, 0, 1, Some("1"));
-    assert_name(&rt, &settings, 0, 3, Some("c"));
-    assert_name(&rt, &settings, 0, 4, None);
-    assert_name(&rt, &settings, 1, 1, Some("-"));
-    assert_name(&rt, &settings, 1, 4, Some("c9"));
-    assert_name(&rt, &settings, 2, 1, None);
+    for (group, number, want) in NAMES {
+        assert_name(&rt, command_name(&settings, GroupId(group), number), want);
+    }
+}
+
+// Asserts by which name of a command the reply of the group is told.
+fn assert_told<R: Abort>(
+    rt: &R,
+    settings: &Settings,
+    groups: &Groups,
+    group: u64,
+    reply: &Reply,
+    want: &str,
+) {
+    let told = told_command(settings, groups, GroupId(group), reply);
+    assert_name(rt, told.as_ref(), want);
 }
 
 #[test]
@@ -88,8 +111,7 @@ fn an_assigned_run_alone_is_told_with_a_name(rt: HostRuntime) {
         command: 4,
         arg: text("x"),
     };
-    let told = told_command(&settings, &groups, GroupId(1), &assigned);
-    assert_eq!(rt; told.as_ref().map(|name| name.as_str()), Some("c9"));
-    assert!(rt; told_command(&settings, &groups, GroupId(0), &assigned).is_none());
-    assert!(rt; told_command(&settings, &groups, GroupId(1), &Reply::Queued(1)).is_none());
+    assert_told(&rt, &settings, &groups, 1, &assigned, "c9");
+    assert_told(&rt, &settings, &groups, 0, &assigned, "none");
+    assert_told(&rt, &settings, &groups, 1, &Reply::Queued(1), "none");
 }

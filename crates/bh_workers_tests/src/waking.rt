@@ -284,10 +284,11 @@ fn work<R: Wait + rt::Clock + AllocGlobal>(
 fn submit_and_retire<R: Wait + rt::Clock + Abort + AllocGlobal>(
     rt: &R,
     shared: &Shared,
-    caller: &mut Pass,
+    own: &mut Vec<Pass>,
     third: &Gate<'_, R>,
 ) {
     assert_asleep(rt, shared, C, OTHERS as u64 + 1);
+    let caller = own.get_mut(0).expect(rt, "a pass");
     let told = shared.step(rt, caller, step(C.0, 0, &submit("x")));
     assert!(rt; told == Ok(Reply::Queued(1)), "{told:?}");
     if !third.wait(1) {
@@ -307,25 +308,30 @@ fn assert_worker<R: Abort>(rt: &R, told: Result<String, AllocError>, pass: &Pass
     assert_text(rt, told, want, "a worker of two groups that came later");
 }
 
+/// Asserts that a worker of the third group is told of a request among those of the fourth.
+fn assert_told<R: Threads + Wait + Sync + rt::Clock + Abort + AllocGlobal>(rt: &R) {
+    let shared = service(rt, props(rt), props(rt), 20);
+    assert_registered(rt, &shared, C);
+    assert_registered(rt, &shared, D);
+    let mut own = take_passes(rt, &shared, &[(C, 20)]);
+    let workers = workers_of_both(rt, &shared);
+    let third = Gate::new(rt, "the worker of the group that was asked");
+    let (woken, ()) = thread::join(
+        rt,
+        || thread::map_vec(rt, workers, &|pass| work(rt, &shared, pass, &third)),
+        || submit_and_retire(rt, &shared, &mut own, &third),
+    );
+    assert_passed(rt, &third);
+    for (told, pass) in woken.expect(rt, "memory") {
+        assert_worker(rt, told, &pass);
+        own.push(pass).expect(rt, "memory");
+    }
+    assert!(rt; shared.finish(rt.alloc(), own).is_ok());
+}
+
 /// Were one of those that sleep told of the request, it would most likely be one of the other group, and the request
 /// stay where it is.
 #[test]
 fn a_request_is_told_to_the_workers_of_all_groups_that_came_later(rt: HostRuntime) {
-    let shared = service(&rt, props(&rt), props(&rt), 20);
-    assert_registered(&rt, &shared, C);
-    assert_registered(&rt, &shared, D);
-    let mut own = take_passes(&rt, &shared, &[(C, 20)]);
-    let workers = workers_of_both(&rt, &shared);
-    let third = Gate::new(&rt, "the worker of the group that was asked");
-    let (woken, ()) = thread::join(
-        &rt,
-        || thread::map_vec(&rt, workers, &|pass| work(&rt, &shared, pass, &third)),
-        || submit_and_retire(&rt, &shared, own.get_mut(0).expect(&rt, "a pass"), &third),
-    );
-    assert_passed(&rt, &third);
-    for (told, pass) in woken.expect(&rt, "memory") {
-        assert_worker(&rt, told, &pass);
-        own.push(pass).expect(&rt, "memory");
-    }
-    assert!(rt; shared.finish(rt.alloc(), own).is_ok());
+    assert_told(&rt);
 }
