@@ -81,7 +81,8 @@ pool of a, 0 s: busy 0.01, queued 0.005, most at once 1
 pool of a, 4 s: busy 0.045, queued 0.005, most at once 1
 b, 0 s: asked 1, error 1, timeout 1, late end 1
 b/refund, 0 s: asked 1, fallback's value 1, rejected 1
-b/refund, 2 s: asked 2, bad request 2, joined 1
+b/refund, 2 s: asked 2, bad request \
+2, joined 1
 pool of b and refund, 0 s: busy 0.6, most at once 1
 pool of b and refund, 2 s: busy 0.024, queued 0.001, most at once 1
 ";
