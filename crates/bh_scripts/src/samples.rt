@@ -1,8 +1,10 @@
 //! Settings, steps and requests as most tests want them.
 
-ghost use Rattle.std.specs.Prelude.{◌≡◌, ◌≤◌, length};
+ghost use Rattle.std.specs.Prelude.{◌≡◌, ◌≤◌, length, None, true};
 ghost use Rattle.std.specs.List.{AllByRecursion};
 ghost use Rattle.bh_base.specs.Ranges.{IsCommandInRange, IsInRange};
+ghost use Rattle.bh_base.specs.declared.props.Strategy.TheVariants as strategies;
+ghost use Rattle.bh_base.specs.declared.step.Op.TheVariants as operations;
 
 use bh_base::{CommandProps, Counts, GroupId, GroupProps, Op, Request, Step, Strategy, Text};
 
@@ -32,7 +34,8 @@ pub fn command() -> CommandProps
 
 /// The same, save that callers run their requests themselves.
 pub fn command_by_callers() -> CommandProps
-    ensures { IsCommandInRange result }
+    ensures in_range { IsCommandInRange result }
+    ensures by_callers { result.strategy ≡ strategies.Semaphore }
 {
     CommandProps {
         strategy: Strategy::Semaphore,
@@ -45,7 +48,8 @@ pub fn props_of(commands: Vec<CommandProps>) -> GroupProps
     requires some { 1 ≤ length commands.items }
     requires few { length commands.items ≤ 16 }
     requires commands { AllByRecursion IsCommandInRange commands.items }
-    ensures { IsInRange result }
+    ensures in_range { IsInRange result }
+    ensures commands { result.commands ≡ commands.items }
 {
     GroupProps {
         slots: 64,
@@ -74,7 +78,12 @@ pub const NO_EVENTS: Counts = Counts {
 };
 
 /// Whether the settings are those that are built in, with these commands.
-pub fn are_built_in(props: &GroupProps, commands: &[CommandProps]) -> bool {
+pub fn are_built_in(props: &GroupProps, commands: &[CommandProps]) -> bool
+    ensures slots { result ≡ true → props.now.slots ≡ 64 }
+    ensures core { result ≡ true → props.now.core ≡ 10 }
+    ensures queue { result ≡ true → props.now.max_queue ≡ None }
+    ensures threshold { result ≡ true → props.now.queue_threshold ≡ 5 }
+{
     let numbers = (
         props.slots,
         props.core,
@@ -98,12 +107,15 @@ pub fn step(group: u64, now: u64, op: &Op) -> Step
 /// The text, which has to fit.
 pub fn text<const N: usize>(of: &str) -> Text<N>
     requires fits { length of.now ≤ N }
+    ensures { result ≡ of.now }
 {
     Text::new(of).unwrap()
 }
 
 /// A request of the group's own command.
-pub fn own_request(cache: Option<(u64, Text<32>)>, arg: Text<64>) -> Request {
+pub fn own_request(cache: Option<(u64, Text<32>)>, arg: Text<64>) -> Request
+    ensures { result ≡ record { command = 0; cache = cache; arg = arg } }
+{
     Request {
         command: 0,
         cache,
@@ -114,6 +126,7 @@ pub fn own_request(cache: Option<(u64, Text<32>)>, arg: Text<64>) -> Request {
 /// Asks for a run that is not cached.
 pub fn submit(arg: &str) -> Op
     requires fits { length arg.now ≤ 64 }
+    ensures { result ≡ operations.Submit (record { command = 0; cache = None; arg = arg.now }) }
 {
     Op::Submit(own_request(None, text(arg)))
 }

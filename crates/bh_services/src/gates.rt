@@ -1,6 +1,8 @@
 //! Gates: what the threads of a test wait for, so that no test passes by luck. A gate gives up after many turns, and its
 //! test then fails by its name.
 
+ghost use Rattle.std.specs.Prelude.{◌≡◌};
+
 use bh_audit::Shared;
 use bh_base::GroupId;
 use std::rt::Clock;
@@ -38,7 +40,9 @@ pub struct Gate<'a, R> {
 
 impl<'a, R: Clock> Gate<'a, R> {
     /// A gate to which nobody has come.
-    pub fn new(rt: &'a R, name: &'static str) -> Gate<'a, R> {
+    pub fn new(rt: &'a R, name: &'static str) -> Gate<'a, R>
+        ensures { result.name.now ≡ name.now }
+    {
         Gate {
             rt,
             name,
@@ -75,7 +79,9 @@ impl<'a, R: Clock> Gate<'a, R> {
     }
 
     /// What the gate waits for.
-    pub fn name(&self) -> &'static str {
+    pub fn name(&self) -> &'static str
+        ensures { result.now ≡ self.now.name.now }
+    {
         self.name
     }
 }

@@ -1,6 +1,6 @@
-//! Services of two and of three groups.
+//! Cores and services of two groups or more.
 
-ghost use Rattle.std.specs.Prelude.{◌≤◌, ◌^◌, IfOk, IfSome, OnOk};
+ghost use Rattle.std.specs.Prelude.{◌≡◌, ◌≤◌, ◌^◌, IfOk, IfSome, OnOk, is_some, true};
 ghost use Rattle.bh_base.specs.Ranges.{IsInRange};
 ghost use Rattle.bh_audit.specs.Books.{AreNew};
 
@@ -54,6 +54,7 @@ pub fn service_of_two(
     requires second { IsInRange second }
     requires some { 1 ≤ steps }
     requires few { steps ≤ 2 ^ 40 }
+    ensures { IfSome result (λ shared. shared.audited ≡ true) }
 {
     let core = two_groups(alloc, first, second, steps).ok()?;
     service_of(alloc, core, Some(steps))
@@ -62,6 +63,7 @@ pub fn service_of_two(
 /// A service of the groups of the core, audited where the steps of its journals are told. None for want of memory.
 pub fn service_of(alloc: Global, core: Core, audit: Option<u64>) -> Option<Shared>
     requires { IfSome audit (λ steps. AreNew steps core) }
+    ensures { IfSome result (λ shared. shared.audited ≡ is_some audit) }
 {
     let book = Book::new(alloc, core, audit).ok()?;
     Shared::new(alloc, book).ok()
