@@ -1,5 +1,8 @@
 //! Where a service is to listen, and what listens there.
 
+ghost use Rattle.std.specs.Prelude.{◌≡◌, None, ℕ};
+ghost use Rattle.bh_commands.specs.declared.place.Place.TheVariants as places;
+
 use crate::socket::{FileId, SocketFault, bind_socket, file_at, remove_socket};
 use crate::{explain, report};
 use bh_base::Text;
@@ -117,7 +120,9 @@ fn open_socket<R: Net + Files>(
 }
 
 /// Which file stands at the place, where listening there made one.
-pub fn made_at<R: Files>(rt: &R, place: Place<'_>) -> Option<FileId> {
+pub fn made_at<R: Files>(rt: &R, place: Place<'_>) -> Option<FileId>
+    ensures { (port : ℕ) → place.entry ≡ places.Port port → result ≡ None }
+{
     match place {
         Place::Port(_) => None,
         Place::Socket(path) => file_at(rt, path),
