@@ -1,7 +1,6 @@
 -- Answers to lines, one after the other.
-use Rattle.std.proofs.Common.{◌≡◌, ℕ, List, [], ◌∷◌, ◌++◌, Option, Some, None, Result, Ok, Err, refl, sym, ◌∙◌, subst, ap, append-nil, append_assoc, inl, inr}
+use Rattle.std.proofs.Common.{◌≡◌, ℕ, List, [], ◌∷◌, ◌++◌, Option, Some, None, Result, Ok, refl, sym, ◌∙◌, subst, ap, append-nil, append_assoc, inl, inr}
 use Rattle.bh_faults.specs.declared.fault.Fault.{Fault}
-use Rattle.bh_lines.specs.declared.port_error.PortError.{PortError}
 use Rattle.bh_share.specs.declared.share_line.ShareLine.{ShareLine}
 use Rattle.bh_share.specs.ShareLine.{share_line}
 use Rattle.bh_desk.specs.Turns.{IsLost}

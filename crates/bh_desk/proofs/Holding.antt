@@ -1,5 +1,5 @@
 -- Answers that are held, until they are written.
-use Rattle.std.proofs.Common.{◌≡◌, ℕ, false, List, [], ◌∷◌, ◌++◌, Option, Some, None, Result, Ok, Err, IfErr, OnOk, OnErr, inl, inr, refl, sym, ◌∙◌, subst, ap, append-nil}
+use Rattle.std.proofs.Common.{◌≡◌, ℕ, false, List, [], ◌∷◌, ◌++◌, Option, Some, None, Result, Ok, Err, IfErr, OnOk, inl, inr, refl, sym, ◌∙◌, subst, ap, append-nil}
 use Rattle.std.proofs.KnownBytes.{Appends-trans, Appends-nil}
 use Rattle.std.specs.Io.KnownBytes.{Appends}
 use Rattle.bh_faults.specs.declared.fault.Fault.{Fault}

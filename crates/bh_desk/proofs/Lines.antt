@@ -1,15 +1,14 @@
 -- The answer to one line, and the answers that are held before it.
-use Rattle.std.proofs.Common.{◌≡◌, ℕ, List, [], ◌∷◌, ◌++◌, Option, Result, Ok, Err, IfErr, OnOk, OnErr, refl, sym, ◌∙◌, subst, ap, inl, inr}
+use Rattle.std.proofs.Common.{◌≡◌, ℕ, List, [], ◌++◌, Option, Result, Ok, Err, OnOk, OnErr, refl, sym, ◌∙◌, subst, inl, inr}
 use Rattle.std.proofs.KnownBytes.{Appends-nil}
 use Rattle.std.specs.Io.KnownBytes.{Appends}
 use Rattle.bh_faults.specs.declared.fault.Fault.{Fault}
 use Rattle.bh_lines.specs.declared.port_error.PortError.{PortError}
-use Rattle.bh_lines.specs.declared.port_error.PortError.TheVariants.{Read, Write, Line, Memory}
+use Rattle.bh_lines.specs.declared.port_error.PortError.TheVariants.{Write, Memory}
 use Rattle.bh_replies.specs.FaultLine.{fault_line}
 use Rattle.bh_share.specs.declared.share_line.ShareLine.{ShareLine}
 use Rattle.bh_streams.specs.Watched.{WritesFront}
 use Rattle.bh_desk.specs.Turns.{IsLost, IsPut}
-use Rattle.bh_desk.specs.Answers.{LosesOne}
 use Rattle.bh_desk.specs.Session.{LineOutcome, Moves}
 use Rattle.bh_desk.proofs.Each.{line-lost}
 

@@ -1,5 +1,5 @@
 -- How far a session has come, from the reader's first byte to its last.
-use Rattle.std.proofs.Common.{◌≡◌, ℕ, false, List, [], ◌∷◌, ◌++◌, Option, Some, None, Result, Ok, Err, IfSome, inl, refl, sym, ◌∙◌, subst, ap, append-nil, append_assoc}
+use Rattle.std.proofs.Common.{◌≡◌, ℕ, false, List, [], ◌++◌, Option, Some, None, Result, Ok, Err, IfSome, inl, refl, sym, ◌∙◌, subst, ap, append-nil, append_assoc}
 use Rattle.std.proofs.KnownBytes.{Appends-trans, Appends-nil}
 use Rattle.std.specs.Io.KnownBytes.{Keeps, Appends, Consumes, IsAtEnd}
 use Rattle.bh_lines.specs.declared.port_error.PortError.{PortError}

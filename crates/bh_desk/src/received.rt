@@ -49,6 +49,13 @@ impl Received {
         self.bytes.extend_from_slice(piece)
     }
 
+    /// Forgets what has come.
+    pub fn clear(&mut self)
+        ensures { self.new ≡ [] }
+    {
+        self.bytes.clear();
+    }
+
     /// Takes the line in front, and answers what it asks of the groups and commands of the directory, or nothing where none
     /// has ended.
     ///

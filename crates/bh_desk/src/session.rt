@@ -18,6 +18,26 @@ use std::io::{Read, Write};
 /// So many bytes are asked of the reader at a time.
 const READ_SIZE: usize = 4096;
 
+/// What a conversation keeps of bytes: those that have come and were not taken, and the answers that are held.
+///
+/// It keeps the memory that it has taken, so whoever has one conversation after the other in the same buffers takes more only
+/// for longer lines or answers than there were in any before.
+#[derive(Drop)]
+pub struct Buffers {
+    received: Received,
+    answers: Vec<u8>,
+}
+
+impl Buffers {
+    /// Buffers of which no conversation was had. They take no memory yet.
+    pub fn new(alloc: Global) -> Buffers {
+        Buffers {
+            received: Received::new(alloc),
+            answers: Vec::new(alloc),
+        }
+    }
+}
+
 /// Answers the lines of the reader to the writer, as they come, to the end of the input. Groups and commands are looked up
 /// in the directory.
 ///
@@ -46,18 +66,48 @@ pub fn converse<R: Read, W: Write, N: Directory, D: Desk>(
     ensures answers { IfSome (bytes_left R.remaining reader.old) (λ input. SessionOutcome (responder (N.names directory.now) D.may) desk.old desk.new (bytes_held W.contents writer.old) (bytes_held W.contents writer.new) (cut input) result) }
     ensures turns { HasAnsweredSome (responder (N.names directory.now) D.may) desk.old desk.new }
 {
+    converse_in(
+        &mut Buffers::new(alloc),
+        alloc,
+        directory,
+        reader,
+        writer,
+        desk,
+    )
+}
+
+/// The same, in buffers that further conversations may be had in: what was left in them is forgotten.
+pub fn converse_in<R: Read, W: Write, N: Directory, D: Desk>(
+    buffers: &mut Buffers,
+    alloc: Global,
+    directory: &N,
+    reader: &mut WatchedReader<'_, R>,
+    writer: &mut WatchedWriter<'_, W>,
+    desk: &mut D,
+) -> Result<(), PortError>
+    ensures same_reader { (reader_of reader.new).ghost_name ≡ (reader_of reader.old).ghost_name }
+    ensures same_writer { (writer_of writer.new).ghost_name ≡ (writer_of writer.old).ghost_name }
+    ensures read { result ≡ Err PortError.Read → OneFailed reader.old reader.new ⊎ HasRead (2 ^ 64 - 1) reader.old reader.new }
+    ensures not_failed { (result ≡ Err PortError.Read) ⊎ NoneFailed reader.old reader.new }
+    ensures answered { result ≡ Err PortError.Read → HasAnswered (responder (N.names directory.now) D.may) desk.old desk.new (bytes_held W.contents writer.old) (bytes_held W.contents writer.new) (bytes_left R.remaining reader.old) (bytes_left R.remaining reader.new) }
+    ensures write { result ≡ Err PortError.Write → OneRefused writer.old writer.new }
+    ensures not_refused { (result ≡ Err PortError.Write) ⊎ NoneRefused writer.old writer.new }
+    ensures answers { IfSome (bytes_left R.remaining reader.old) (λ input. SessionOutcome (responder (N.names directory.now) D.may) desk.old desk.new (bytes_held W.contents writer.old) (bytes_held W.contents writer.new) (cut input) result) }
+    ensures turns { HasAnsweredSome (responder (N.names directory.now) D.may) desk.old desk.new }
+{
     let mut piece = [0u8; READ_SIZE];
-    let mut received = Received::new(alloc);
-    let mut answers = Vec::new(alloc);
+    let Buffers { received, answers } = buffers;
+    received.clear();
+    answers.clear();
     for _ in 0..u64::MAX {
         let Ok(count) = reader.read(&mut piece) else {
             return Err(PortError::Read);
         };
         if count == 0 {
-            return answer_last(alloc, directory, &mut received, desk, &mut answers, writer);
+            return answer_last(alloc, directory, received, desk, answers, writer);
         }
         received.push(&piece[..count])?;
-        answer_piece(alloc, directory, &mut received, desk, &mut answers, writer)?;
+        answer_piece(alloc, directory, received, desk, answers, writer)?;
     }
     Err(PortError::Read)
 }

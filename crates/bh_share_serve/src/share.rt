@@ -6,6 +6,7 @@ use crate::names::Names;
 use crate::recorder::MOST_STEPS;
 use crate::threads::Server;
 use bh_audit::Book;
+use bh_desk::Buffers;
 use bh_lender::StepLog;
 use bh_port::script::open;
 use bh_props::Settings;
@@ -20,7 +21,7 @@ use std::alloc::{AllocError, Global};
 use std::io::Write;
 use std::net::{OpenListener, TcpStream};
 use std::rt::Clock;
-use std::sync::Wait;
+use std::sync::{Mutex, Wait};
 use std::thread::Threads;
 
 /// What connections that share a service may have.
@@ -105,6 +106,7 @@ fn share<
     let (log, record) = logs(alloc, record)?;
     let shared = shared_groups(alloc, settings, acceptor.threads(), log)?;
     let clock = MachineClock::start(rt);
+    let buffers = buffers(alloc, acceptor.threads())?;
     let server = Server {
         rt,
         alloc,
@@ -112,6 +114,7 @@ fn share<
         names: &names,
         clock: &clock,
         sharing,
+        buffers: buffers.as_slice(),
         connections: Connections {
             rt,
             alloc,
@@ -122,6 +125,15 @@ fn share<
         },
     };
     Ok(server.run(record, output))
+}
+
+/// What so many threads of connections keep from one to the next.
+fn buffers(alloc: Global, threads: u32) -> Result<Vec<Mutex<Buffers>>, AllocError> {
+    let mut buffers = Vec::new(alloc);
+    for _ in 0..threads {
+        buffers.push(Mutex::new(Buffers::new(alloc)))?;
+    }
+    Ok(buffers)
 }
 
 /// The log of a service that is recorded, and with the record's writer a further one, which that log is swapped for.

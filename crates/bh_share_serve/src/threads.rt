@@ -7,6 +7,7 @@ use crate::ahead::Ahead;
 use crate::names::Names;
 use crate::recorder::Recorder;
 use crate::share::Sharing;
+use bh_desk::Buffers;
 use bh_lease::Leases;
 use bh_lender::StepLog;
 use bh_lines::PortError;
@@ -21,7 +22,7 @@ use std::alloc::Global;
 use std::io::Write;
 use std::net::{OpenListener, TcpStream};
 use std::rt::Clock;
-use std::sync::Wait;
+use std::sync::{Mutex, Wait};
 use std::thread;
 use std::thread::{JoinHandle, Scope, Threads};
 use std::time::Duration;
@@ -56,6 +57,8 @@ pub struct Server<'e, R, L> {
     pub names: &'e Names<'e>,
     pub clock: &'e MachineClock<'e, R>,
     pub sharing: Sharing,
+    /// What each thread of connections keeps from one to the next, by its number.
+    pub buffers: &'e [Mutex<Buffers>],
     pub connections: Connections<'e, R, L>,
 }
 
@@ -193,6 +196,15 @@ impl<'e, R: Wait + Clock, L> Server<'e, R, L> {
         let mut input = ahead;
         let mut reader = WatchedReader::new(&mut input);
         let mut writer = WatchedWriter::new(output);
-        attend(client, &mut reader, &mut writer)
+        match self.buffers.get(number) {
+            Some(kept) => {
+                let mut kept = kept.lock(self.rt);
+                attend(client, &mut *kept, &mut reader, &mut writer)
+            }
+            None => {
+                let mut buffers = Buffers::new(self.alloc);
+                attend(client, &mut buffers, &mut reader, &mut writer)
+            }
+        }
     }
 }

@@ -15,7 +15,7 @@ use crate::waiters::Waiter;
 use bh_audit::Clock;
 use bh_base::{GroupId, Op};
 use bh_control::put_groups;
-use bh_desk::{Desk, Turn, converse};
+use bh_desk::{Buffers, Desk, Turn, converse_in};
 use bh_lease::Leases;
 use bh_lines::PortError;
 use bh_replies::put_error;
@@ -196,11 +196,13 @@ fn ticket_of(op: &Op) -> Option<u64> {
     }
 }
 
-/// Answers the lines of a connection to the end of its input, and gives back all that it has then, however it ended.
+/// Answers the lines of a connection to the end of its input, in buffers that further connections may be answered in, and
+/// gives back all that it has then, however it ended.
 ///
 /// The errors are those of `converse`.
 pub fn attend<R: Wait + rt::Clock, C: Clock, P: Presence, N: Directory, I: Read, O: Write>(
     client: Client<'_, R, C, P, N>,
+    buffers: &mut Buffers,
     reader: &mut WatchedReader<'_, I>,
     writer: &mut WatchedWriter<'_, O>,
 ) -> Result<(), PortError>
@@ -209,7 +211,14 @@ pub fn attend<R: Wait + rt::Clock, C: Clock, P: Presence, N: Directory, I: Read,
         SessionOutcome (responder client.entry.names MayTell) client.entry had (bytes_held O.contents writer.old) (bytes_held O.contents writer.new) (cut input) result) }
 {
     let mut client = client;
-    let outcome = converse(client.alloc, client.names, reader, writer, &mut client);
+    let outcome = converse_in(
+        buffers,
+        client.alloc,
+        client.names,
+        reader,
+        writer,
+        &mut client,
+    );
     client.end();
     outcome
 }
