@@ -1,8 +1,4 @@
-//! What the test crates of services share: services of two or three groups, what their calls and their accounts say as
-//! texts, and gates at which threads wait for one another.
+//! What the test crates of services share: cores and services of two groups or more.
 #![tactic(auto)]
 
-pub mod accounts;
-pub mod asking;
-pub mod gates;
 pub mod services;

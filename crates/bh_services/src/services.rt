@@ -1,7 +1,10 @@
 //! Cores and services of two groups or more.
 
-ghost use Rattle.std.specs.Prelude.{◌≡◌, ◌≤◌, ◌^◌, IfOk, IfSome, OnOk, is_some, true};
+ghost use Rattle.std.specs.Prelude.{◌≡◌, ◌≤◌, ◌^◌, ◌∷◌, [], IfOk, IfSome, OnErr, OnOk, is_some, length, true};
 ghost use Rattle.bh_base.specs.Ranges.{IsInRange};
+ghost use Rattle.bh_base.specs.Runs.{opened, view};
+ghost use Rattle.bh_core.specs.Acts.{with_opened};
+ghost use Rattle.bh_core.specs.CoreView.{living};
 ghost use Rattle.bh_audit.specs.Books.{AreNew};
 
 use bh_audit::{Book, Shared};
@@ -13,18 +16,21 @@ pub const A: GroupId = GroupId(0);
 
 pub const B: GroupId = GroupId(1);
 
-/// Adds a group that did no step.
+/// Adds a group that did no step, and says its number. The core is as it was where that is refused.
 pub fn add(core: &mut Core, props: &GroupProps, steps: u64) -> Result<GroupId, RegisterError>
     requires props { IsInRange props.now }
     requires some { 1 ≤ steps }
     requires few { steps ≤ 2 ^ 40 }
     requires new { AreNew steps core.old }
-    ensures { OnOk result (AreNew steps core.new) }
+    ensures new { OnOk result (AreNew steps core.new) }
+    ensures added { OnOk result (core.new ≡ with_opened props.now steps core.old) }
+    ensures number { IfOk result (λ id. id.0 ≡ length core.old.lives) }
+    ensures err { OnErr result (core.new ≡ core.old) }
 {
     core.register(props, steps)
 }
 
-/// A core of two groups that did no step.
+/// A core of two groups that did no step: `A` and `B`.
 pub fn two_groups(
     alloc: Global,
     first: GroupProps,
@@ -35,7 +41,8 @@ pub fn two_groups(
     requires second { IsInRange second }
     requires some { 1 ≤ steps }
     requires few { steps ≤ 2 ^ 40 }
-    ensures { IfOk result (λ core. AreNew steps core) }
+    ensures new { IfOk result (λ core. AreNew steps core) }
+    ensures groups { IfOk result (λ core. core.lives ≡ living (view (opened first steps)) ∷ living (view (opened second steps)) ∷ []) }
 {
     let mut core = Core::new(alloc, 1000);
     add(&mut core, &first, steps)?;
@@ -54,7 +61,8 @@ pub fn service_of_two(
     requires second { IsInRange second }
     requires some { 1 ≤ steps }
     requires few { steps ≤ 2 ^ 40 }
-    ensures { IfSome result (λ shared. shared.audited ≡ true) }
+    ensures audited { IfSome result (λ shared. shared.audited ≡ true) }
+    ensures begun { IfSome result (λ shared. shared.begun ≡ 2) }
 {
     let core = two_groups(alloc, first, second, steps).ok()?;
     service_of(alloc, core, Some(steps))
@@ -63,7 +71,8 @@ pub fn service_of_two(
 /// A service of the groups of the core, audited where the steps of its journals are told. None for want of memory.
 pub fn service_of(alloc: Global, core: Core, audit: Option<u64>) -> Option<Shared>
     requires { IfSome audit (λ steps. AreNew steps core) }
-    ensures { IfSome result (λ shared. shared.audited ≡ is_some audit) }
+    ensures audited { IfSome result (λ shared. shared.audited ≡ is_some audit) }
+    ensures begun { IfSome result (λ shared. shared.begun ≡ length core.lives) }
 {
     let book = Book::new(alloc, core, audit).ok()?;
     Shared::new(alloc, book).ok()

@@ -1,5 +1,6 @@
 //! A step with a Collect behind it, in one turn of the lock.
 
+use crate::asking::ask;
 use crate::driving::{assert_end, assert_text, service};
 use crate::samples::props;
 use crate::script::take_passes;
@@ -9,7 +10,6 @@ use bh_scripts::replies::reply_text;
 use bh_scripts::samples::text;
 use bh_scripts::steps::step_of;
 use bh_scripts::words::{number, split_line, split_word};
-use bh_services::asking::ask;
 use bh_services::services::A;
 use std::alloc::{AllocError, Global};
 use std::process::Abort;

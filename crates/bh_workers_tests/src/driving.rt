@@ -4,14 +4,14 @@
 ghost use Rattle.std.specs.Prelude.{◌≡◌, ◌≤◌, ◌^◌, length};
 ghost use Rattle.bh_base.specs.Ranges.{IsInRange};
 
+use crate::accounts::end_text;
+use crate::gates::Gate;
 use bh_audit::{AuditReport, Clock, Pass, Shared};
 use bh_base::{
     Answer, CallError, Cause, FallbackEnd, GroupId, GroupProps, Moment, Request, RunEnd, Text,
 };
 use bh_scripts::samples::{own_request, text};
 use bh_scripts::words::{number, split_word};
-use bh_services::accounts::end_text;
-use bh_services::gates::Gate;
 use bh_services::services::service_of_two;
 use bh_workers::{Dependency, Driven, Pace, RequestList, call, drive};
 use std::alloc::{AllocError, Global};

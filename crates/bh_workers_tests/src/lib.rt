@@ -3,6 +3,10 @@
 #![tactic(auto)]
 
 #[cfg(test)]
+mod accounts;
+#[cfg(test)]
+mod asking;
+#[cfg(test)]
 mod books;
 #[cfg(test)]
 mod calls;
@@ -12,6 +16,8 @@ mod collecting;
 mod commands;
 #[cfg(test)]
 mod driving;
+#[cfg(test)]
+mod gates;
 #[cfg(test)]
 mod lives;
 #[cfg(test)]

@@ -8,11 +8,11 @@ use crate::driving::{
     Echo, Steady, Still, answer_text, assert_agreed, assert_call, assert_drive, assert_number,
     assert_passed, assert_text, lists, report_of, request, service, success_after,
 };
+use crate::gates::Gate;
 use crate::samples::{by_callers, props};
 use bh_audit::{AuditReport, Pass, Shared};
 use bh_base::{Cause, FallbackEnd, GroupId, GroupProps, RunEnd, Text};
 use bh_core::{Core, RegisterError, RetireError};
-use bh_services::gates::Gate;
 use bh_services::services::{A, B, add, service_of};
 use bh_workers::{Dependency, DriveError, call, drive, worker_loop};
 use std::alloc::Global;

@@ -3,12 +3,12 @@
 
 ghost use Rattle.std.specs.Prelude.{◌≤◌, ◌^◌};
 
+use crate::asking::ask;
 use crate::driving::assert_text;
 use crate::samples::props;
 use bh_audit::{Pass, Shared};
 use bh_base::GroupId;
 use bh_scripts::words::{number, split_line, split_word};
-use bh_services::asking::ask;
 use bh_services::services::{add, service_of, two_groups};
 use std::process::Abort;
 use std::sync::Wait;

@@ -4,13 +4,13 @@ use crate::driving::{
     Echo, Still, assert_drive, assert_end, assert_number, assert_passed, drive_lists, request,
     same_lists, service, success_after,
 };
+use crate::gates::Gate;
 use crate::samples::{props, props_with};
 use bh_audit::{Pass, Shared, StepError};
 use bh_base::{
     Answer, CallError, Cause, CommandProps, FallbackEnd, GroupId, GroupProps, Reply, RunEnd, Text,
 };
 use bh_scripts::samples::command;
-use bh_services::gates::Gate;
 use bh_services::services::{A, B};
 use bh_workers::{Dependency, Driven, call, worker_loop};
 use std::process::Abort;

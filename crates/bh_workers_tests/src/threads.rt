@@ -4,10 +4,10 @@ use crate::driving::{
     Still, assert_agreed, assert_drive, assert_passed, assert_text, report_of, service,
     success_after,
 };
+use crate::gates::Gate;
 use crate::samples::props;
 use bh_audit::{AuditReport, Clock};
 use bh_base::{Cause, FallbackEnd, GroupId, GroupProps, Moment, Reply, RunEnd, Text};
-use bh_services::gates::Gate;
 use bh_services::services::A;
 use bh_workers::Dependency;
 use std::alloc::{AllocError, Global};

@@ -3,14 +3,14 @@
 
 ghost use Rattle.bh_base.specs.Ranges.{IsInRange};
 
+use crate::asking::ask;
 use crate::driving::{assert_end, assert_text, service};
+use crate::gates::{Gate, are_asleep};
 use crate::samples::props;
 use crate::script::{play, take_passes};
 use bh_audit::{Pass, Shared};
 use bh_base::{GroupId, GroupProps, Op, Reply};
 use bh_scripts::samples::{step, submit};
-use bh_services::asking::ask;
-use bh_services::gates::{Gate, are_asleep};
 use bh_services::services::A;
 use std::alloc::AllocError;
 use std::process::Abort;

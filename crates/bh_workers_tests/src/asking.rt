@@ -131,7 +131,7 @@ fn ask_shared<R: Wait>(
 ///
 /// The other calls are `next NOW`, `due NOW`, `await SERIAL NOW`, `cached ARG`, `stop` and `retire`; `receipts`, `room`,
 /// `marks` and `first step` look at the pass.
-pub fn ask<R: Wait>(
+pub(crate) fn ask<R: Wait>(
     rt: &R,
     alloc: Global,
     shared: &Shared,

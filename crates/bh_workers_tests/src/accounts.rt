@@ -33,7 +33,7 @@ fn report_text(alloc: Global, report: &AuditReport) -> Result<String, AllocError
 /// What the end of a service says: `3 of 10, 0 of 10 changed, stopped` where two groups did 3 and no steps of 10, the
 /// settings of the second are not those that are built in, and the service was stopped. In front of it stands where the
 /// passes differ, if they do: `missing at 0 1: ` or `mismatch at 0 1: `, with the group and the place.
-pub fn end_text(
+pub(crate) fn end_text(
     alloc: Global,
     finished: &Result<AuditReport, AuditError>,
 ) -> Result<String, AllocError> {

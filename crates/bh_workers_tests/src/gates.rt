@@ -31,7 +31,7 @@ fn turn<R: Clock>(rt: &R, number: u64) {
 
 /// Counts those that have come, and lets others wait for them.
 #[derive(Drop)]
-pub struct Gate<'a, R> {
+pub(crate) struct Gate<'a, R> {
     rt: &'a R,
     name: &'static str,
     come: AtomicU64,
@@ -40,7 +40,7 @@ pub struct Gate<'a, R> {
 
 impl<'a, R: Clock> Gate<'a, R> {
     /// A gate to which nobody has come.
-    pub fn new(rt: &'a R, name: &'static str) -> Gate<'a, R>
+    pub(crate) fn new(rt: &'a R, name: &'static str) -> Gate<'a, R>
         ensures { result.name.now ≡ name.now }
     {
         Gate {
@@ -52,17 +52,17 @@ impl<'a, R: Clock> Gate<'a, R> {
     }
 
     /// One more has come.
-    pub fn come(&self) {
+    pub(crate) fn come(&self) {
         self.come.fetch_add(1, Ordering::SeqCst);
     }
 
     /// How many have come.
-    pub fn count(&self) -> u64 {
+    pub(crate) fn count(&self) -> u64 {
         self.come.load(Ordering::SeqCst)
     }
 
     /// Waits until so many have come. False where it gave up.
-    pub fn wait(&self, least: u64) -> bool {
+    pub(crate) fn wait(&self, least: u64) -> bool {
         for number in 0..TURNS {
             if self.count() >= least {
                 return true;
@@ -74,12 +74,12 @@ impl<'a, R: Clock> Gate<'a, R> {
     }
 
     /// How many gave up waiting.
-    pub fn given_up(&self) -> u64 {
+    pub(crate) fn given_up(&self) -> u64 {
         self.given_up.load(Ordering::SeqCst)
     }
 
     /// What the gate waits for.
-    pub fn name(&self) -> &'static str
+    pub(crate) fn name(&self) -> &'static str
         ensures { result.now ≡ self.now.name.now }
     {
         self.name
@@ -87,7 +87,7 @@ impl<'a, R: Clock> Gate<'a, R> {
 }
 
 /// Whether so many calls come to wait in the group before a gate would give up.
-pub fn are_asleep<R: Clock>(rt: &R, shared: &Shared, group: GroupId, calls: u64) -> bool {
+pub(crate) fn are_asleep<R: Clock>(rt: &R, shared: &Shared, group: GroupId, calls: u64) -> bool {
     for number in 0..TURNS {
         if shared.waiting(group) == calls {
             return true;
