@@ -7,4 +7,4 @@ mod received;
 pub mod session;
 
 pub use desk::{Desk, Turn};
-pub use session::{Buffers, converse, converse_in};
+pub use session::{Buffers, converse};

@@ -39,7 +39,7 @@ impl Buffers {
 }
 
 /// Answers the lines of the reader to the writer, as they come, to the end of the input. Groups and commands are looked up
-/// in the directory.
+/// in the directory. What another conversation left in the buffers is forgotten.
 ///
 /// Answers are written together, but none waits with a line that has to wait: before, the answers to all lines before it
 /// are written. They are written too once there are many bytes of them, so that the memory which they take is bounded,
@@ -50,34 +50,6 @@ impl Buffers {
 /// whose end was read; `Write` where the writer fails in this call or takes no byte. The conversation ends at the first
 /// read or write that fails.
 pub fn converse<R: Read, W: Write, N: Directory, D: Desk>(
-    alloc: Global,
-    directory: &N,
-    reader: &mut WatchedReader<'_, R>,
-    writer: &mut WatchedWriter<'_, W>,
-    desk: &mut D,
-) -> Result<(), PortError>
-    ensures same_reader { (reader_of reader.new).ghost_name ≡ (reader_of reader.old).ghost_name }
-    ensures same_writer { (writer_of writer.new).ghost_name ≡ (writer_of writer.old).ghost_name }
-    ensures read { result ≡ Err PortError.Read → OneFailed reader.old reader.new ⊎ HasRead (2 ^ 64 - 1) reader.old reader.new }
-    ensures not_failed { (result ≡ Err PortError.Read) ⊎ NoneFailed reader.old reader.new }
-    ensures answered { result ≡ Err PortError.Read → HasAnswered (responder (N.names directory.now) D.may) desk.old desk.new (bytes_held W.contents writer.old) (bytes_held W.contents writer.new) (bytes_left R.remaining reader.old) (bytes_left R.remaining reader.new) }
-    ensures write { result ≡ Err PortError.Write → OneRefused writer.old writer.new }
-    ensures not_refused { (result ≡ Err PortError.Write) ⊎ NoneRefused writer.old writer.new }
-    ensures answers { IfSome (bytes_left R.remaining reader.old) (λ input. SessionOutcome (responder (N.names directory.now) D.may) desk.old desk.new (bytes_held W.contents writer.old) (bytes_held W.contents writer.new) (cut input) result) }
-    ensures turns { HasAnsweredSome (responder (N.names directory.now) D.may) desk.old desk.new }
-{
-    converse_in(
-        &mut Buffers::new(alloc),
-        alloc,
-        directory,
-        reader,
-        writer,
-        desk,
-    )
-}
-
-/// The same, in buffers that further conversations may be had in: what was left in them is forgotten.
-pub fn converse_in<R: Read, W: Write, N: Directory, D: Desk>(
     buffers: &mut Buffers,
     alloc: Global,
     directory: &N,

@@ -15,7 +15,7 @@ use crate::waiters::Waiter;
 use bh_audit::Clock;
 use bh_base::{GroupId, Op};
 use bh_control::put_groups;
-use bh_desk::{Buffers, Desk, Turn, converse_in};
+use bh_desk::{Buffers, Desk, Turn, converse};
 use bh_lease::Leases;
 use bh_lines::PortError;
 use bh_replies::put_error;
@@ -211,7 +211,7 @@ pub fn attend<R: Wait + rt::Clock, C: Clock, P: Presence, N: Directory, I: Read,
         SessionOutcome (responder client.entry.names MayTell) client.entry had (bytes_held O.contents writer.old) (bytes_held O.contents writer.new) (cut input) result) }
 {
     let mut client = client;
-    let outcome = converse_in(
+    let outcome = converse(
         buffers,
         client.alloc,
         client.names,

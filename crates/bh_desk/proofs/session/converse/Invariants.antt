@@ -3,7 +3,7 @@ use Rattle.bh_lines.specs.Lines.{has_line}
 use Rattle.bh_streams.specs.Watched.{saturating_count, reader_of, reads_of, bytes_left, NoneFailed, writer_of, bytes_held, NoneRefused}
 use Rattle.bh_desk.specs.Answers.{responder}
 use Rattle.bh_desk.proofs.Progress.{HasReached, Progress}
-use Rattle.bh_desk.proofs.session.converse_in.Given as goal
+use Rattle.bh_desk.proofs.session.converse.Given as goal
 
 abbrev pub invariant-loop : goal.invariant-loop
 invariant-loop g l = record {

@@ -6,7 +6,7 @@ use Rattle.bh_streams.specs.Watched.{bytes_left, bytes_held}
 use Rattle.bh_desk.specs.Answers.{responder}
 use Rattle.bh_desk.specs.Session.{PieceOutcome}
 use Rattle.bh_desk.proofs.Progress.{progress-piece, progress-stops, progress-refused, progress-fails, progress-ends, progress-answered, memory-refused, reached-piece, some-last, some-piece}
-use Rattle.bh_desk.proofs.session.converse_in.Goals as goal
+use Rattle.bh_desk.proofs.session.converse.Goals as goal
 
 pub returns-then-count-eq0-clause-answers : goal.returns-then-count-eq0-clause-answers
 returns-then-count-eq0-clause-answers g c =
