@@ -1,5 +1,5 @@
 -- What the arguments ask for, by what a parse found of them.
-use Rattle.std.specs.Prelude.{◌≡◌, ◌<◌, ◌≤◌, ◌^◌, ◌||◌, ◌&&◌, not, ℕ, Bool, true, false, List, [], map, Some, None, codes, option_map, unwrap_or}
+use Rattle.std.specs.Prelude.{◌≡◌, ◌<◌, ◌≤◌, ◌^◌, ◌⊎◌, ◌↔◌, ◌||◌, ◌&&◌, not, ℕ, Bool, true, false, List, [], map, Option, Some, None, codes, option_map, unwrap_or}
 use Rattle.std.specs.Str.Parse.{IsNumeral, digits_value, without_leading_plus}
 use Rattle.clap.specs.Walk.{Row, Text, all_of, first_of, one_of}
 use Rattle.bh_commands.specs.declared.place.Place.{Place}
@@ -117,3 +117,13 @@ name_of (ask.Summary a) = codes "summary"
 abbrev pub IsRefused : Invocation → Type 0
 IsRefused (ask.Draw a) = a.drawing.to ≤ a.drawing.from
 IsRefused _ = ⊥
+
+-- what was found, the name of a command and the rows of its arguments, asks for this
+abbrev pub IsAsked : Option (Text × List Row) → Invocation → Type 0
+IsAsked found asked = (option_map (λ p. p.0) found ≡ Some (name_of asked)) × (rows : List Row) × (option_map (λ p. p.1) found ≡ Some rows) × Asks rows asked
+
+-- the status that is left where this was found: 2 exactly where what it asks for is refused, or it asks for nothing
+abbrev pub IsStatusOf : Option (Text × List Row) → ℕ → Type 0
+IsStatusOf found status =
+    ((asked : Invocation) × IsAsked found asked × ((status ≡ 2) ↔ IsRefused asked))
+    ⊎ ((status ≡ 2) × ((asked : Invocation) → option_map (λ p. p.0) found ≡ Some (name_of asked) → ⊥))

@@ -6,7 +6,6 @@ pub mod invocation;
 mod options;
 pub mod parsed;
 pub mod run;
-mod served;
 mod services;
 mod settings_file;
 mod values;

@@ -1,13 +1,16 @@
 //! The run of what the arguments ask for.
 
-ghost use Rattle.std.specs.Prelude.{◌≡◌, ◌≤◌, ◌⊎◌, ◌↔◌, IfOk, IsErr};
-ghost use Rattle.bh_arguments.specs.Invocations.{IsRefused};
+ghost use Rattle.std.specs.Prelude.{◌≡◌, ◌≤◌, ◌⊎◌, ◌↔◌, IfOk, IsErr, map, string_bytes, true};
+ghost use Rattle.clap.specs.Words.{subcommand_of, takes};
+ghost use Rattle.bh_arguments.specs.Invocations.{IsRefused, IsStatusOf};
+ghost use Rattle.bh_arguments.specs.Program.{program};
 
-use crate::invocation::{Invocation, invocation_in};
+use crate::invocation::{Invocation, ServeArguments, invocation_in};
 use crate::parsed::parse;
-use crate::served::{serve_path, share_path};
-use crate::settings_file::{check_path, cut_path, draw_path, lint_path, run_path, summary_path};
-use bh_commands::report;
+use crate::settings_file::{
+    check_path, cut_path, draw_path, lint_path, read_path, refuse_file, run_path, summary_path,
+};
+use bh_commands::{Service, report, serve_file};
 use bh_props::SettingsError;
 use clap::Error;
 use clap::error::ErrorKind;
@@ -39,6 +42,7 @@ where
         + Sync
         + 'static,
     ensures status { result ≤ 3 }
+    ensures taken { IfOk arguments (λ words. takes program (map string_bytes words.items) ≡ true → (result ≡ 3) ⊎ IsStatusOf (subcommand_of program (map string_bytes words.items)) result) }
     ensures none { IsErr arguments → (result ≡ 2) ⊎ (result ≡ 3) }
 {
     match arguments {
@@ -74,7 +78,8 @@ where
         + Send
         + Sync
         + 'static,
-    ensures { IfOk result (λ status. status ≤ 3) }
+    ensures status { IfOk result (λ status. status ≤ 3) }
+    ensures taken { takes program (map string_bytes arguments.now) ≡ true → IfOk result (λ status. IsStatusOf (subcommand_of program (map string_bytes arguments.now)) status) }
 {
     let matches = match parse(rt.alloc(), arguments) {
         Ok(matches) => matches,
@@ -82,7 +87,7 @@ where
         Err(error) => return Ok(answer_unparsed(rt, &error)),
     };
     match invocation_in(&matches) {
-        Some(invocation) => Ok(run_invocation(rt, handles, invocation)),
+        Some(invocation) => Ok(System { rt, handles }.run(invocation)),
         None => Ok(BAD_ARGUMENTS),
     }
 }
@@ -97,8 +102,15 @@ fn answer_unparsed(rt: &HostRuntime, error: &Error) -> u8
     }
 }
 
-/// Does what was asked for, and answers the exit status.
-fn run_invocation<R>(rt: &HostRuntime, handles: &R, invocation: Invocation<'_>) -> u8
+/// What the program has of the system.
+#[derive(Drop)]
+struct System<'a, R> {
+    rt: &'a HostRuntime,
+    /// What starts threads and waits, for what serves connections.
+    handles: &'a R,
+}
+
+impl<R> System<'_, R>
 where
     R: Net<Listener = TcpListener, Stream = TcpStream>
         + Files<File = File>
@@ -110,18 +122,45 @@ where
         + Send
         + Sync
         + 'static,
-    ensures status { result ≤ 3 }
-    ensures refused { (result ≡ 2) ↔ IsRefused invocation.entry }
 {
-    match invocation {
-        Invocation::Check(file) => check_path(rt, file),
-        Invocation::Cut(arguments) => cut_path(rt, arguments),
-        Invocation::Draw(arguments) => draw_path(rt, arguments),
-        Invocation::Lint(arguments) => lint_path(rt, arguments),
-        Invocation::Run(file) => run_path(rt, file),
-        Invocation::Serve(arguments) => serve_path(rt, handles, arguments),
-        Invocation::Share(arguments) => share_path(rt, handles, arguments),
-        Invocation::Summary(arguments) => summary_path(rt, arguments),
+    /// Does what was asked for, and answers the exit status.
+    fn run(&self, invocation: Invocation<'_>) -> u8
+        ensures status { result ≤ 3 }
+        ensures refused { (result ≡ 2) ↔ IsRefused invocation.entry }
+    {
+        let rt = self.rt;
+        match invocation {
+            Invocation::Check(file) => check_path(rt, file),
+            Invocation::Cut(arguments) => cut_path(rt, arguments),
+            Invocation::Draw(arguments) => draw_path(rt, arguments),
+            Invocation::Lint(arguments) => lint_path(rt, arguments),
+            Invocation::Run(file) => run_path(rt, file),
+            Invocation::Serve(arguments) => self.serve(arguments, Service::Echo),
+            Invocation::Share(arguments) => {
+                let (sharing, record) = (arguments.sharing, arguments.record);
+                self.serve(arguments.service, Service::Shared { sharing, record })
+            }
+            Invocation::Summary(arguments) => summary_path(rt, arguments),
+        }
+    }
+
+    /// Serves connections to a port or a socket under the settings of the file.
+    fn serve(&self, arguments: ServeArguments<'_>, service: Service<'_>) -> u8
+        ensures { (result ≡ 0) ⊎ ((result ≡ 1) ⊎ (result ≡ 3)) }
+    {
+        let rt = self.rt;
+        match read_path(rt, arguments.file.path) {
+            Ok(settings) => serve_file(
+                self.handles,
+                rt.alloc(),
+                settings.as_slice(),
+                arguments.serving,
+                service,
+                arguments.ends_with_input.then(|| rt.reader()),
+                rt.stderr(),
+            ),
+            Err(unread) => refuse_file(&mut rt.stderr(), arguments.file, &unread),
+        }
     }
 }
 
