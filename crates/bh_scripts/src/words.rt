@@ -1,11 +1,15 @@
 //! Words of a line, of which each asks something and says behind ` = ` what is answered.
 
-ghost use Rattle.std.specs.Prelude.{◌≡◌, ◌≤◌, ◌⊎◌, ◌++◌, ◌==◌, [], length, codes, ℕ};
+ghost use Rattle.std.specs.Prelude.{◌≡◌, ◌<◌, ◌≤◌, ◌⊎◌, ◌^◌, ◌++◌, ◌==◌, [], length, codes, ℕ};
 ghost use Rattle.std.specs.List.{before_first, after_first};
+ghost use Rattle.std.specs.Str.Parse.{IsNumeral, digits_value, without_leading_plus};
 ghost use Rattle.std.specs.Str.Pattern.{LacksTextAt};
 
-/// The number, or 0 where there is none.
-pub fn number(word: &str) -> u64 {
+/// The number, or 0 where there is none below 2^64.
+pub fn number(word: &str) -> u64
+    ensures given { IsNumeral 10 (without_leading_plus word.now) → digits_value 10 (without_leading_plus word.now) < 2 ^ 64 → result ≡ digits_value 10 (without_leading_plus word.now) }
+    ensures none { (IsNumeral 10 (without_leading_plus word.now) × (digits_value 10 (without_leading_plus word.now) < 2 ^ 64) → ⊥) → result ≡ 0 }
+{
     word.parse::<u64>().unwrap_or(0)
 }
 
@@ -19,7 +23,8 @@ pub fn split_word(words: &str) -> (&str, &str)
 
 /// What is asked, and what is to be answered.
 pub fn split_line(line: &str) -> (&str, &str)
-    ensures { (line.now ≡ result.0.now ++ codes " = " ++ result.1.now)
+    ensures first { (at : ℕ) → at < length result.0.now → LacksTextAt (codes " = ") line.now at }
+    ensures parts { (line.now ≡ result.0.now ++ codes " = " ++ result.1.now)
         ⊎ ((result.0.now ≡ line.now) × (result.1.now ≡ [])
         × ((at : ℕ) → at ≤ length line.now → LacksTextAt (codes " = ") line.now at)) }
 {

@@ -1,10 +1,10 @@
 //! Cores and services of two groups or more.
 
-ghost use Rattle.std.specs.Prelude.{◌≡◌, ◌≤◌, ◌^◌, ◌∷◌, [], IfOk, IfSome, OnErr, OnOk, is_some, length, true};
+ghost use Rattle.std.specs.Prelude.{◌≡◌, ◌↔◌, ◌<◌, ◌≤◌, ◌+◌, ◌^◌, ◌∷◌, [], Err, IfOk, IfSome, OnErr, OnOk, is_some, length, true};
 ghost use Rattle.bh_base.specs.Ranges.{IsInRange};
 ghost use Rattle.bh_base.specs.Runs.{opened, view};
 ghost use Rattle.bh_core.specs.Acts.{with_opened};
-ghost use Rattle.bh_core.specs.CoreView.{living};
+ghost use Rattle.bh_core.specs.CoreView.{living, most_groups, slots_in};
 ghost use Rattle.bh_audit.specs.Books.{AreNew};
 
 use bh_audit::{Book, Shared};
@@ -25,6 +25,8 @@ pub fn add(core: &mut Core, props: &GroupProps, steps: u64) -> Result<GroupId, R
     ensures new { OnOk result (AreNew steps core.new) }
     ensures added { OnOk result (core.new ≡ with_opened props.now steps core.old) }
     ensures number { IfOk result (λ id. id.0 ≡ length core.old.lives) }
+    ensures many { (result ≡ Err RegisterError.TooManyGroups) ↔ (most_groups ≤ length core.old.lives) }
+    ensures room { (result ≡ Err RegisterError.TooManySlots) ↔ ((length core.old.lives < most_groups) × (core.old.slot_limit < slots_in core.old.lives + props.now.slots)) }
     ensures err { OnErr result (core.new ≡ core.old) }
 {
     core.register(props, steps)
@@ -43,6 +45,9 @@ pub fn two_groups(
     requires few { steps ≤ 2 ^ 40 }
     ensures new { IfOk result (λ core. AreNew steps core) }
     ensures groups { IfOk result (λ core. core.lives ≡ living (view (opened first steps)) ∷ living (view (opened second steps)) ∷ []) }
+    ensures many { result ≡ Err RegisterError.TooManyGroups → ⊥ }
+    ensures room { result ≡ Err RegisterError.TooManySlots → 1000 < first.slots + second.slots }
+    ensures fits { IfOk result (λ core. first.slots + second.slots ≤ 1000) }
 {
     let mut core = Core::new(alloc, 1000);
     add(&mut core, &first, steps)?;
