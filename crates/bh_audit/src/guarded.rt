@@ -24,6 +24,14 @@ use std::sync::{Mutex, MutexGuard, Wait};
 /// How often a thread tries to take the lock before it sleeps until the lock is free.
 const TRIES: u32 = 200;
 
+/// What lies under the lock, behind so many bytes that nobody uses: threads that try for the lock write to its line of the
+/// cache again and again, and on that line must be nothing that whoever has the lock reads.
+#[derive(Drop)]
+struct BehindLine<const A: u32> {
+    apart: [u64; 8],
+    locked: Locked<A>,
+}
+
 /// A book and its stop mark under a lock.
 ///
 /// No contract can name what lies under it, so none can say that `ask` does no more than to hand it to `Locked::answer`,
@@ -31,7 +39,7 @@ const TRIES: u32 = 200;
 /// nothing else reaches a guard.
 #[derive(Drop)]
 pub(crate) struct Guarded<const A: u32> {
-    lock: Mutex<Locked<A>>,
+    lock: Mutex<BehindLine<A>>,
 }
 
 impl<const A: u32> Guarded<A> {
@@ -39,17 +47,21 @@ impl<const A: u32> Guarded<A> {
     pub(crate) fn new(book: Book) -> Guarded<A>
         requires { book.audited ≡ (A == 1) }
     {
+        let locked = Locked {
+            book,
+            stopped: false,
+        };
         Guarded {
-            lock: Mutex::new(Locked {
-                book,
-                stopped: false,
+            lock: Mutex::new(BehindLine {
+                apart: [0; 8],
+                locked,
             }),
         }
     }
 
     /// Takes the lock. A turn is over soon, so a thread tries for a while before it sleeps until the lock is free: whoever
     /// sleeps has to be woken, and meanwhile others sleep too.
-    fn take<R: Wait>(&self, rt: &R) -> MutexGuard<'_, Locked<A>> {
+    fn take<R: Wait>(&self, rt: &R) -> MutexGuard<'_, BehindLine<A>> {
         for _ in 0..TRIES {
             if let Some(guard) = self.lock.try_lock() {
                 return guard;
@@ -77,7 +89,7 @@ impl<const A: u32> Guarded<A> {
     {
         let mut guard = self.take(rt);
         for _ in rt.forever() {
-            match guard.answer(ask, clock, pass, reply) {
+            match guard.locked.answer(ask, clock, pass, reply) {
                 Some(answer) => return answer,
                 None => guard = place.wait(rt, guard),
             }
@@ -93,6 +105,7 @@ impl<const A: u32> Guarded<A> {
         ensures audited { result ≢ Err NotAudited }
     {
         let Guarded { lock } = self;
-        audit(alloc, lock.into_inner(), passes)
+        let BehindLine { apart: _, locked } = lock.into_inner();
+        audit(alloc, locked, passes)
     }
 }

@@ -40,13 +40,13 @@ impl Place {
     /// Notifies so many of those that wait here. Whoever looked in vain before the step that lets it go on was counted by
     /// then, so where nobody is counted nobody has to be told.
     fn notify(&self, notice: Notice) {
-        if self.count() == 0 {
+        if notice == Notice::Nobody || self.count() == 0 {
             return;
         }
-        match notice {
-            Notice::Nobody => {}
-            Notice::One => self.changed.notify_one(),
-            Notice::All => self.changed.notify_all(),
+        if notice == Notice::One {
+            self.changed.notify_one();
+        } else {
+            self.changed.notify_all();
         }
     }
 
