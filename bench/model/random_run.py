@@ -7,7 +7,7 @@ from random import Random
 from typing import Any, Callable
 
 from .group import Ticket
-from .lines import Script
+from .lines import MOST_NESTED, Script
 from .settings import COMMAND_PROPERTIES, POOL_PROPERTIES, Property, Settings
 
 #: Values that bring a rule into play soon.
@@ -167,6 +167,11 @@ def _text(random: Random, bound: int) -> str:
     return random.choice(TEXTS) + str(random.randint(0, 9))
 
 
+def _nested(deep: int) -> Any:
+    """A list in a list, and so on."""
+    return [_nested(deep - 1)] if deep > 1 else []
+
+
 class _Lines:
     """Lines about some groups, whose moments mostly rise and whose tickets are mostly there: the model answers each."""
 
@@ -248,6 +253,7 @@ class _Lines:
         random = self.random
         name = random.choice(list(said))
         values: list[Any] = [None, True, -1, 0, 1.0, 1e30, 1 << 64, (1 << 64) - 1, "", "x", [], {}, [[1]], {"a": 1}]
+        values += [_nested(MOST_NESTED - 1), _nested(MOST_NESTED)]
         match random.randint(0, 3):
             case 0:
                 del said[name]
