@@ -3,7 +3,7 @@
 from __future__ import annotations
 
 from dataclasses import dataclass, field
-from typing import Any, Optional
+from typing import Any, Callable, Optional
 
 from .settings import GroupProps, Subject
 
@@ -31,6 +31,7 @@ class Ticket:
 
     @property
     def is_kept(self) -> bool:
+        """Whether a run of it goes on, somebody has still to collect, or further requests may join."""
         return self.busy or self.holders > 0 or self.cached
 
 
@@ -52,6 +53,7 @@ class Command:
         return self.props.values
 
     def record(self, moment: int, *kinds: str) -> None:
+        """Adds events of the moment."""
         self.history.extend((moment, kind) for kind in kinds)
 
     def counts(self, moment: int, begin: int = 0) -> dict[str, int]:
@@ -107,6 +109,7 @@ class Command:
 
 
 def percent(errors: int, total: int) -> int:
+    """The errors of a hundred runs, rounded down; 0 where there was no run."""
     return 100 * errors // total if total else 0
 
 
@@ -123,6 +126,7 @@ class Group:
 
     @property
     def is_in_use(self) -> bool:
+        """Whether a run goes on, or an answer is still to be collected."""
         return any(each.busy or each.holders > 0 for each in self.tickets)
 
     def step(self, op: str, now: int, said: dict[str, Any]) -> Reply:
@@ -135,10 +139,10 @@ class Group:
         self.tickets = [each for each in self.tickets if each.is_kept]
         return reply
 
-    def _find(self, serial: int, holds: Any) -> Optional[Ticket]:
+    def _find(self, serial: int, holds: Callable[[Ticket], bool]) -> Optional[Ticket]:
         return next((each for each in self.tickets if each.serial == serial and holds(each)), None)
 
-    def _count(self, holds: Any) -> int:
+    def _count(self, holds: Callable[[Ticket], bool]) -> int:
         return sum(1 for each in self.tickets if holds(each))
 
     def _submit(self, moment: int, said: dict[str, Any]) -> Reply:
