@@ -245,7 +245,8 @@ class Group:
         command = self.commands[ticket.command]
         if not command.values["fallback_on"]:
             return self._given_up(ticket, command, moment, "disabled")
-        running = self._count(lambda each: each.command == ticket.command and each.state == "in-fallback")
+        number = ticket.command
+        running = self._count(lambda each: each.command == number and each.state == "in-fallback")
         if running >= command.values["fallback_permits"]:
             return self._given_up(ticket, command, moment, "rejected", "FALLBACK_REJECTION")
         ticket.state = "in-fallback"
