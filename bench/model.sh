@@ -1,6 +1,6 @@
 #!/bin/bash
-# Compares `bulkhead run` with the model of model/ over settings and scripts at random, and fails at the first of them that is
-# answered otherwise, which it prints.
+# Compares `bulkhead run`, `check`, `lint`, `cut` and `summary` with the model of model/ over settings and scripts at random,
+# and fails at the first of them that is answered otherwise, which it prints.
 #
 #   bench/model.sh [-n SCRIPTS] [-l LINES] [-s SEED] [PROGRAM]     the seeds are SEED, SEED + 1, ..
 set -euo pipefail

@@ -1,4 +1,4 @@
-"""Compares a program with the model over scripts at random.
+"""Compares what a program answers, cuts, sums up, shows and finds with the model, over settings and scripts at random.
 
     python3 -m model PROGRAM [-n RUNS] [-l LINES] [-s SEED]
 
@@ -8,6 +8,7 @@ It prints the seed, the settings and the script of the first answer that differs
 from __future__ import annotations
 
 import argparse
+import json
 import random
 import subprocess
 import sys
@@ -15,14 +16,15 @@ import tempfile
 from pathlib import Path
 from typing import Optional
 
-from . import lines, random_run, settings
+from . import layout, lines, lint, random_lines, random_settings, settings, summary
 
 #: A run has so many seconds.
 PATIENCE = 60
 
 
-def _run(program: str, command: str, file: Path, data: bytes) -> tuple[int, bytes, bytes]:
-    told = subprocess.run([program, command, file], input=data, capture_output=True, timeout=PATIENCE, check=False)
+def _run(program: str, command: str, file: Path, data: bytes, *words: str) -> tuple[int, bytes, bytes]:
+    asked = [program, command, str(file), *words]
+    told = subprocess.run(asked, input=data, capture_output=True, timeout=PATIENCE, check=False)
     return told.returncode, told.stdout, told.stderr
 
 
@@ -52,16 +54,54 @@ def check_differs(program: str, file: Path, text: str) -> Optional[str]:
     return None if told == want else f"{told}, and not {want}"
 
 
+def lint_differs(program: str, file: Path, text: str, places: dict[lint.Path, lint.Place]) -> Optional[str]:
+    """What the program finds in the settings otherwise than the model, whose names stand at these places."""
+    file.write_bytes(text.encode())
+    status, out, error = _run(program, "lint", file, b"", "--json")
+    told = [json.loads(line) for line in out.splitlines()]
+    try:
+        want = [each.told(str(file), places) for each in lint.findings(settings.tree_of(text))]
+    except settings.Refused:
+        is_told = len(told) == 1 and told[0]["message"].startswith("1 syntax")
+        return None if is_told and status == 1 else f"{told} of what is no TOML"
+    should = int(any(each["severity"] == "error" for each in want))
+    if (status, error) != (should, b""):
+        return f"it ended with {(status, error)}, and not {should}"
+    for got, right in zip(told, want):
+        if got["nearest"] in (right["nearest"] or [None]):
+            got["nearest"] = right["nearest"]
+        if got != right:
+            return f"{got}, and not {right}"
+    return None if len(told) == len(want) else f"{len(told)} findings, and not {len(want)}"
+
+
+def look_differs(
+    program: str, file: Path, data: bytes, read: settings.Settings, source: random.Random
+) -> Optional[str]:
+    """What the program cuts out of a script, or tells of all of it, otherwise than the model."""
+    names = source.sample([*read.groups, *random_lines.COMERS], 2)
+    _, out, _ = _run(program, "cut", file, data, *(f"--group={name}" for name in names))
+    if out != lines.kept(read, data, names):
+        return f"of the groups {names} other lines are kept"
+    _, out, _ = _run(program, "summary", file, data, "--json")
+    return summary.differs(out, summary.summary(read, data))
+
+
 def differs(program: str, file: Path, seed: int, length: int) -> Optional[str]:
     """What the program tells otherwise of the settings and the script of the seed, with both of them."""
     source = random.Random(seed)
-    doubtful = random_run.doubtful_text(source)
+    text, places = layout.write(source, random_settings.lint_entries(source))
+    found = lint_differs(program, file, text, places)
+    if found is not None:
+        return f"{found}\n--- settings\n{text}"
+    doubtful = random_settings.doubtful_text(source)
     found = check_differs(program, file, doubtful)
     if found is not None:
         return f"{found}\n--- settings\n{doubtful}"
-    text = random_run.settings_text(source)
-    data = random_run.script(source, settings.read(text), length)
+    text = random_settings.settings_text(source)
+    data = random_lines.script(source, settings.read(text), length)
     found = script_differs(program, file, text, data)
+    found = found or look_differs(program, file, data, settings.read(text), source)
     if found is not None:
         return f"{found}\n--- settings\n{text}--- script\n{data.decode(errors='replace')}"
     return None

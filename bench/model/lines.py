@@ -164,7 +164,21 @@ class Script:
         for name, bound in BOUNDS.items():
             if len(told.get(name, "").encode()) > bound:
                 raise Fault("long")
-        return group.step(op, told["now"], told)
+        return self._made(told["group"], op, told)
+
+    def _made(self, name: str, op: str, told: dict[str, Any]) -> Reply:
+        """Makes a step of the group of the name."""
+        return self.groups[name].step(op, told["now"], told)
+
+    def named(self, line: str) -> Optional[str]:
+        """The group that a line names; None where the line asks for nothing, whatever groups there are."""
+        try:
+            said = parse(line)
+            self._reply(said)
+        except Fault as fault:
+            if str(fault) in ("syntax", "field", "op"):
+                return None
+        return str(said["group"])
 
     def _command(self, group: Group, name: Optional[str]) -> int:
         if name is None:
@@ -206,3 +220,16 @@ def run(settings: Settings, data: bytes) -> tuple[bytes, bool]:
     except LineEnds:
         return "".join(out).encode(), True
     return "".join(out).encode(), False
+
+
+def kept(settings: Settings, data: bytes, names: list[str]) -> bytes:
+    """The lines that `bulkhead cut` keeps of the input for groups of these names."""
+    script, out, rest = Script(settings), [], data
+    try:
+        for line in cut(data):
+            whole, feed, rest = rest.partition(b"\n")
+            if script.named(line) in names:
+                out.append(whole + feed)
+    except LineEnds:
+        pass
+    return b"".join(out)

@@ -141,11 +141,11 @@ def is_name(text: str) -> bool:
 
 def read(text: str) -> Settings:
     """The settings of a text; `Refused` where it is refused."""
-    tree = _tree(text)
-    names = _names(tree)
+    tree = tree_of(text)
+    names = names_of(tree)
     _check_service(tree, names)
-    further = _further(tree, names)
-    groups = {name: _group(tree, name, [each for each in further if further[each] == name]) for name in names}
+    further = further_of(tree, names)
+    groups = {name: group_of(tree, name, [each for each in further if further[each] == name]) for name in names}
     for word, number in (("wrong type", 6), ("out of range", 7)):
         _check_values(groups, word, number)
     _check_windows(groups)
@@ -154,7 +154,7 @@ def read(text: str) -> Settings:
     return Settings(groups)
 
 
-def _tree(text: str) -> Values:
+def tree_of(text: str) -> Values:
     try:
         tree = tomllib.loads(text)
     except tomllib.TOMLDecodeError:
@@ -181,7 +181,7 @@ def _at(tree: Any, path: str) -> Any:
     return tree
 
 
-def _names(tree: Values) -> list[str]:
+def names_of(tree: Values) -> list[str]:
     names = _at(tree, "service.groups")
     if not isinstance(names, list) or not 1 <= len(names) <= MOST_GROUPS or not all(isinstance(x, str) for x in names):
         raise Refused("2 no groups")
@@ -204,9 +204,10 @@ def _check_service(tree: Values, names: list[str]) -> None:
         raise Refused("5 unknown service property")
 
 
-def _further(tree: Values, names: list[str]) -> dict[str, str]:
+def further_of(tree: Values, names: list[str]) -> dict[str, str]:
     """From each further command to its group, by the bytes of their names."""
-    commands = _at(tree, "service.command") or {}
+    commands = _at(tree, "service.command")
+    commands = commands if isinstance(commands, dict) else {}
     found: dict[str, str] = {}
     for place, name in enumerate(sorted(commands, key=str.encode), 1):
         table = commands[name]
@@ -220,7 +221,7 @@ def _further(tree: Values, names: list[str]) -> dict[str, str]:
     return found
 
 
-def _group(tree: Values, name: str, further: list[str]) -> GroupProps:
+def group_of(tree: Values, name: str, further: list[str]) -> GroupProps:
     subjects = [_subject(tree, name, PROPERTIES)]
     subjects += [_subject(tree, each, COMMAND_PROPERTIES) for each in further]
     return GroupProps(subjects)

@@ -40,13 +40,11 @@ impl Place {
     /// Notifies so many of those that wait here. Whoever looked in vain before the step that lets it go on was counted by
     /// then, so where nobody is counted nobody has to be told.
     fn notify(&self, notice: Notice) {
-        if notice == Notice::Nobody || self.count() == 0 {
-            return;
-        }
-        if notice == Notice::One {
-            self.changed.notify_one();
-        } else {
-            self.changed.notify_all();
+        match notice {
+            Notice::Nobody => {}
+            _ if self.count() == 0 => {}
+            Notice::One => self.changed.notify_one(),
+            Notice::All => self.changed.notify_all(),
         }
     }
 

@@ -165,7 +165,7 @@ const LINES: &str = r#"{"op":"submit","group":"a","now":0,"arg":"x"}
 {"op":"start","group":"a","now":2
 : no JSON from column 33 on
 
-: no JSON from column 0 on
+: no JSON from column 1 on
 {"op":"start","group":"paymnt","now":2}
 : there is no group "paymnt"
 {"op":"read","group":"b","command":"c","now":2}

@@ -16,6 +16,8 @@ const MOST_SOUGHT: usize = 256;
 struct Closest<'a> {
     /// The name that is not looked up.
     key: &'a str,
+    /// How many letters it has.
+    letters: usize,
     /// How many edits lead from it to the nearest, or one more than may.
     distance: usize,
     /// The nearest; empty where none is near.
@@ -25,16 +27,18 @@ struct Closest<'a> {
 impl<'a> Closest<'a> {
     /// None yet. At most a third of the letters may differ, and one always.
     fn new(key: &'a str) -> Closest<'a> {
+        let letters = key.chars().count();
         Closest {
             key,
-            distance: 2usize.max(key.len() / 3 + 1),
+            letters,
+            distance: 2usize.max(letters / 3 + 1),
             name: shown(""),
         }
     }
 
-    /// Takes the name, where it is nearer.
+    /// Takes the name, of letters of one byte each, where it is nearer.
     fn offer(&mut self, alloc: Global, name: &str) -> Result<(), AllocError> {
-        if name == self.key || name.len().abs_diff(self.key.len()) >= self.distance {
+        if name == self.key || name.len().abs_diff(self.letters) >= self.distance {
             return Ok(());
         }
         let distance = osa_distance(alloc, self.key, name)?;

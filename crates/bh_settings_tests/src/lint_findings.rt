@@ -204,6 +204,25 @@ fn what_a_switch_makes_idle_is_told(rt: HostRuntime) {
     assert_status(&rt, IDLE, 0, 1);
 }
 
+const MISSPELT: &str = r#"service.groups = ["core"]
+"hy\U0001F600stix" = {}
+"hy \U0001F600trix" = {}
+hystrix.threadpool."co\U0001F600e" = {}
+hystrix.threadpool."c\u00F6r\u00EB" = {}
+"#;
+
+const MISSPELT_TOLD: &str =
+    "f:3:1: warning: nothing looks up `hy \u{1F600}trix` in the file; the nearest that is looked up is `hystrix`
+f:2:1: warning: nothing looks up `hy\u{1F600}stix` in the file; the nearest that is looked up is `hystrix`
+f:4:1: warning: nothing looks up `co\u{1F600}e` in `hystrix.threadpool`; the nearest that is looked up is `core`
+f:5:1: warning: nothing looks up `c\u{F6}r\u{EB}` in `hystrix.threadpool`
+";
+
+#[test]
+fn of_a_misspelt_name_letters_are_counted_and_not_bytes(rt: HostRuntime) {
+    assert_lines(&rt, MISSPELT, MISSPELT_TOLD);
+}
+
 #[test]
 fn a_thousand_findings_are_told_and_how_many_more_there_are(rt: HostRuntime) {
     let mut file = String::from_str(rt.alloc(), "service.groups = ['a']\n").expect(&rt, "memory");

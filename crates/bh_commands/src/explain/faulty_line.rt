@@ -175,7 +175,7 @@ pub(crate) fn faulty_line<E: Write>(
         }
         Err(error) if error.is_memory() => Ok(()),
         Err(error) => {
-            let column = error.column();
+            let column = error.column().max(1);
             writeln!(
                 errors,
                 "explain: line {number}: no JSON from column {column} on"
