@@ -127,3 +127,8 @@ abbrev pub IsStatusOf : Option (Text × List Row) → ℕ → Type 0
 IsStatusOf found status =
     ((asked : Invocation) × IsAsked found asked × ((status ≡ 2) ↔ IsRefused asked))
     ⊎ ((status ≡ 2) × ((asked : Invocation) → option_map (λ p. p.0) found ≡ Some (name_of asked) → ⊥))
+
+-- the status that is left of words in which this was found, whether the grammar takes them or not: that of what they ask for,
+-- or that of help and the version, of a refusal, or of want of memory
+abbrev pub IsLeftOf : Option (Text × List Row) → ℕ → Type 0
+IsLeftOf found status = IsStatusOf found status ⊎ ((status ≡ 0) ⊎ ((status ≡ 2) ⊎ (status ≡ 3)))

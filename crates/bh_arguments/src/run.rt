@@ -2,7 +2,7 @@
 
 ghost use Rattle.std.specs.Prelude.{◌≡◌, ◌≤◌, ◌⊎◌, ◌↔◌, IfOk, IsErr, map, string_bytes, true};
 ghost use Rattle.clap.specs.Words.{subcommand_of, takes};
-ghost use Rattle.bh_arguments.specs.Invocations.{IsRefused, IsStatusOf};
+ghost use Rattle.bh_arguments.specs.Invocations.{IsLeftOf, IsRefused, IsStatusOf};
 ghost use Rattle.bh_arguments.specs.Program.{program};
 
 use crate::invocation::{Invocation, ServeArguments, invocation_in};
@@ -43,6 +43,7 @@ where
         + 'static,
     ensures status { result ≤ 3 }
     ensures taken { IfOk arguments (λ words. takes program (map string_bytes words.items) ≡ true → (result ≡ 3) ⊎ IsStatusOf (subcommand_of program (map string_bytes words.items)) result) }
+    ensures left { IfOk arguments (λ words. IsLeftOf (subcommand_of program (map string_bytes words.items)) result) }
     ensures none { IsErr arguments → (result ≡ 2) ⊎ (result ≡ 3) }
 {
     match arguments {
@@ -80,6 +81,7 @@ where
         + 'static,
     ensures status { IfOk result (λ status. status ≤ 3) }
     ensures taken { takes program (map string_bytes arguments.now) ≡ true → IfOk result (λ status. IsStatusOf (subcommand_of program (map string_bytes arguments.now)) status) }
+    ensures left { IfOk result (λ status. IsLeftOf (subcommand_of program (map string_bytes arguments.now)) status) }
 {
     let matches = match parse(rt.alloc(), arguments) {
         Ok(matches) => matches,
