@@ -19,6 +19,7 @@ pub struct FrontLine<'a> {
 /// The line in front, where it is plain: ended by a line feed, of at most `LINE_LIMIT` bytes, and UTF-8.
 ///
 /// Nothing comes where no line has ended yet, and where the line in front is refused; `next_line` tells which.
+#[inline(always)]
 pub fn front_line(bytes: &[u8]) -> Option<FrontLine<'_>>
     ensures { IsFront bytes.now result }
 {
@@ -34,6 +35,7 @@ pub fn front_line(bytes: &[u8]) -> Option<FrontLine<'_>>
 }
 
 /// The text of a line, less the carriage return that may end it, where it is UTF-8.
+#[inline(always)]
 fn line_text(bytes: &[u8]) -> Option<&str>
     ensures { IsTextOf (less_return bytes.now) result }
 {

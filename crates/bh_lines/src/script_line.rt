@@ -28,6 +28,7 @@ pub enum ScriptLine<'a> {
 
 /// What the members ask for, whatever groups and commands there are. `Field` comes where there is no object or a member
 /// is missing or of another type, and `Op` where nothing has the name that `op` says.
+#[inline(always)]
 pub fn asked_at(members: Members<'_>) -> Result<ScriptLine<'_>, Fault>
     ensures { found_asked result ≡ asked_at (members_data members.entry) }
 {
@@ -51,6 +52,7 @@ fn line_word(name: &str) -> Option<LineWord>
 }
 
 /// What the members ask for by the word, or `Field` where one is missing or of another type.
+#[inline(always)]
 fn asked_by(word: LineWord, members: Members<'_>) -> Result<ScriptLine<'_>, Fault>
     ensures { found_asked result ≡ asked_by word (members_data members.entry) }
 {

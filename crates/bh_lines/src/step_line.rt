@@ -87,6 +87,7 @@ pub struct StepLine<'a> {
 
 /// The step of the operation that the members say, whatever groups and commands there are, with its texts of any length.
 /// `Field` comes where a member is missing or of another type.
+#[inline(always)]
 pub(crate) fn step_said(word: OpWord, members: Members<'_>) -> Result<StepLine<'_>, Fault>
     ensures { found_said result ≡ step_said word (members_data members.entry) }
 {
@@ -115,6 +116,7 @@ pub(crate) fn op_word(word: &str) -> Option<OpWord>
 }
 
 /// The operation of the word, from the members, or `Field` where one is missing or of another type.
+#[inline(always)]
 pub fn op_at(word: OpWord, members: Members<'_>) -> Result<OpLine<'_>, Fault>
     ensures { found_op result ≡ op_said word (members_data members.entry) }
 {

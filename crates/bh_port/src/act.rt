@@ -117,12 +117,13 @@ fn act_at(
     ensures act { OnOk result (IsActOf (settings_view settings.now) groups.now.entries act.new) }
     ensures kept { OnErr result (act.new ≡ act.old) }
 {
-    match asked_at(members)? {
-        ScriptLine::Step(said) => tell_step(settings, groups, &said, act),
-        ScriptLine::Register { group, like } => {
-            tell_registration(settings, groups, group, like, act)
+    match &asked_at(members) {
+        Ok(ScriptLine::Step(said)) => tell_step(settings, groups, said, act),
+        Ok(ScriptLine::Register { group, like }) => {
+            tell_registration(settings, groups, *group, *like, act)
         }
-        ScriptLine::Retire { group } => tell_retirement(groups, group, act),
+        Ok(ScriptLine::Retire { group }) => tell_retirement(groups, *group, act),
+        Err(fault) => Err(*fault),
     }
 }
 

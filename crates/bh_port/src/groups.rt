@@ -106,10 +106,12 @@ impl Groups {
         ensures there { IfSome result (λ number. IsSome (entry_at self.now.entries number)) }
     {
         let numbers = &self.numbers;
-        let Ok(key) = Text::new(name) else {
+        // The key is looked at where it lies: a copy would have to wait until all of it is written.
+        let key = Text::new(name);
+        let Ok(key) = &key else {
             return None;
         };
-        let number = *numbers.get(&key)?;
+        let number = *numbers.get(key)?;
         if self.entry(GroupId(number)).is_some() {
             Some(number)
         } else {
