@@ -15,9 +15,6 @@ Place = tuple[int, int]
 #: Names of more bytes are not shown.
 MOST_SHOWN = 64
 
-#: Up to so many groups, or further commands, are among the names of which the nearest is told.
-MOST_SOUGHT = 256
-
 #: What is said behind a refusal that has no name of its own.
 REASONS = {
     "2": ": `service.groups` is no list of 1 to 1000 texts",
@@ -223,27 +220,23 @@ def _given(tree: Values, name: str, wanted: list[Property]) -> Path:
 
 def _of_names(tree: Values, names: list[str], further: list[str], subjects: list[Subject]) -> Iterator[Finding]:
     """The names that nothing looks up: in the tables of the file, and in those of `default`, the groups and the commands."""
-    pools = ("default", *names[: MOST_SOUGHT if len(names) <= MOST_SOUGHT else 0])
-    commands = (*pools, *(further if len(further) <= MOST_SOUGHT else ()))
-    yield from _unknown(tree, (), ("service", "hystrix"), "the file")
+    yield from _unknown(tree, (), ("service", "hystrix"))
     yield from _unknown(tree, ("hystrix",), ("command", "threadpool"))
-    yield from _unknown(tree, ("hystrix", "command"), commands, known=("default", *names, *further))
-    yield from _unknown(tree, ("hystrix", "threadpool"), pools, known=("default", *names))
+    yield from _unknown(tree, ("hystrix", "command"), ("default", *names, *further))
+    yield from _unknown(tree, ("hystrix", "threadpool"), ("default", *names))
     everybody = [Subject("default", PROPERTIES, {}), *subjects]
     for subject in everybody:
         for table in _tables(subject):
             yield from _unknown(tree, table, _children(subject, table))
 
 
-def _unknown(
-    tree: Values, table: Path, near: tuple[str, ...], said: str = "", known: tuple[str, ...] = ()
-) -> Iterator[Finding]:
+def _unknown(tree: Values, table: Path, known: tuple[str, ...]) -> Iterator[Finding]:
+    """The names of a table, if it is there, beside those that are looked up in it."""
     members = at(tree, table)
-    if isinstance(members, dict):
-        for key in sorted(members, key=str.encode):
-            if key not in (known or near):
-                where = said or f"`{'.'.join(table)}`"
-                yield Finding(f"nothing looks up `{shown(key)}` in {where}", (*table, key), key=key, near=near)
+    where = f"`{'.'.join(table)}`" if table else "the file"
+    for key in sorted(members if isinstance(members, dict) else (), key=str.encode):
+        if key not in known:
+            yield Finding(f"nothing looks up `{shown(key)}` in {where}", (*table, key), key=key, near=known)
 
 
 def _paths(subject: Subject) -> list[Path]:

@@ -6,7 +6,7 @@ import json
 from dataclasses import dataclass, field
 from typing import Any, Optional
 
-from .group import Group, Reply, Ticket
+from .group import Command, Group, Reply, Ticket
 from .lines import LineEnds, Script, cut
 from .settings import Settings
 
@@ -73,8 +73,9 @@ class Watched(Script):
             self._rows_of(name, group)
 
     def _rows_of(self, name: str, group: Group) -> list[Row]:
-        own, *further = group.props.subjects
-        return [self.rows.setdefault((name, each), Row()) for each in (name, *(each.name for each in further))]
+        """The rows of the group's commands, by their numbers: its own one has the name of the group."""
+        names = [name, *(each.name for each in group.props.subjects[1:])]
+        return [self.rows.setdefault((name, each), Row()) for each in names]
 
     def _register(self, group: str, like: str) -> Reply:
         reply = super()._register(group, like)
@@ -91,10 +92,8 @@ class Watched(Script):
         latest, circuits = group.latest, [(each.circuit, each.opened) for each in group.commands]
         tickets = {each.serial: (each, each.state) for each in group.tickets}
         reply = super()._made(name, op, told)
-        for row, (circuit, opened), command in zip(rows, circuits, group.commands):
-            if circuit in STAYS:
-                row.add(STAYS[circuit], group.latest - latest)
-            row.add("trips", command.circuit == "open" and (circuit == "closed" or command.opened != opened))
+        for row, before, command in zip(rows, circuits, group.commands):
+            _note_circuit(row, before, command, group.latest - latest)
         for ticket, state in tickets.values():
             _note_ticket(rows[ticket.command], ticket, state, op, group.latest)
         if op == "submit":
@@ -102,6 +101,15 @@ class Watched(Script):
         elif told.get("ticket") in tickets:
             _note_reply(rows[tickets[told["ticket"]][0].command], op, told, reply)
         return reply
+
+
+def _note_circuit(row: Row, before: tuple[str, int], command: Command, passed: int) -> None:
+    """How a circuit stood before a step, for so many milliseconds, and whether it opened in it."""
+    circuit, opened = before
+    if circuit in STAYS:
+        row.add(STAYS[circuit], passed)
+    if command.circuit == "open" and (circuit == "closed" or command.opened != opened):
+        row.add("trips")
 
 
 def _note_ticket(row: Row, ticket: Ticket, state: str, op: str, moment: int) -> None:
