@@ -28,14 +28,18 @@ def _run(program: str, command: str, file: Path, data: bytes, *words: str) -> tu
     return told.returncode, told.stdout, told.stderr
 
 
+def _end(at_fault: bool) -> tuple[int, bytes]:
+    """The status that a script leaves, and what stands on standard error: whether a line ended it."""
+    return (3, b"fault: line\n") if at_fault else (0, b"")
+
+
 def script_differs(program: str, file: Path, text: str, data: bytes) -> Optional[str]:
     """What the program answers otherwise than the model, told of the first line where it does."""
     file.write_text(text, encoding="utf-8")
     status, out, error = _run(program, "run", file, data)
     want, at_fault = lines.run(settings.read(text), data)
-    should = (3, b"fault: line\n") if at_fault else (0, b"")
-    if (status, error) != should:
-        return f"it ended with {(status, error)}, and not {should}"
+    if (status, error) != _end(at_fault):
+        return f"it ended with {(status, error)}, and not {_end(at_fault)}"
     if out == want:
         return None
     asked, got, right = data.split(b"\n"), out.split(b"\n"), want.split(b"\n")
@@ -54,7 +58,7 @@ def check_differs(program: str, file: Path, text: str) -> Optional[str]:
     return None if told == want else f"{told}, and not {want}"
 
 
-def lint_differs(program: str, file: Path, text: str, places: dict[lint.Path, lint.Place]) -> Optional[str]:
+def lint_differs(program: str, file: Path, text: str, places: dict[settings.Path, lint.Place]) -> Optional[str]:
     """What the program finds in the settings otherwise than the model, whose names stand at these places."""
     file.write_bytes(text.encode())
     status, out, error = _run(program, "lint", file, b"", "--json")
@@ -80,10 +84,13 @@ def look_differs(
 ) -> Optional[str]:
     """What the program cuts out of a script, or tells of all of it, otherwise than the model."""
     names = source.sample([*read.groups, *random_lines.COMERS], 2)
-    _, out, _ = _run(program, "cut", file, data, *(f"--group={name}" for name in names))
-    if out != lines.kept(read, data, names):
-        return f"of the groups {names} other lines are kept"
-    _, out, _ = _run(program, "summary", file, data, "--json")
+    end = _end(lines.run(read, data)[1])
+    status, out, error = _run(program, "cut", file, data, *(f"--group={name}" for name in names))
+    if (status, error) != end or out != lines.kept(read, data, names):
+        return f"of the groups {names} other lines are kept, or it ended with {(status, error)}, and not {end}"
+    status, out, error = _run(program, "summary", file, data, "--json")
+    if (status, error) != end:
+        return f"the summary ended with {(status, error)}, and not {end}"
     return summary.differs(out, summary.summary(read, data))
 
 

@@ -8,7 +8,8 @@ import tomllib
 from random import Random
 from typing import Iterator, Optional
 
-from .lint import Path, Place, shown_path
+from .lint import Place, shown_path
+from .settings import Path
 
 #: A key and the text of its value.
 Entry = tuple[Path, str]
@@ -70,6 +71,16 @@ class _Writer:
         self.put(self.random.choice(["=", " = ", " =", "\t=\t"]))
         self.put(value)
 
+    def header(self, opening: str, table: Path, closing: str) -> None:
+        """The line of a header."""
+        self.space()
+        self.put(opening)
+        self.space()
+        self.key((), table)
+        self.space()
+        self.put(closing)
+        self.end_line()
+
     def inline(self, table: Path, path: Path, members: list[Entry]) -> None:
         """A key and a table of these members, in one line."""
         self.key(table, path)
@@ -116,22 +127,12 @@ def _write(random: Random, writer: _Writer, entries: list[Entry]) -> None:
         writer.end_line()
     for table, own in headed.items():
         if table:
-            writer.space()
-            writer.put("[")
-            writer.space()
-            writer.key((), table)
-            writer.space()
-            writer.put("]")
-            writer.end_line()
+            writer.header("[", table, "]")
         _write_lines(random, writer, table, own)
-    if random.random() < 0.1:
-        for name in ("lists", "lists"):
-            writer.put("[[")
-            writer.key((), (name,))
-            writer.put("]]")
-            writer.end_line()
-            writer.pair((name,), ("hystrix",), "1")
-            writer.end_line()
+    for _ in range(random.choice([0] * 9 + [2])):
+        writer.header("[[", ("lists",), "]]")
+        writer.pair(("lists",), ("hystrix",), "1")
+        writer.end_line()
 
 
 def _write_lines(random: Random, writer: _Writer, table: Path, entries: list[Entry]) -> None:

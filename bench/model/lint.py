@@ -7,9 +7,8 @@ from dataclasses import dataclass
 from typing import Any, Callable, Iterator, Optional
 
 from . import settings
-from .settings import COMMAND_PROPERTIES, PROPERTIES, Property, Refused, Subject, Values
+from .settings import COMMAND_PROPERTIES, PROPERTIES, Path, Property, Refused, Subject, Values, at, path_of
 
-Path = tuple[str, ...]
 Place = tuple[int, int]
 
 #: Names of more bytes are not shown.
@@ -92,24 +91,6 @@ class Finding:
             "range": self.range,
             "severity": "error" if self.is_error else "warning",
         }
-
-
-def path_of(wanted: Property, name: str) -> Path:
-    """Where the property of the name stands."""
-    if wanted is settings.AUDIT_STEPS:
-        return ("service", "auditSteps")
-    if wanted is settings.SLOTS:
-        return ("service", "slots", name)
-    return (*wanted.of.split("."), name, *wanted.name.split("."))
-
-
-def at(tree: Any, path: Path) -> Any:
-    """The value at a path; None where a part of it is missing or no table."""
-    for part in path:
-        if not isinstance(tree, dict) or part not in tree:
-            return None
-        tree = tree[part]
-    return tree
 
 
 def shown(text: str) -> str:

@@ -8,8 +8,7 @@ from random import Random
 from typing import Any, Optional
 
 from .layout import Entry
-from .lint import Path
-from .settings import COMMAND_PROPERTIES, POOL_PROPERTIES, Property
+from .settings import COMMAND_PROPERTIES, POOL_PROPERTIES, Path, Property
 
 #: Values that bring a rule into play soon.
 CHOICES: dict[str, list[Any]] = {

@@ -75,6 +75,7 @@ POOL_PROPERTIES = (
 PROPERTIES = (AUDIT_STEPS, SLOTS, *COMMAND_PROPERTIES, *POOL_PROPERTIES)
 
 Values = dict[str, Any]
+Path = tuple[str, ...]
 
 
 class Refused(Exception):
@@ -172,9 +173,18 @@ def _is_of_64_bits(value: Any) -> bool:
     return not isinstance(value, int) or -(1 << 63) <= value < 1 << 63
 
 
-def _at(tree: Any, path: str) -> Any:
-    """The value at a dotted path; None where a part of it is missing or no table."""
-    for part in path.split("."):
+def path_of(wanted: Property, name: str) -> Path:
+    """Where the property of the name stands."""
+    if wanted is AUDIT_STEPS:
+        return ("service", "auditSteps")
+    if wanted is SLOTS:
+        return ("service", "slots", name)
+    return (*wanted.of.split("."), name, *wanted.name.split("."))
+
+
+def at(tree: Any, path: Path) -> Any:
+    """The value at a path; None where a part of it is missing or no table."""
+    for part in path:
         if not isinstance(tree, dict) or part not in tree:
             return None
         tree = tree[part]
@@ -182,7 +192,7 @@ def _at(tree: Any, path: str) -> Any:
 
 
 def names_of(tree: Values) -> list[str]:
-    names = _at(tree, "service.groups")
+    names = at(tree, ("service", "groups"))
     if not isinstance(names, list) or not 1 <= len(names) <= MOST_GROUPS or not all(isinstance(x, str) for x in names):
         raise Refused("2 no groups")
     for place, name in enumerate(names, 1):
@@ -206,7 +216,7 @@ def _check_service(tree: Values, names: list[str]) -> None:
 
 def further_of(tree: Values, names: list[str]) -> dict[str, str]:
     """From each further command to its group, by the bytes of their names."""
-    commands = _at(tree, "service.command")
+    commands = at(tree, ("service", "command"))
     commands = commands if isinstance(commands, dict) else {}
     found: dict[str, str] = {}
     for place, name in enumerate(sorted(commands, key=str.encode), 1):
@@ -232,11 +242,8 @@ def _subject(tree: Values, name: str, properties: tuple[Property, ...]) -> Subje
 
 
 def _in_force(tree: Values, name: str, wanted: Property) -> Any:
-    if wanted is AUDIT_STEPS:
-        return _at(tree, wanted.name)
-    table = _at(tree, wanted.of)
     for key in (name, "default"):
-        value = _at(table, key) if wanted is SLOTS else _at(_at(table, key), wanted.name)
+        value = at(tree, path_of(wanted, key))
         if value is not None:
             return value
     return wanted.built_in
