@@ -1,6 +1,5 @@
 -- Lists and names:
 pub mod Lists  -- lists of which one item is new or changed, or that have one item for each of another list
-pub mod Keys  -- keys by which names are looked up, where they lie
 pub mod Naming  -- groups by name and number, one of which is new or was retired
 pub mod Finding  -- a further command, found by the hash of its name
 pub mod FoundFrom  -- where the further commands of each group stand in their list, found from the end of the list on

@@ -138,8 +138,8 @@ pub(crate) fn further_command(
 ) -> Option<(u32, u8)>
     ensures { result ≡ option_map (λ c. c.1) (find (λ c. bytes_eq c.0 name.now) commands.now.entries) }
 {
-    match &Text::new(name) {
-        Ok(key) => commands.get(key).copied(),
+    match Text::new(name) {
+        Ok(key) => commands.get(&key).copied(),
         Err(_) => listed_command(commands, name),
     }
 }

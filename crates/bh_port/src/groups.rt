@@ -106,12 +106,10 @@ impl Groups {
         ensures there { IfSome result (λ number. IsSome (entry_at self.now.entries number)) }
     {
         let numbers = &self.numbers;
-        // The key is looked at where it lies: a copy would have to wait until all of it is written.
-        let key = Text::new(name);
-        let Ok(key) = &key else {
+        let Ok(key) = Text::new(name) else {
             return None;
         };
-        let number = *numbers.get(key)?;
+        let number = *numbers.get(&key)?;
         if self.entry(GroupId(number)).is_some() {
             Some(number)
         } else {

@@ -91,11 +91,10 @@ pub fn group_number(groups: &IndexMap<Text<32>, GroupProps>, name: &str) -> Opti
     ensures number { result ≡ group_number (map (λ group. group.0) groups.now.entries) name.now }
     ensures within { IfSome result (λ number. number < length groups.now.entries) }
 {
-    let key = Text::new(name);
-    let Ok(key) = &key else {
+    let Ok(key) = Text::new(name) else {
         return place_of(groups, name);
     };
-    let number = groups.get_index_of(key)?;
+    let number = groups.get_index_of(&key)?;
     Some(number as u64)
 }
 

@@ -1,7 +1,6 @@
 use Rattle.std.proofs.Common.{◌∙◌}
 use Rattle.bh_port.proofs.Finding.{lookup-key}
-use Rattle.bh_port.proofs.Keys.{key-made}
 use Rattle.bh_port.proofs.commands.further_command.Goals as goal
 
 pub returns-in-Ok : goal.returns-in-Ok
-returns-in-Ok c = c.copied.ensures ∙ c.get.ensures.value ∙ lookup-key _ _ _ (key-made c.new.result _ _ c.in-Ok.is c.new.ensures.ok)
+returns-in-Ok c = c.copied.ensures ∙ c.get.ensures.value ∙ lookup-key _ _ _ c.in-Ok.ensures.ok

@@ -1,7 +1,6 @@
 use Rattle.std.proofs.Common.{◌≡◌, ◌≤◌, ◌<◌, ℕ, true, false, length, sym, ◌∙◌, ap, arith}
 use Rattle.bh_port.specs.Entries.{number_of}
 use Rattle.bh_port.specs.GroupsView.{GroupsView}
-use Rattle.bh_port.proofs.Keys.{key-refused}
 use Rattle.bh_port.proofs.Naming.{number-long}
 use Rattle.bh_port.proofs.groups.Groups.number.Goals as goal
 
@@ -13,5 +12,5 @@ longer n h = beyond n (λ within. let none : false ≡ true = h within in cc)
 
 pub returns-in_default-clause-number : goal.returns-in_default-clause-number
 returns-in_default-clause-number c =
-    let long = longer (length c.args.name.now) (λ within. key-refused c.new-key.result c.in_default.field-0 c.in_default.is (c.new-key.ensures.variant.1 within)) in
+    let long = longer (length c.args.name.now) c.in_default.ensures.variant.1 in
     sym (number-long c.self.inside.entries.items c.args.name.now long c.self.invariant.0.short) ∙ ap (λ (g : GroupsView). number_of g.entries c.args.name.now) c.self.view_is
