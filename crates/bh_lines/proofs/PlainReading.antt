@@ -1,9 +1,10 @@
 -- Plain lines: the tokens that their bytes are, and the members of these.
-use Rattle.std.proofs.Common.{◌≡◌, ℕ, Bool, suc, ◌+◌, ◌-◌, ◌^◌, ◌<◌, ◌≤◌, true, false, cond, ◌==◌, List, [], ◌∷◌, ◌++◌, length, take, drop, get_or, Some, refl, sym, ap, ap₂, ◌∙◌, subst, arith, take-append-drop, length-take-le, get_or-take, append-nil, lt-ltb, ne_eqb, length-append, length-drop}
+use Rattle.std.proofs.Common.{◌≡◌, ℕ, Bool, suc, ◌+◌, ◌-◌, ◌^◌, ◌<◌, ◌≤◌, true, false, cond, ◌==◌, List, [], ◌∷◌, ◌++◌, length, take, drop, get_or, Some, refl, sym, ap, ap₂, ◌∙◌, subst, arith, take-append-drop, length-take-le, get_or-take, append-nil, lt-ltb, ne_eqb, length-append, length-drop, IsUtf8, IsCharBoundary}
 use Rattle.std.proofs.Common.{inl, inr, eq-eqb, option_and_then, None}
 use Rattle.std.proofs.lemmas.Bool.{false≢true, eqb-true, cases_eq}
 use Rattle.std.proofs.lemmas.List.{drop_all, drop_more, drop-drop, take_all, get_or-drop, get_or_default}
 use Rattle.std.proofs.lemmas.Slice.Eq.{starts_is}
+use Rattle.std.proofs.lemmas.Str.{IsCharBoundary-after_ascii}
 use Rattle.std.proofs.lemmas.Bool.Decides.{Decides-eqb}
 use Rattle.std.specs.List.{starts_with}
 use Rattle.std.proofs.lemmas.List.Sums.{prefix_len_passes, prefix_len-le-length}
@@ -31,7 +32,7 @@ use Rattle.fast_float.proofs.Integers.{digits_len_all}
 use Rattle.serde_json.specs.Data.{unsigned, no_members}
 use Rattle.serde_json.specs.Read.{number_of, is_integer, of_members}
 use Rattle.bh_lines.specs.Flat.{is_scalar, is_whole, are_members, put_all, ReadsScalar, ReadsMembers}
-use Rattle.bh_lines.specs.Plain.{IsTextThen, IsKeyThen, IsNumberThen, IsScalarThen, IsMemberThen, behind_member}
+use Rattle.bh_lines.specs.Plain.{IsSignThen, IsTextThen, IsKeyThen, IsNumberThen, IsScalarThen, IsMemberThen, behind_member}
 use Rattle.bh_lines.specs.declared.plain.PlainMember.{PlainMember}
 use Rattle.bh_lines.specs.declared.flat.Scalar.{Scalar}
 use Rattle.bh_lines.specs.declared.flat.Scalar.TheVariants as scalars
@@ -67,6 +68,32 @@ pub no_tokens : punctuate after_value (lex between []) ≡ []
 unfolding lex punctuate
 no_tokens = refl
 
+-- ---- signs
+
+-- a sign at the place, with no space in front
+pub sign_stands : (line : List ℕ) (place sign : ℕ) → drop place line ≡ sign ∷ drop (place + 1) line → place < length line → IsSignThen line place sign (place + 1)
+sign_stands line place sign stands within = record {
+  same = ap (lex between) stands;
+  word = λ ended. ap ends_word stands ∙ ended;
+  behind = omega arith;
+  stands = ap (λ k. drop k line) (omega arith) ∙ stands;
+  within = omega (arith, within);
+}
+
+-- a sign behind the space at the place
+pub sign_behind_space : (line : List ℕ) (place sign : ℕ) → drop place line ≡ 32 ∷ drop (place + 1) line → drop (place + 1) line ≡ sign ∷ drop (place + 1 + 1) line
+    → place + 1 < length line → IsSignThen line place sign (place + 2)
+sign_behind_space line place sign space stands within =
+    let next : place + 1 + 1 ≡ place + 2 = omega arith in
+    let follows : drop (place + 1) line ≡ sign ∷ drop (place + 2) line = stands ∙ ap (λ k. sign ∷ drop k line) next in
+    record {
+      same = ap (lex between) space ∙ lex-space (drop (place + 1) line) ∙ ap (lex between) follows;
+      word = λ ended. ap ends_word space;
+      behind = omega arith;
+      stands = ap (λ k. drop k line) (omega arith) ∙ follows;
+      within = omega (arith, within);
+    }
+
 -- ---- texts
 
 lex-text : (inside found rest : List ℕ) → content plain inside ≡ Some found → lex in_string inside ≡ lex between rest
@@ -92,6 +119,29 @@ text_in_quotes line place end opens is closes =
     let escaped : inside ≡ escape s ++ 34 ∷ rest = sym (take-append-drop n inside) ∙ ap (λ l. s ++ l) tail ∙ ap (λ l. l ++ 34 ∷ rest) (sym same) in
     ap (lex between) opens ∙ lex-text inside s rest (ap (content plain) escaped ∙ content-escape s rest) (ap (lex in_string) escaped ∙ lex-escape s rest)
 
+-- the same, where a space may stand in front of them
+pub text_behind : (line : List ℕ) (place start end : ℕ) → IsSignThen line place 34 start → end ≡ start + prefix_len is_plain (drop start line)
+    → drop end line ≡ 34 ∷ drop (end + 1) line → IsTextThen (drop place line) (take (end - start) (drop start line)) (drop (end + 1) line)
+text_behind line place start end opens is closes =
+    let behind : start - 1 + 1 ≡ start = omega (arith, opens.behind) in
+    let stands : drop (start - 1) line ≡ 34 ∷ drop (start - 1 + 1) line = opens.stands ∙ ap (λ k. 34 ∷ drop k line) (sym behind) in
+    let inside : end ≡ start - 1 + 1 + prefix_len is_plain (drop (start - 1 + 1) line) = is ∙ ap (λ k. k + prefix_len is_plain (drop k line)) (sym behind) in
+    let found = subst (λ k. IsTextThen (drop (start - 1) line) (take (end - k) (drop k line)) (drop (end + 1) line)) behind (text_in_quotes line (start - 1) end stands inside closes) in
+    opens.same ∙ ap (lex between) (sym opens.stands) ∙ found
+
+-- the byte that stands at a place
+pub byte_there : (line : List ℕ) (place byte : ℕ) → drop place line ≡ byte ∷ drop (place + 1) line → get_or line place 0 ≡ byte
+byte_there line place byte stands =
+    let at_place : place + 0 ≡ place = omega arith in
+    ap (λ k. get_or line k 0) (sym at_place) ∙ sym (get_or-drop place line 0 0) ∙ ap (λ l. get_or l 0 0) stands
+
+-- a sign is a letter of its own, behind which a text may be cut
+pub sign_is_boundary : (line : List ℕ) (place sign next : ℕ) → sign < 128 → IsUtf8 line → IsSignThen line place sign next → IsCharBoundary line next
+sign_is_boundary line place sign next small utf8 there =
+    let behind : next - 1 + 1 ≡ next = omega (arith, there.behind) in
+    let byte = byte_there line (next - 1) sign (there.stands ∙ ap (λ k. sign ∷ drop k line) (sym behind)) in
+    subst (λ k. IsCharBoundary line k) behind (IsCharBoundary-after_ascii line (next - 1) utf8 (omega (arith, there.behind, there.within)) (omega (arith, byte, small)))
+
 -- ---- keys
 
 punctuate-key : (p : Place) (s : List ℕ) (ls : List Lexeme) → may_begin p ≡ true → punctuate p (token (Token.string s) ∷ colon ∷ ls) ≡ Token.key s ∷ punctuate fresh ls
@@ -102,11 +152,10 @@ punctuate-key after_comma s ls may = refl
 punctuate-key after_key s ls may = absurd (false≢true may)
 
 -- a text in quotes and a colon are a key
-pub key_is : (text start name behind mark after rest : List ℕ) → lex between start ≡ lex between text → IsTextThen start name behind → lex between mark ≡ lex between behind
-    → mark ≡ 58 ∷ after → lex between rest ≡ lex between after → IsKeyThen text name rest
-key_is text start name behind mark after rest spaces found more_spaces is last_spaces p may =
+pub key_is : (text name behind rest : List ℕ) → IsTextThen text name behind → lex between behind ≡ lex between (58 ∷ rest) → IsKeyThen text name rest
+key_is text name behind rest found colon_follows p may =
     let lexed : lex between text ≡ token (Token.string name) ∷ colon ∷ lex between rest =
-    sym spaces ∙ found ∙ ap (λ l. token (Token.string name) ∷ l) (sym more_spaces ∙ ap (lex between) is ∙ lex-colon after ∙ ap (λ l. colon ∷ l) (sym last_spaces)) in
+    found ∙ ap (λ l. token (Token.string name) ∷ l) (colon_follows ∙ lex-colon rest) in
     ap (punctuate p) lexed ∙ punctuate-key p name (lex between rest) may
 
 -- ---- scalars
@@ -125,6 +174,15 @@ number_scalar text rest n found = record {
   scalar = ap is_whole found.is_found;
   reads = λ ts. (json.number found.digits, λ depth. value_is depth _, rw found.is_found);
   lexed = λ ended. ap (lex between) found.split ∙ lex-number found.digits rest found.is_number ended;
+}
+
+-- a space in front of a scalar plays no part
+pub scalar_behind : (text start rest : List ℕ) (s : Scalar) → lex between start ≡ lex between text → IsScalarThen start s rest → IsScalarThen text s rest
+scalar_behind text start rest s same found = record {
+  token = found.token;
+  scalar = found.scalar;
+  reads = found.reads;
+  lexed = λ ended. sym same ∙ found.lexed ended;
 }
 
 lex-true : (rest : List ℕ) → ends_word rest ≡ true → lex between (116 ∷ 114 ∷ 117 ∷ 101 ∷ rest) ≡ token (Token.boolean true) ∷ lex between rest
@@ -204,19 +262,19 @@ scalar_end Token.null ls h = refl
 scalar_end Token.bad ls h = absurd (false≢true h)
 
 module _
-    (text name behind_name behind_value end rest : List ℕ) (value : Scalar)
+    (text name behind_name behind_value rest : List ℕ) (value : Scalar)
     (key : IsKeyThen text name behind_name) (found : IsScalarThen behind_name value behind_value)
-    (same : lex between end ≡ lex between behind_value) (word_ends : ends_word end ≡ true → ends_word behind_value ≡ true)
   where
-    pub comma_follows : end ≡ 44 ∷ rest → (p : Place) → may_begin p ≡ true → punctuate p (lex between text) ≡ Token.key name ∷ found.token ∷ punctuate after_comma (lex between rest)
-    comma_follows is p may =
-        let lexed = found.lexed (word_ends (ap ends_word is)) ∙ ap (λ l. token found.token ∷ l) (sym same ∙ ap (lex between) is ∙ lex-comma rest) in
+    pub comma_follows : lex between behind_value ≡ lex between (44 ∷ rest) → ends_word behind_value ≡ true
+        → (p : Place) → may_begin p ≡ true → punctuate p (lex between text) ≡ Token.key name ∷ found.token ∷ punctuate after_comma (lex between rest)
+    comma_follows follows ended p may =
+        let lexed = found.lexed ended ∙ ap (λ l. token found.token ∷ l) (follows ∙ lex-comma rest) in
         key p may ∙ ap (λ l. Token.key name ∷ l) (ap (punctuate fresh) lexed ∙ scalar_comma found.token (lex between rest) found.scalar)
 
-    pub end_follows : end ≡ 125 ∷ rest → (p : Place) → may_begin p ≡ true
-        → punctuate p (lex between text) ≡ Token.key name ∷ found.token ∷ Token.end_object ∷ punctuate after_value (lex between rest)
-    end_follows is p may =
-        let lexed = found.lexed (word_ends (ap ends_word is)) ∙ ap (λ l. token found.token ∷ l) (sym same ∙ ap (lex between) is ∙ lex-end rest) in
+    pub end_follows : lex between behind_value ≡ lex between (125 ∷ rest) → ends_word behind_value ≡ true
+        → (p : Place) → may_begin p ≡ true → punctuate p (lex between text) ≡ Token.key name ∷ found.token ∷ Token.end_object ∷ punctuate after_value (lex between rest)
+    end_follows follows ended p may =
+        let lexed = found.lexed ended ∙ ap (λ l. token found.token ∷ l) (follows ∙ lex-end rest) in
         key p may ∙ ap (λ l. Token.key name ∷ l) (ap (punctuate fresh) lexed ∙ scalar_end found.token (lex between rest) found.scalar)
 
 -- the members that were found, and what is left of the tokens of an object behind its bracket
@@ -375,9 +433,3 @@ zero_at line bytes place same inside zero =
 -- nothing is left behind the last byte
 pub nothing_left : (line : List ℕ) (place : ℕ) → (place == length line) ≡ true → drop place line ≡ []
 nothing_left line place e = drop_all place line (omega (arith, eqb-true place (length line) e))
-
--- the byte that stands at a place
-pub byte_there : (line : List ℕ) (place byte : ℕ) → drop place line ≡ byte ∷ drop (place + 1) line → get_or line place 0 ≡ byte
-byte_there line place byte stands =
-    let at_place : place + 0 ≡ place = omega arith in
-    ap (λ k. get_or line k 0) (sym at_place) ∙ sym (get_or-drop place line 0 0) ∙ ap (λ l. get_or l 0 0) stands

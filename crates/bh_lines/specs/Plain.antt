@@ -1,5 +1,5 @@
 -- What stands in front of a text, and the tokens that it is.
-use Rattle.std.specs.Prelude.{◌≡◌, ℕ, List, ◌∷◌, ◌++◌, drop, Bool, true, false, Some}
+use Rattle.std.specs.Prelude.{◌≡◌, ℕ, ◌-◌, ◌<◌, ◌≤◌, List, ◌∷◌, ◌++◌, length, drop, Bool, true, false, Some}
 use Rattle.json.specs.Token.{Token}
 use Rattle.json.specs.Word.{ends_word}
 use Rattle.json.specs.Lex.{Place, fresh, after_value, after_comma, may_begin, between, lex, punctuate}
@@ -10,6 +10,14 @@ use Rattle.serde_json.specs.Read.{number_of}
 use Rattle.bh_lines.specs.Flat.{is_scalar, ReadsScalar}
 use Rattle.bh_lines.specs.declared.flat.Scalar.{Scalar}
 use Rattle.bh_lines.specs.declared.plain.PlainMember.{PlainMember}
+
+-- behind a space at most stands this sign, and `next` is the place behind it
+pub record IsSignThen (line : List ℕ) (place : ℕ) (sign : ℕ) (next : ℕ) : Type 0 where
+  pub same : lex between (drop place line) ≡ lex between (sign ∷ drop next line)
+  pub word : ends_word (sign ∷ drop next line) ≡ true → ends_word (drop place line) ≡ true
+  pub behind : 0 < next
+  pub stands : drop (next - 1) line ≡ sign ∷ drop next line
+  pub within : next ≤ length line
 
 -- the text begins with a string of this content, and `rest` follows
 abbrev pub IsTextThen : List ℕ → List ℕ → List ℕ → Type 0

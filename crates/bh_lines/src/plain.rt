@@ -5,11 +5,10 @@
 //! goes into it.
 
 ghost use Rattle.std.specs.Prelude.{◌≡◌, ◌+◌, ◌<◌, ◌≤◌, [], ◌∷◌, ◌++◌, length, drop, true, Some, IfSome};
-ghost use Rattle.json.specs.Word.{ends_word};
 ghost use Rattle.json.specs.Lex.{between, lex, tokens};
 ghost use Rattle.serde_json.specs.Read.{read};
 ghost use Rattle.bh_lines.specs.Flat.{is_flat, flat_data};
-ghost use Rattle.bh_lines.specs.Plain.{IsTextThen, IsKeyThen, IsNumberThen, IsScalarThen, IsMemberThen};
+ghost use Rattle.bh_lines.specs.Plain.{IsTextThen, IsKeyThen, IsNumberThen, IsScalarThen, IsMemberThen, IsSignThen};
 
 use crate::flat::{FlatMember, MOST_MEMBERS, Scalar};
 use crate::stops::plain_end;
@@ -60,21 +59,18 @@ fn plain_member(line: &str, place: usize) -> Option<PlainMember<'_>>
     let (name, behind_name) = plain_key(line, place)?;
     let (value, behind_value) = plain_scalar(line, behind_name)?;
     let member = FlatMember { name, value };
-    let end = past_space(line, behind_value);
-    if is_at(line, end, b',') {
+    if let Some(next) = behind_sign(line, behind_value, b',') {
         return Some(PlainMember {
             member,
             is_last: false,
-            next: end + 1,
+            next,
         });
     }
-    if !is_at(line, end, b'}') {
-        return None;
-    }
+    let next = behind_sign(line, behind_value, b'}')?;
     Some(PlainMember {
         member,
         is_last: true,
-        next: end + 1,
+        next,
     })
 }
 
@@ -83,12 +79,9 @@ fn plain_member(line: &str, place: usize) -> Option<PlainMember<'_>>
 fn plain_key(line: &str, place: usize) -> Option<(&str, usize)>
     ensures { IfSome result (λ found. IsKeyThen (drop place line.now) found.0.now (drop found.1 line.now)) }
 {
-    let (name, behind) = plain_text(line, past_space(line, place))?;
-    let colon = past_space(line, behind);
-    if !is_at(line, colon, b':') {
-        return None;
-    }
-    Some((name, past_space(line, colon + 1)))
+    let (name, behind) = plain_text(line, place)?;
+    let value = behind_sign(line, behind, b':')?;
+    Some((name, value))
 }
 
 /// The scalar at the place, and the place behind it.
@@ -99,10 +92,11 @@ fn plain_scalar(line: &str, place: usize) -> Option<(Scalar<'_>, usize)>
     if let Some((text, next)) = plain_text(line, place) {
         return Some((Scalar::Text(text), next));
     }
-    if let Some((number, next)) = plain_number(line, place) {
+    let start = past_space(line, place);
+    if let Some((number, next)) = plain_number(line, start) {
         return Some((Scalar::Number(number), next));
     }
-    plain_word(line, place)
+    plain_word(line, start)
 }
 
 /// The truth value or null at the place, and the place behind it.
@@ -160,21 +154,35 @@ fn plain_number(line: &str, place: usize) -> Option<(u64, usize)>
 fn plain_text(line: &str, place: usize) -> Option<(&str, usize)>
     ensures { IfSome result (λ found. IsTextThen (drop place line.now) found.0.now (drop found.1 line.now)) }
 {
-    if !is_at(line, place, b'"') {
-        return None;
-    }
-    let end = plain_end(line.as_bytes(), place + 1);
+    let start = behind_sign(line, place, b'"')?;
+    let end = plain_end(line.as_bytes(), start);
     if !is_at(line, end, b'"') {
         return None;
     }
-    Some((&line[place + 1..end], end + 1))
+    Some((&line[start..end], end + 1))
+}
+
+/// The place behind the sign, where it stands at this place or behind one space: a second space in a row is not plain.
+///
+/// The sign is looked for before the space, so that most signs are found by one look, and what is read next need not wait
+/// until it is known whether a space was there.
+#[inline(always)]
+fn behind_sign(line: &str, place: usize, sign: u8) -> Option<usize>
+    ensures { IfSome result (IsSignThen line.now place sign) }
+{
+    if is_at(line, place, sign) {
+        return Some(place + 1);
+    }
+    if is_at(line, place, b' ') && is_at(line, place + 1, sign) {
+        return Some(place + 2);
+    }
+    None
 }
 
 /// The place behind the space that stands at this one, if one does: a second space in a row is not plain.
 #[inline(always)]
 fn past_space(line: &str, place: usize) -> usize
-    ensures same { lex between (drop result line.now) ≡ lex between (drop place line.now) }
-    ensures word { ends_word (drop result line.now) ≡ true → ends_word (drop place line.now) ≡ true }
+    ensures { lex between (drop result line.now) ≡ lex between (drop place line.now) }
 {
     if is_at(line, place, b' ') {
         place + 1

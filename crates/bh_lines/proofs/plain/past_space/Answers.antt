@@ -3,8 +3,8 @@ use Rattle.json.specs.Lex.{between, lex}
 use Rattle.bh_lines.proofs.PlainReading.{lex-space}
 use Rattle.bh_lines.proofs.plain.past_space.Goals as goal
 
-pub returns-then-is_at-clause-same : goal.returns-then-is_at-clause-same
-returns-then-is_at-clause-same c =
+pub returns-then-is_at : goal.returns-then-is_at
+returns-then-is_at c =
     let line = c.args.line.now in
     let place = c.args.place in
     let is : drop place line ≡ 32 ∷ drop (place + 1) line = c.if-is_at.ensures.stands refl in
