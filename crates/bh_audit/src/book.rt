@@ -264,12 +264,13 @@ fn journal_behind(
     Journal::new(alloc, steps)
 }
 
-/// The group makes a step, so a ticket of it may be due at any moment.
+/// The group makes a step, so a ticket of it may be due at any moment. Where that is known nothing is written: the moments of
+/// several groups lie on one line of the cache, which a write takes from all other processors.
 fn end_quiet(quiet_until: &mut Vec<Moment>, group: GroupId)
     ensures { quiet_until.new.items ≡ slice_set quiet_until.old.items group.0 0 }
 {
     let place = group.0;
-    if place < quiet_until.len() as u64 {
+    if place < quiet_until.len() as u64 && quiet_until[place as usize] != 0 {
         quiet_until[place as usize] = 0;
     }
 }

@@ -21,8 +21,9 @@ use std::alloc::Global;
 use std::hint::spin_loop;
 use std::sync::{Mutex, MutexGuard, Wait};
 
-/// How often a thread tries to take the lock before it sleeps until the lock is free.
-const TRIES: u32 = 200;
+/// How often a thread tries to take the lock before it sleeps until the lock is free: for about as long as a few turns take.
+/// Each try takes the lock's line of the cache from whoever has the lock, so more of them hold up the turn that all wait for.
+const TRIES: u32 = 30;
 
 /// What lies under the lock, behind so many bytes that nobody uses: threads that try for the lock write to its line of the
 /// cache again and again, and on that line must be nothing that whoever has the lock reads.
