@@ -16,6 +16,7 @@ use bh_audit::{Book, Shared};
 use bh_control::session::Buffers;
 use bh_port::script::open;
 use bh_props::Settings;
+use crossbeam_utils::CachePadded;
 use std::alloc::{AllocError, AllocFailed, Global};
 use std::io::Write;
 use std::net::{OpenListener, TcpListener, TcpStream};
@@ -211,11 +212,12 @@ fn serve<R: Threads + Wait + Clock + Sync, L: OpenListener<Stream = TcpStream> +
     Ok(server.run(output))
 }
 
-/// What so many threads of connections keep from one to the next.
-fn buffers(alloc: Global, threads: u32) -> Result<Vec<Mutex<Buffers>>, AllocError> {
+/// What so many threads of connections keep from one to the next: those of each on lines of the cache of their own, since the
+/// thread writes there with each line that it answers.
+fn buffers(alloc: Global, threads: u32) -> Result<Vec<CachePadded<Mutex<Buffers>>>, AllocError> {
     let mut buffers = Vec::new(alloc);
     for _ in 0..threads {
-        buffers.push(Mutex::new(Buffers::with_room(alloc)?))?;
+        buffers.push(CachePadded::new(Mutex::new(Buffers::with_room(alloc)?)))?;
     }
     Ok(buffers)
 }

@@ -16,6 +16,7 @@ use bh_control::session::{Buffers, converse_in};
 use bh_lines::PortError;
 use bh_streams::{WatchedReader, WatchedWriter};
 use bh_workers::{timer_loop, worker_loop};
+use crossbeam_utils::CachePadded;
 use std::alloc::Global;
 use std::io::Write;
 use std::net::{OpenListener, TcpStream};
@@ -41,7 +42,7 @@ pub struct Server<'e, R, L> {
     pub echo: &'e Echo<'e, R>,
     pub clock: &'e MachineClock<'e, R>,
     /// What each thread of connections keeps from one to the next, by its number.
-    pub buffers: &'e [Mutex<Buffers>],
+    pub buffers: &'e [CachePadded<Mutex<Buffers>>],
     pub connections: Connections<'e, R, L>,
 }
 

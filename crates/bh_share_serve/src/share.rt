@@ -17,6 +17,7 @@ use bh_serve::report::Report;
 use bh_serve::serve::ServeError;
 use bh_serve::{Acceptor, Door, Reports};
 use bh_sharing::SharedGroups;
+use crossbeam_utils::CachePadded;
 use std::alloc::{AllocError, Global};
 use std::io::Write;
 use std::net::{OpenListener, TcpStream};
@@ -127,11 +128,11 @@ fn share<
     Ok(server.run(record, output))
 }
 
-/// What so many threads of connections keep from one to the next.
-fn buffers(alloc: Global, threads: u32) -> Result<Vec<Mutex<Buffers>>, AllocError> {
+/// What so many threads of connections keep from one to the next, those of each on lines of the cache of their own.
+fn buffers(alloc: Global, threads: u32) -> Result<Vec<CachePadded<Mutex<Buffers>>>, AllocError> {
     let mut buffers = Vec::new(alloc);
     for _ in 0..threads {
-        buffers.push(Mutex::new(Buffers::new(alloc)))?;
+        buffers.push(CachePadded::new(Mutex::new(Buffers::new(alloc))))?;
     }
     Ok(buffers)
 }

@@ -18,6 +18,7 @@ use bh_serve::ending::Ending;
 use bh_serve::serve::ServeError;
 use bh_sharing::{Client, SharedGroups, attend};
 use bh_streams::{WatchedReader, WatchedWriter};
+use crossbeam_utils::CachePadded;
 use std::alloc::Global;
 use std::io::Write;
 use std::net::{OpenListener, TcpStream};
@@ -58,7 +59,7 @@ pub struct Server<'e, R, L> {
     pub clock: &'e MachineClock<'e, R>,
     pub sharing: Sharing,
     /// What each thread of connections keeps from one to the next, by its number.
-    pub buffers: &'e [Mutex<Buffers>],
+    pub buffers: &'e [CachePadded<Mutex<Buffers>>],
     pub connections: Connections<'e, R, L>,
 }
 
