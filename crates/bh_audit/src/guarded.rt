@@ -17,6 +17,7 @@ use crate::pass::Pass;
 use crate::waiting::Place;
 use bh_base::Reply;
 use bh_journal::AuditReport;
+use crossbeam_utils::CachePadded;
 use std::alloc::Global;
 use std::hint::spin_loop;
 use std::sync::{Mutex, MutexGuard, Wait};
@@ -25,22 +26,17 @@ use std::sync::{Mutex, MutexGuard, Wait};
 /// Each try takes the lock's line of the cache from whoever has the lock, so more of them hold up the turn that all wait for.
 const TRIES: u32 = 30;
 
-/// What lies under the lock, behind so many bytes that nobody uses: threads that try for the lock write to its line of the
-/// cache again and again, and on that line must be nothing that whoever has the lock reads.
-#[derive(Drop)]
-struct BehindLine<const A: u32> {
-    apart: [u64; 8],
-    locked: Locked<A>,
-}
-
 /// A book and its stop mark under a lock.
 ///
 /// No contract can name what lies under it, so none can say that `ask` does no more than to hand it to `Locked::answer`,
 /// nor that `finish` tells of what the lock gives up. These two are to be read, and `take`, by which the first gets the lock;
 /// nothing else reaches a guard.
+///
+/// Threads that try for the lock write to its line of the cache again and again. On that line must be nothing that others
+/// read: neither what lies under the lock, nor what lies beside it.
 #[derive(Drop)]
 pub(crate) struct Guarded<const A: u32> {
-    lock: Mutex<BehindLine<A>>,
+    lock: CachePadded<Mutex<CachePadded<Locked<A>>>>,
 }
 
 impl<const A: u32> Guarded<A> {
@@ -53,16 +49,13 @@ impl<const A: u32> Guarded<A> {
             stopped: false,
         };
         Guarded {
-            lock: Mutex::new(BehindLine {
-                apart: [0; 8],
-                locked,
-            }),
+            lock: CachePadded::new(Mutex::new(CachePadded::new(locked))),
         }
     }
 
     /// Takes the lock. A turn is over soon, so a thread tries for a while before it sleeps until the lock is free: whoever
     /// sleeps has to be woken, and meanwhile others sleep too.
-    fn take<R: Wait>(&self, rt: &R) -> MutexGuard<'_, BehindLine<A>> {
+    fn take<R: Wait>(&self, rt: &R) -> MutexGuard<'_, CachePadded<Locked<A>>> {
         for _ in 0..TRIES {
             if let Some(guard) = self.lock.try_lock() {
                 return guard;
@@ -90,7 +83,7 @@ impl<const A: u32> Guarded<A> {
     {
         let mut guard = self.take(rt);
         for _ in rt.forever() {
-            match guard.locked.answer(ask, clock, pass, reply) {
+            match guard.answer(ask, clock, pass, reply) {
                 Some(answer) => return answer,
                 None => guard = place.wait(rt, guard),
             }
@@ -106,7 +99,7 @@ impl<const A: u32> Guarded<A> {
         ensures audited { result ≢ Err NotAudited }
     {
         let Guarded { lock } = self;
-        let BehindLine { apart: _, locked } = lock.into_inner();
+        let locked = lock.into_inner().into_inner().into_inner();
         audit(alloc, locked, passes)
     }
 }
