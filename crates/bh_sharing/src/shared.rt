@@ -12,6 +12,7 @@ use bh_desk::Turn;
 use bh_lease::Leases;
 use bh_lender::StepLog;
 use bh_share::Directory;
+use crossbeam_utils::CachePadded;
 use std::alloc::{AllocError, Global};
 use std::sync::{Condvar, Mutex, Wait};
 use std::time::Duration;
@@ -29,7 +30,8 @@ const RETRY: u64 = 10;
 #[derive(Drop)]
 pub struct SharedGroups {
     alloc: Global,
-    inside: Mutex<Locked>,
+    /// Threads that wait for the lock write to its line of the cache, on which must be nothing that others read.
+    inside: CachePadded<Mutex<CachePadded<Locked>>>,
     changed: Vec<Condvar>,
 }
 
@@ -50,7 +52,7 @@ impl SharedGroups {
         let locked = Locked::new(alloc, book, connections, log)?;
         Ok(SharedGroups {
             alloc,
-            inside: Mutex::new(locked),
+            inside: CachePadded::new(Mutex::new(CachePadded::new(locked))),
             changed,
         })
     }
@@ -67,7 +69,8 @@ impl SharedGroups {
             inside,
             changed: _,
         } = self;
-        let book = inside.into_inner().into_book();
+        let locked = inside.into_inner().into_inner().into_inner();
+        let book = locked.into_book();
         book.journals_agree();
         book
     }
@@ -129,7 +132,7 @@ impl SharedGroups {
     fn expire_some<R: Wait, C: Clock>(&self, rt: &R, clock: &C, from: u64, to: u64) {
         let mut told = Numbers::none();
         let mut locked = self.inside.lock(rt);
-        let inside = &mut *locked;
+        let inside = &mut **locked;
         for number in from..to {
             told = told.and(inside.expire(clock, GroupId(number)));
         }
