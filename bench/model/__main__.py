@@ -58,13 +58,13 @@ def check_differs(program: str, file: Path, text: str) -> Optional[str]:
     return None if told == want else f"{told}, and not {want}"
 
 
-def lint_differs(program: str, file: Path, text: str, places: dict[settings.Path, lint.Place]) -> Optional[str]:
+def lint_differs(program: str, file: Path, data: bytes, places: dict[settings.Path, lint.Place]) -> Optional[str]:
     """What the program finds in the settings otherwise than the model, whose names stand at these places."""
-    file.write_bytes(text.encode())
+    file.write_bytes(data)
     status, out, error = _run(program, "lint", file, b"", "--json")
     told = [json.loads(line) for line in out.splitlines()]
     try:
-        want = [each.told(str(file), places) for each in lint.findings(settings.tree_of(text))]
+        want = [each.told(str(file), places) for each in lint.findings(settings.tree_of(data.decode("utf-8-sig")))]
     except settings.Refused:
         is_told = len(told) == 1 and told[0]["message"].startswith("1 syntax")
         return None if is_told and status == 1 else f"{told} of what is no TOML"
@@ -98,9 +98,10 @@ def differs(program: str, file: Path, seed: int, length: int) -> Optional[str]:
     """What the program tells otherwise of the settings and the script of the seed, with both of them."""
     source = random.Random(seed)
     text, places = layout.write(source, random_settings.lint_entries(source))
-    found = lint_differs(program, file, text, places)
+    encoding = source.choice(["utf-8", "utf-8", "utf-8-sig"])
+    found = lint_differs(program, file, text.encode(encoding), places)
     if found is not None:
-        return f"{found}\n--- settings\n{text}"
+        return f"{found}\n--- settings, {encoding}\n{text}"
     doubtful = random_settings.doubtful_text(source)
     found = check_differs(program, file, doubtful)
     if found is not None:

@@ -120,14 +120,16 @@ impl Shared {
         Ok(self.blank_pass(alloc, group, room)?)
     }
 
-    /// A pass as `pass` gives it, of a group that may be registered or not: it takes no lock. Where the group is not
-    /// registered, the calls answer `NoGroup`. The error comes where memory for the receipts of an audited service was
-    /// refused; nothing has changed then.
+    /// A pass as `pass` gives it, of a group that may be registered or not: it takes no lock, and memory in an audited
+    /// service alone. Where the group is not registered, the calls answer `NoGroup`. The error comes where memory for the
+    /// receipts of an audited service was refused; nothing has changed then.
     pub fn blank_pass(&self, alloc: Global, group: GroupId, room: u64) -> Result<Pass, AllocError>
         ensures blank { IfOk result (λ p. p ≡ blank group (if self.now.audited then room else 0)) }
         ensures memory { IsErr result → self.now.audited ≡ true }
     {
-        let room = if self.audited() { room } else { 0 };
+        if !self.audited() {
+            return Ok(Pass::without_room(alloc, group));
+        }
         Pass::new(alloc, group, room)
     }
 

@@ -15,6 +15,7 @@ mod fallback;
 mod looks;
 mod runs;
 mod submit;
+mod written;
 
 use crate::command::Command;
 use crate::service::entry::Registration;

@@ -1,5 +1,8 @@
 //! Places in a text.
 
+/// What may stand in front of a text to say that it is UTF-8. No editor shows it, so it takes no column.
+const BYTE_ORDER_MARK: [u8; 3] = [0xEF, 0xBB, 0xBF];
+
 /// A place in a text: its line and its column there, both from 1. A column counts characters.
 #[derive(Clone, Copy)]
 pub struct Place {
@@ -43,11 +46,16 @@ impl Place {
 }
 
 impl<'a> Cursor<'a> {
-    /// One before the text.
+    /// One before the text, and behind a byte order mark in front of it.
     pub(crate) fn new(bytes: &'a [u8]) -> Cursor<'a> {
+        let offset = if bytes.starts_with(&BYTE_ORDER_MARK) {
+            BYTE_ORDER_MARK.len()
+        } else {
+            0
+        };
         Cursor {
             bytes,
-            offset: 0,
+            offset,
             place: Place::FIRST,
         }
     }

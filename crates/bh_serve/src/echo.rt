@@ -1,7 +1,7 @@
 //! The dependency of a service that is tried out: it gives each argument back, save a few that fail or take their time.
 
 ghost use Rattle.std.specs.Prelude.{◌≡◌, codes};
-ghost use Rattle.bh_serve.specs.Echo.{run_end, fallback_end, echoed};
+ghost use Rattle.bh_serve.specs.Echo.{run_end, fallback_end};
 
 use bh_base::{Cause, FallbackEnd, GroupId, RunEnd, Text};
 use bh_workers::Dependency;
@@ -89,25 +89,20 @@ fn sleep_of(arg: &str) -> Option<u64> {
     digits.parse().ok()
 }
 
-/// How a run of the argument ends.
+/// How a run of the argument ends: every argument is short enough for a body. It returns from where it knows, since the ends
+/// of a `match` would be copied once more behind it.
 fn run_end(arg: &str) -> RunEnd
     ensures { result ≡ run_end arg.now }
 {
     match arg {
-        "fail" | "fail twice" | "fail bare" => RunEnd::Failure,
-        "bad" => RunEnd::BadRequest,
-        _ => echoed(arg),
+        "fail" | "fail twice" | "fail bare" => return RunEnd::Failure,
+        "bad" => return RunEnd::BadRequest,
+        _ => {}
     }
-}
-
-/// The argument as a body: every argument is short enough.
-fn echoed(arg: &str) -> RunEnd
-    ensures { result ≡ echoed arg.now }
-{
-    match Text::new(arg) {
-        Ok(body) => RunEnd::Success(body),
-        Err(_) => RunEnd::Failure,
-    }
+    let Ok(body) = Text::new(arg) else {
+        return RunEnd::Failure;
+    };
+    RunEnd::Success(body)
 }
 
 /// How the fallback of the argument ends.

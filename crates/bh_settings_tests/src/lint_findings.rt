@@ -51,6 +51,20 @@ fn a_file_that_is_no_toml_is_told_with_its_place(rt: HostRuntime) {
     assert_status(&rt, "x ==", 1, 1);
 }
 
+#[test]
+fn a_byte_order_mark_takes_no_column(rt: HostRuntime) {
+    assert_lines(
+        &rt,
+        "\u{feff}service.groups = ['a', 'b c']\n",
+        "f:1:1: error: 3 bad name at 2: it is not 1 to 32 letters, digits, `_` and `-`, or is `default`\n",
+    );
+    assert_lines(
+        &rt,
+        "\u{feff}  x == 3\n",
+        "f:1:6: error: 1 syntax: invalid value, expected a string, number, boolean, date-time, array or inline table\n",
+    );
+}
+
 /// Names that are refused, each with the line that is told.
 const REFUSED_NAMES: [(&str, &str); 5] = [
     (

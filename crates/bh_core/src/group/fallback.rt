@@ -11,6 +11,7 @@ ghost use Rattle.bh_core.specs.GroupView.{HasTickets, Leaves, view_in};
 ghost use Rattle.bh_tickets.specs.TicketsView.{IsFirstAt, group_at};
 
 use super::Group;
+use super::written::write_answered;
 use bh_base::{Answer, Cause, EventKind, FallbackEnd, FallbackFault, Reply, Serial, TicketState};
 use bh_tickets::Tickets;
 
@@ -30,7 +31,7 @@ impl Group {
                 match &ticket.state {
                     TicketState::Answered(answer) => {
                         // Before the ticket changes, so that the answer is copied once.
-                        *reply = Reply::Answered(*answer);
+                        write_answered(answer, reply);
                         tickets.release_holder(self.place, slot);
                         return;
                     }

@@ -12,6 +12,7 @@ ghost use Rattle.bh_tickets.specs.Changes.{state_after};
 ghost use Rattle.bh_tickets.specs.TicketsView.{group_at};
 
 use super::Group;
+use super::written::{write_assigned, write_done};
 use bh_base::{End, EventKind, Reply, Serial, Strategy, Text};
 use bh_tickets::{RunEnd, Tickets, is_running};
 
@@ -31,11 +32,7 @@ impl Group {
             None => *reply = Reply::Idle,
             Some(slot) => {
                 let ticket = tickets.get(self.place, slot);
-                *reply = Reply::Assigned {
-                    serial: ticket.serial,
-                    command: ticket.command,
-                    arg: ticket.arg,
-                };
+                write_assigned(ticket, reply);
                 tickets.start_run(self.place, slot);
             }
         }
@@ -147,7 +144,7 @@ impl Group {
                 tickets.end_run(self.place, slot, run_end);
                 self.record(command, kind);
                 self.tell_circuit(command, serial, end);
-                *reply = Reply::Done;
+                write_done(reply);
             }
         }
     }

@@ -11,6 +11,7 @@ ghost use Rattle.bh_tickets.specs.NewTicket.{is_busy_from, state_from};
 ghost use Rattle.bh_tickets.specs.TicketsView.{group_at};
 
 use super::Group;
+use super::written::{write_inline, write_queued};
 use bh_admit::pool_admits;
 use bh_base::{Admit, Cause, End, EventKind, Health, Reply, Request, Serial, Strategy};
 use bh_tickets::{NewTicket, TicketStart, Tickets};
@@ -246,19 +247,4 @@ impl Group {
         };
         tickets.push(self.place, &new);
     }
-}
-
-/// The reply to a request that the caller runs, written where it is kept: a function that makes several replies clears the
-/// room for each as it begins.
-fn write_inline(serial: Serial, reply: &mut Reply)
-    ensures { reply.new ≡ Reply.Inline serial }
-{
-    *reply = Reply::Inline(serial);
-}
-
-/// The reply to a request that waits, written where it is kept.
-fn write_queued(serial: Serial, reply: &mut Reply)
-    ensures { reply.new ≡ Reply.Queued serial }
-{
-    *reply = Reply::Queued(serial);
 }
