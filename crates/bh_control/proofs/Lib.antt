@@ -1,4 +1,4 @@
-pub mod Floatless
 pub mod Pieces
 pub mod Progress
 pub mod Holding
+pub mod Listed

@@ -1,20 +1,18 @@
 //! The lines that answer control lines.
 
-ghost use Rattle.std.specs.Prelude.{◌≡◌, length, map, ◌<◌, ◌++◌, ◌∷◌, [], true, Result, IfOk, OnOk, OnErr, Ok, Err, None, string_bytes};
-ghost use Rattle.serde_json.specs.Data.{array, string};
-ghost use Rattle.serde_json.specs.View.{view};
+ghost use Rattle.std.specs.Prelude.{◌≡◌, length, ◌<◌, ◌++◌, [], true, Result, IfOk, OnOk, OnErr, Ok, Err, None};
 ghost use Rattle.bh_control.specs.ControlLine.{IsOfGroups};
 ghost use Rattle.bh_base.specs.declared.reply.Answer.{Answer};
 ghost use Rattle.bh_base.specs.declared.reply.CallError.{CallError};
 ghost use Rattle.bh_base.specs.declared.reply.Reply.{Reply};
 ghost use Rattle.bh_replies.specs.ReplyLine.{reply_line};
-ghost use Rattle.bh_control.specs.AnswerLine.{responder, texts_data, groups_data, groups_line, answer_line, may_wait, IsPut, IsAnswer};
+ghost use Rattle.bh_control.specs.AnswerLine.{responder, answer_line, may_wait, IsPut, IsAnswer};
 
 use crate::control::Control;
 use crate::control_line::{Asked, ControlLine};
-use bh_base::{Answer, CallError, GroupId, Reply, Request, Text};
-use bh_replies::{json_line, put_error, put_fault, put_reply};
-use serde_json::{Value, json};
+use crate::groups_line::put_groups;
+use bh_base::{Answer, CallError, GroupId, Reply, Request};
+use bh_replies::{put_error, put_fault, put_reply};
 use std::alloc::{AllocError, Global};
 
 /// Answers what a line asks, or its fault: puts the line of the answer behind what is in `out`.
@@ -122,46 +120,6 @@ fn put_call<C: Control>(
         Ok(()) => put_reply(alloc, out, &reply, None),
         Err(error) => put_refusal(alloc, out, error),
     }
-}
-
-/// Puts the line of the names of the groups behind what is in `out`. It fails only for want of memory, and leaves the bytes
-/// as they were then.
-#[tactic(auto, unfolding(crate::specs::AnswerLine::groups_line))]
-pub fn put_groups(alloc: Global, names: &[Text<32>], out: &mut Vec<u8>) -> Result<(), AllocError>
-    ensures ok { OnOk result (out.new.items ≡ out.old.items ++ groups_line names.now) }
-    ensures err { OnErr result (out.new.items ≡ out.old.items) }
-{
-    let value = groups_value(alloc, names)?;
-    let line = json_line(alloc, &value)?;
-    out.extend_from_slice(line.as_str().as_bytes())
-}
-
-/// The names of the groups, as a value.
-fn groups_value(alloc: Global, names: &[Text<32>]) -> Result<Value, AllocError>
-    ensures { IfOk result (λ v. view v ≡ groups_data names.now) }
-{
-    let listed = texts_value(alloc, names)?;
-    json!(in alloc; {"groups": listed, "reply": "groups"})
-}
-
-/// The texts, as an array.
-fn texts_value(alloc: Global, texts: &[Text<32>]) -> Result<Value, AllocError>
-    ensures { IfOk result (λ v. view v ≡ array (texts_data texts.now)) }
-{
-    let mut listed = Vec::new(alloc);
-    for text in texts {
-        put_text(alloc, &mut listed, text.as_str())?;
-    }
-    Ok(Value::Array(listed))
-}
-
-/// Puts a text behind what is listed.
-fn put_text(alloc: Global, listed: &mut Vec<Value>, text: &str) -> Result<(), AllocError>
-    ensures { OnOk result (map view listed.new.items ≡ map view listed.old.items ++ string text.now ∷ []) }
-{
-    let value = Value::try_from_str(alloc, text)?;
-    listed.push(value)?;
-    Ok(())
 }
 
 /// Puts the line that says why there is no answer to a call behind what is in `out`.

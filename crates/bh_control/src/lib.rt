@@ -6,11 +6,12 @@ mod answer_line;
 pub mod control;
 pub mod control_line;
 pub mod conversation;
+mod groups_line;
 mod received;
 pub mod session;
 
-pub use answer_line::put_groups;
 pub use control::Control;
 pub use control_line::ControlLine;
 pub use conversation::Conversation;
+pub use groups_line::put_groups;
 pub use session::converse;
