@@ -1,6 +1,8 @@
 //! Replies, each printed as a line of compact JSON with its members in the order of their names.
 
 ghost use Rattle.std.specs.Prelude.{◌≡◌, ◌+◌, ◌*◌, ◌≤◌, ◌++◌, ◌∷◌, [], ℕ, List, false, map, length, take, codes, decimal, Some, None, option_copied, IfOk, IsOk, OnErr, OnOk, string_bytes};
+ghost use Rattle.serde_json.specs.Data.{depth};
+ghost use Rattle.serde_json.specs.Read.{max_depth, read};
 ghost use Rattle.serde_json.specs.View.{view};
 ghost use Rattle.serde_json.specs.Written.{comma_if, has_float, compact_text};
 ghost use Rattle.json.specs.Print.{escape, quoted};
@@ -77,10 +79,12 @@ pub(crate) fn end_line(
     ended
 }
 
-/// The compact text of a value with no float, and a line feed. It fails only for want of memory.
+/// The compact text of a value with no float, and a line feed. The text, read, is the value, where it holds others no deeper
+/// than is read. It fails only for want of memory.
 pub fn json_line(alloc: Global, value: &Value) -> Result<String, AllocError>
     requires { has_float (view value.now) ≡ false }
-    ensures { IfOk result (λ s. string_bytes s ≡ json_line (view value.now)) }
+    ensures line { IfOk result (λ s. string_bytes s ≡ json_line (view value.now)) }
+    ensures reads { OnOk result (depth (view value.now) ≤ max_depth → read (compact_text (view value.now)) ≡ Some (view value.now)) }
 {
     let mut line = value.to_string(alloc)?;
     line.push('\n')?;

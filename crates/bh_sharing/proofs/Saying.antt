@@ -124,12 +124,12 @@ end-asks group now reads = ap asked_in reads
 
 -- where its line was put
 pub put-says : (names : Names) (step : Step) (found : Option (List ℕ)) (group : List ℕ) (d : Data)
-    → Some group ≡ found → d ≡ step_data names group step → is_short step.op ≡ true → read (compact_text d) ≡ Some d → IfSome found (SaysStep names step)
+    → Some group ≡ found → d ≡ step_data names group step → is_short step.op ≡ true → (depth d ≤ max_depth → read (compact_text d) ≡ Some d) → IfSome found (SaysStep names step)
 put-says names step found group d there is short reads =
-    rw (← there) (says-step names step group short (rw is at reads))
+    rw (← there) (says-step names step group short ((rw is at reads) (step-flat names group step)))
 
 pub put-says-end : (result : Result (Unit {0}) AllocError) (now : ℕ) (found : Option (List ℕ)) (group : List ℕ) (d : Data)
-    → Some group ≡ found → d ≡ end_data group now → read (compact_text d) ≡ Some d → OnOk result (IfSome found (SaysEnd now))
+    → Some group ≡ found → d ≡ end_data group now → (depth d ≤ max_depth → read (compact_text d) ≡ Some d) → OnOk result (IfSome found (SaysEnd now))
 put-says-end (Ok x) now found group d there is reads =
-    rw (← there) (end-asks group now (rw is at reads))
+    rw (← there) (end-asks group now ((rw is at reads) (lit≤ tt)))
 put-says-end (Err refused) now found group d there is reads = tt

@@ -1,25 +1,21 @@
 //! The line of a script that says a step.
 
-ghost use Rattle.std.specs.Prelude.{◌≡◌, ◌≤◌, ◌<◌, ◌++◌, ◌+◌, false, Err, IfOk, IfSome, OnErr, OnOk, Some, length, option_copied, slice_get, true};
-ghost use Rattle.serde_json.specs.Data.{depth};
-ghost use Rattle.serde_json.specs.Read.{max_depth, read};
+ghost use Rattle.std.specs.Prelude.{◌≡◌, ◌≤◌, ◌<◌, ◌++◌, ◌+◌, Err, IfOk, IfSome, OnErr, OnOk, Some, length, option_copied, slice_get, true};
 ghost use Rattle.serde_json.specs.View.{view};
-ghost use Rattle.serde_json.specs.Written.{compact_text, has_float};
 ghost use Rattle.bh_base.specs.declared.step.FallbackEnd.TheVariants as ends;
 ghost use Rattle.bh_base.specs.declared.step.Op.TheVariants as op;
 ghost use Rattle.bh_lines.specs.Lines.{line_limit};
 ghost use Rattle.bh_lines.specs.StepLine.{is_short, is_short_end};
-ghost use Rattle.bh_replies.specs.ReplyLine.{json_line};
 ghost use Rattle.bh_sharing.specs.declared.step_line.StepLineError.TheVariants as errors;
 ghost use Rattle.bh_sharing.specs.StepText.{SaysEnd, SaysStep, close_data, collect_data, end_line, fail_data, fallback_data, finish_data, name_of_command, no_value_data, read_data, step_data, step_line, submit_data, word_data};
 
 use crate::line_object::{Member, object_of};
 use bh_base::{FallbackEnd, GroupId, Moment, Op, Request, Step};
 use bh_lines::lines::LINE_LIMIT;
+use bh_replies::json_line;
 use bh_share::Directory;
 use serde_json::Value;
 use std::alloc::{AllocError, Global};
-use std::string::String;
 use thiserror::Error;
 
 /// Why the line of a step was not put.
@@ -66,7 +62,7 @@ pub fn put_step<D: Directory>(
         return Ok(());
     };
     let value = step_value(alloc, directory, group, step)?;
-    let line = line_of(alloc, &value)?;
+    let line = json_line(alloc, &value)?;
     if line.len() > LINE_LIMIT + 1 {
         return Err(StepLineError::Long);
     }
@@ -98,20 +94,8 @@ pub fn put_end<D: Directory>(
             Member::Text("op", "read"),
         ],
     )?;
-    let line = line_of(alloc, &value)?;
+    let line = json_line(alloc, &value)?;
     out.extend_from_slice(line.as_str().as_bytes())
-}
-
-/// The line of the value, which has no float. Its text, read, is the value.
-fn line_of(alloc: Global, value: &Value) -> Result<String, AllocError>
-    requires floatless { has_float (view value.now) ≡ false }
-    requires nests { depth (view value.now) ≤ max_depth }
-    ensures line { IfOk result (λ line. line.bytes.items ≡ json_line (view value.now)) }
-    ensures reads { OnOk result (read (compact_text (view value.now)) ≡ Some (view value.now)) }
-{
-    let mut line = value.to_string(alloc)?;
-    line.push('\n')?;
-    Ok(line)
 }
 
 /// The name of the group of the number.

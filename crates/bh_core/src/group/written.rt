@@ -6,21 +6,21 @@ ghost use Rattle.std.specs.Prelude.{◌≡◌};
 use bh_base::{Answer, Reply, Serial, Ticket};
 
 /// The caller is to run the dependency.
-pub fn write_inline(serial: Serial, reply: &mut Reply)
+pub(super) fn write_inline(serial: Serial, reply: &mut Reply)
     ensures { reply.new ≡ Reply.Inline serial }
 {
     *reply = Reply::Inline(serial);
 }
 
 /// The request waits for a worker.
-pub fn write_queued(serial: Serial, reply: &mut Reply)
+pub(super) fn write_queued(serial: Serial, reply: &mut Reply)
     ensures { reply.new ≡ Reply.Queued serial }
 {
     *reply = Reply::Queued(serial);
 }
 
 /// The run of the ticket is the worker's.
-pub fn write_assigned(ticket: &Ticket, reply: &mut Reply)
+pub(super) fn write_assigned(ticket: &Ticket, reply: &mut Reply)
     ensures { reply.new ≡ Reply.Assigned ticket.now.serial ticket.now.command ticket.now.arg }
 {
     *reply = Reply::Assigned {
@@ -31,14 +31,14 @@ pub fn write_assigned(ticket: &Ticket, reply: &mut Reply)
 }
 
 /// The end of the run was told.
-pub fn write_done(reply: &mut Reply)
+pub(super) fn write_done(reply: &mut Reply)
     ensures { reply.new ≡ Reply.Done }
 {
     *reply = Reply::Done;
 }
 
 /// The ticket was answered so.
-pub fn write_answered(answer: &Answer, reply: &mut Reply)
+pub(super) fn write_answered(answer: &Answer, reply: &mut Reply)
     ensures { reply.new ≡ Reply.Answered answer.now }
 {
     *reply = Reply::Answered(*answer);
