@@ -15,6 +15,9 @@ use std::time::Duration;
 /// So many connections at most are open at a time.
 pub const MOST_OPEN: u32 = 64;
 
+/// From so many open connections on, most threads of a service with workers wait for a processor and not for their clients.
+const CROWD: u64 = 48;
+
 /// Between two tries to accept a connection, in milliseconds.
 const RETRY: u64 = 10;
 
@@ -275,6 +278,12 @@ impl Acceptor {
     /// runs what they ask for.
     pub fn is_alone(&self) -> bool {
         self.open.load(Ordering::SeqCst) == 1 && self.workers.load(Ordering::SeqCst) == 0
+    }
+
+    /// Whether so many connections are open, and workers run what they ask for, that by the time that the others have had
+    /// their turn a client has mostly sent its next line.
+    pub fn is_crowded(&self) -> bool {
+        self.open.load(Ordering::SeqCst) >= CROWD && self.workers.load(Ordering::SeqCst) > 0
     }
 
     /// Closes the connections of a service that was told to stop: no more is read of them, and those that have not

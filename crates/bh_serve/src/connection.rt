@@ -147,10 +147,18 @@ impl<'e, R: Wait + Clock> Incoming<'e, R> {
         self.look(LONE_LOOKS, buf)
     }
 
+    /// Lets other threads run where that is better than to sleep at once, and be woken.
+    fn let_others_run(&self) {
+        if self.acceptor.is_crowded() {
+            thread::yield_now();
+        }
+    }
+
     /// Reads once something has come, and notes how long that took.
     fn await_bytes(&mut self, buf: &mut [u8]) -> io::Result<usize>
         ensures { ReadsAtMost result buf.new }
     {
+        self.let_others_run();
         let mut stream = self.stream;
         let Some(left) = self.clock.left() else {
             return stream.read(buf);
