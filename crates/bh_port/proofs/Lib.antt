@@ -11,5 +11,6 @@ pub mod Showing  -- what the groups show at the beginning of a run, and after on
 pub mod TextLaws  -- the text of a script, by its first line
 pub mod Outcomes  -- what follows where all went well
 pub mod Answering  -- a run of answers, from the bytes that had come to those that are left
+pub mod ReadLines  -- lines that were read before the first of them is answered
 pub mod AtOnce  -- what was answered from nothing on is then written at once, or a front of it
 pub mod Running  -- a run of a script, from the reader's first byte to its last

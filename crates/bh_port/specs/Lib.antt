@@ -4,4 +4,5 @@ pub mod Course
 pub mod Text
 pub mod Kept
 pub mod Script
+pub mod Ahead
 pub mod CommandPlaces

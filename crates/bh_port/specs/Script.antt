@@ -1,5 +1,5 @@
 -- What the parts of a script do to the bytes that have come, to the groups, and to what is written.
-use Rattle.std.specs.Prelude.{◌≡◌, ◌<◌, ℕ, true, false, List, ◌++◌, length, Option, Some, None, Result, Ok, Err}
+use Rattle.std.specs.Prelude.{◌≡◌, ◌<◌, ℕ, true, false, List, ◌++◌, length, drop, Option, Some, None, Result, Ok, Err}
 use Rattle.std.specs.List.{AllByRecursion}
 use Rattle.std.specs.Io.KnownBytes.{Appends}
 use Rattle.bh_base.specs.Runs.{State}
@@ -44,6 +44,10 @@ pub record ScriptAnswered (w0 w1 : Option (List ℕ)) (service : SettingsView) (
   pub text_is : (more : List ℕ) → text service before (cut (old ++ more)) ≡ out ++ text service later (cut (new ++ more))
   pub stops_is : (more : List ℕ) → stops (cut (old ++ more)) ≡ stops (cut (new ++ more))
 
+-- the lines that the first so many of the bytes are were answered, behind `old`
+abbrev pub AnswersFront : SettingsView → GroupsView → List ℕ → GroupsView → List ℕ → List ℕ → ℕ → Type 0
+AnswersFront service was old now new bytes taken = (before : Course) → GroupsShow service was before → ScriptAnswered (Some old) (Some new) service before now bytes (drop taken bytes)
+
 -- Every line that had ended in what was read of `input` was answered: `left` was not read, and `kept` is of a line that had
 -- not ended.
 pub record ScriptAnsweredRead (input left : List ℕ) (w0 w1 : Option (List ℕ)) (service : SettingsView) : Type 0 where
@@ -81,3 +85,8 @@ IsNotRead Line = Unit {0}
 IsNotRead Memory = Unit {0}
 IsNotRead Write = Unit {0}
 IsNotRead Read = ⊥
+
+-- some of the lines were answered, behind `old`, before memory was refused
+abbrev pub StopsShort : SettingsView → GroupsView → List ℕ → List ℕ → List ℕ → Type 0
+StopsShort service was old new bytes =
+    (before : Course) (more : List ℕ) → GroupsShow service was before → ScriptOutcome (Some old) (Some new) service before (cut (bytes ++ more)) (Err Memory)

@@ -224,6 +224,7 @@ impl Groups {
             told.Reply reply.new (option_copied result) ≡ told_by (settings_view settings.now) before (act.Step step.entry.now) }
         ensures agrees { (before : Course) → GroupsShow (settings_view settings.now) self.old before →
             GroupsShow (settings_view settings.now) self.new (with_act (settings_view settings.now) before (act.Step step.entry.now)) }
+        ensures entries { self.new.entries ≡ self.old.entries }
     {
         self.apply_to(step.group, step.now, &step.op, reply);
         assigned_command(settings, places, self, step.group, reply)

@@ -15,7 +15,7 @@ ghost use Rattle.bh_port.specs.Kept.{AreNumbered};
 ghost use Rattle.bh_port.specs.Script.{GroupsShow};
 
 use crate::script::{open, step_limit};
-use bh_base::{GroupId, Moment, Op, Reply, Text};
+use bh_base::{GroupId, Moment, Op, Reply, Step, Text};
 use bh_core::{Core, RegisterError, RetireError};
 use bh_lines::PortError;
 use bh_props::Settings;
@@ -127,6 +127,16 @@ impl Groups {
         }
         let entry = &self.entries[place as usize];
         if entry.live { Some(entry) } else { None }
+    }
+
+    /// Looks at what the step will look at first, the ticket that it goes by or the front of the queue, and tells something
+    /// of it.
+    #[inline(always)]
+    pub(crate) fn look_at(&self, step: &Step) -> u64 {
+        match self.core.ticket(step.group, &step.op) {
+            Some(ticket) => ticket.holders,
+            None => u64::from(self.core.startable(step.group)),
+        }
     }
 
     /// One step of the group, as `Core::apply_to` makes it. A step of a group that is not there is answered `NoGroup` and

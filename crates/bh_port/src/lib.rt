@@ -3,6 +3,7 @@
 #![tactic(auto)]
 
 pub mod act;
+mod ahead;
 pub mod commands;
 pub mod groups;
 mod places;

@@ -12,7 +12,7 @@ ghost use Rattle.bh_streams.specs.Watched.{writer_of, bytes_held, OneRefused, No
 ghost use Rattle.bh_port.specs.CommandPlaces.{AreCommandPlaces};
 ghost use Rattle.bh_port.specs.Course.{Course, IsActOf};
 ghost use Rattle.bh_port.specs.Text.{told_by, with_act};
-ghost use Rattle.bh_port.specs.Script.{GroupsShow, AnswersLine, ScriptAnswered, ScriptOutcome, IsNotRead, IsSaid};
+ghost use Rattle.bh_port.specs.Script.{AnswersFront, StopsShort, GroupsShow, AnswersLine, ScriptAnswered, ScriptOutcome, IsNotRead, IsSaid};
 
 use crate::act::{LineAct, line_act, other_act, plain_act};
 use crate::groups::Groups;
@@ -29,6 +29,9 @@ use json::Scratch;
 use std::alloc::{AllocError, Global};
 use std::io::Write;
 
+/// So few groups stay in the processor's cache, and no line is read ahead.
+const FEW_GROUPS: usize = 256;
+
 /// A run of a script: the groups, what the last line asked for, the reply to the last step, the answers that are to be
 /// written at once, and what putting and reading a line takes in memory. The bytes that have come stand elsewhere, so that
 /// each line is answered from where it stands in them.
@@ -41,6 +44,8 @@ pub struct Run {
     pub out: Vec<u8>,
     /// Room for one line.
     pub line: Vec<u8>,
+    /// What looks ahead added up to. It tells nothing.
+    pub looked: u64,
     pub scratch: Scratch,
 }
 
@@ -151,13 +156,19 @@ impl Run {
             ScriptOutcome (Some self.old.out.items) (Some self.new.out.items) (settings_view settings.now) before (cut (buffer.old.items ++ more)) (Err PortError.Memory)) }
     {
         let mut object = FlatObject::new();
-        let taken = self.answer_plain_lines(settings, places, &mut object, buffer.as_slice())?;
+        let bytes = buffer.as_slice();
+        let taken = if self.groups.count() > FEW_GROUPS {
+            self.answer_ahead(settings, places, &mut object, bytes)?
+        } else {
+            self.answer_one_by_one(settings, places, &mut object, bytes)?
+        };
         buffer.advance(taken);
         Ok(())
     }
 
-    /// Answers the plain lines that the bytes begin with, each by the same object, and says how many bytes they take.
-    fn answer_plain_lines<'a>(
+    /// Answers the plain lines that the bytes begin with, each as it is read and by the same object, and says how many bytes
+    /// they take.
+    fn answer_one_by_one<'a>(
         &mut self,
         settings: &Settings,
         places: &CommandPlaces,
@@ -165,11 +176,9 @@ impl Run {
         bytes: &'a [u8],
     ) -> Result<usize, AllocError>
         requires { AreCommandPlaces (settings_view settings.now).commands places.now }
-        ensures answered { IfOk result (λ taken. (before : Course) → GroupsShow (settings_view settings.now) self.old.groups before →
-            ScriptAnswered (Some self.old.out.items) (Some self.new.out.items) (settings_view settings.now) before self.new.groups bytes.now (drop taken bytes.now)) }
+        ensures answered { IfOk result (AnswersFront (settings_view settings.now) self.old.groups self.old.out.items self.new.groups self.new.out.items bytes.now) }
         ensures within { IfOk result (λ taken. taken ≤ length bytes.now) }
-        ensures stopped { OnErr result ((before : Course) (more : List ℕ) → GroupsShow (settings_view settings.now) self.old.groups before →
-            ScriptOutcome (Some self.old.out.items) (Some self.new.out.items) (settings_view settings.now) before (cut (bytes.now ++ more)) (Err PortError.Memory)) }
+        ensures stopped { OnErr result (StopsShort (settings_view settings.now) self.old.groups self.old.out.items self.new.out.items bytes.now) }
     {
         let mut taken = 0;
         while let Some(line) = front_line_at(bytes, taken) {
@@ -271,7 +280,7 @@ impl Run {
 
     /// The same of a line of which the object is not plain.
     #[inline(never)]
-    fn answer_other(
+    pub fn answer_other(
         &mut self,
         settings: &Settings,
         places: &CommandPlaces,
@@ -334,7 +343,7 @@ impl Run {
 
     /// Puts the line of the reply to the last step behind what is to be written. One that has a text is put by itself
     /// first: where a text needs an escape, the writer of the JSON library clears as many bytes as stand before it.
-    fn put_step_reply(&mut self, command: Option<&Text<32>>) -> Result<(), AllocError>
+    pub fn put_step_reply(&mut self, command: Option<&Text<32>>) -> Result<(), AllocError>
         ensures ok { OnOk result (self.new.out.items ≡ self.old.out.items ++ reply_line (option_copied command.entry) self.old.reply) }
         ensures same { self.new.groups ≡ self.old.groups }
         ensures err { OnErr result (self.new.out.items ≡ self.old.out.items) }
@@ -366,7 +375,7 @@ impl Run {
     }
 
     /// Puts the line of a fault behind what is to be written.
-    fn answer_fault(&mut self, fault: Fault) -> Result<(), AllocError>
+    pub fn answer_fault(&mut self, fault: Fault) -> Result<(), AllocError>
         ensures wrote { OnOk result (self.new.out.items ≡ self.old.out.items ++ fault_line fault) }
         ensures same { self.new.groups ≡ self.old.groups }
         ensures kept { OnErr result (self.new.out.items ≡ self.old.out.items) }
@@ -377,7 +386,7 @@ impl Run {
 
 /// The plain line in front of what stands behind so many bytes.
 #[inline(always)]
-fn front_line_at(bytes: &[u8], place: usize) -> Option<FrontLine<'_>>
+pub fn front_line_at(bytes: &[u8], place: usize) -> Option<FrontLine<'_>>
     requires { place ≤ length bytes.now }
     ensures { IsFront (drop place bytes.now) result }
 {

@@ -106,6 +106,7 @@ impl OpenScript {
             reply: Reply::NoGroup,
             out: Vec::new(alloc),
             line: Vec::new(alloc),
+            looked: 0,
             scratch: Scratch::new(alloc),
         };
         Ok(OpenScript {

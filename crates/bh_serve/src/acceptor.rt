@@ -276,13 +276,13 @@ impl Acceptor {
 
     /// Whether the thread of an open connection is the only one that its lines keep busy: no other is open, and no worker
     /// runs what they ask for.
-    pub fn is_alone(&self) -> bool {
+    pub(crate) fn is_alone(&self) -> bool {
         self.open.load(Ordering::SeqCst) == 1 && self.workers.load(Ordering::SeqCst) == 0
     }
 
     /// Whether so many connections are open, and workers run what they ask for, that by the time that the others have had
     /// their turn a client has mostly sent its next line.
-    pub fn is_crowded(&self) -> bool {
+    pub(crate) fn is_crowded(&self) -> bool {
         self.open.load(Ordering::SeqCst) >= CROWD && self.workers.load(Ordering::SeqCst) > 0
     }
 

@@ -2,7 +2,7 @@ use Rattle.std.proofs.Common.{◌≤◌, ◌-◌, length, drop, Some}
 use Rattle.bh_props.specs.Shown.{settings_view}
 use Rattle.bh_port.specs.Course.{Course}
 use Rattle.bh_port.specs.Script.{ScriptAnswered, GroupsShow}
-use Rattle.bh_port.proofs.run.Run.answer_plain_lines.Given as goal
+use Rattle.bh_port.proofs.run.Run.answer_one_by_one.Given as goal
 
 -- the lines up to the place were answered
 abbrev pub invariant-loop-line : goal.invariant-loop-line

@@ -3,7 +3,7 @@ use Rattle.std.proofs.lemmas.List.{drop-drop}
 use Rattle.bh_port.proofs.Answering.{answered-none, answered-then, front-answered, front-within, last-unanswered, stopped-then}
 use Rattle.bh_lines.specs.declared.port_error.PortError.TheVariants.{Memory}
 use Rattle.bh_port.proofs.Outcomes.{on_err}
-use Rattle.bh_port.proofs.run.Run.answer_plain_lines.Goals as goal
+use Rattle.bh_port.proofs.run.Run.answer_one_by_one.Goals as goal
 
 pub loop-line-init : goal.loop-line-init
 loop-line-init c = (search arith, λ before agrees. answered-none _ _ before _ _ agrees)
