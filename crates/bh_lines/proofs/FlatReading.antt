@@ -1,5 +1,5 @@
 -- The members of an object that holds scalars alone: how they are put, and what is found of them.
-use Rattle.std.proofs.Common.{◌≡◌, zero, suc, ℕ, true, false, List, [], ◌∷◌, ◌++◌, Some, refl, sym, ap, ◌∙◌, subst, arith}
+use Rattle.std.proofs.Common.{◌≡◌, zero, suc, ℕ, ◌+◌, ◌-◌, ◌<◌, true, false, List, [], ◌∷◌, ◌++◌, length, Some, refl, sym, ap, ◌∙◌, subst, arith, length-append}
 use Rattle.std.specs.declared.cmp.Ordering.{Ordering}
 use Rattle.std.specs.declared.cmp.Ordering.TheVariants.{Less, Equal, Greater}
 use Rattle.std.specs.Ordering.{nat_cmp, match_ordering, is_eq}
@@ -10,14 +10,14 @@ use Rattle.std.proofs.lemmas.Map.Text.{is_eq-slice_cmp}
 use Rattle.json.specs.Token.{Token}
 use Rattle.json.specs.Lex.{tokens}
 use Rattle.json.specs.Json as json
-use Rattle.json.proofs.Grammar.{value-begin_object}
+use Rattle.json.proofs.Grammar.{value-begin_object, members_more, members_end}
 use Rattle.serde_json.specs.Data.{negative, float, Data, Members, no_members, member, put}
 use Rattle.serde_json.specs.Find.{get_member}
-use Rattle.serde_json.specs.Read.{read, number_from}
+use Rattle.serde_json.specs.Read.{read, number_from, of_members}
 use Rattle.fast_float.specs.Text.{Parts, nearest}
 use Rattle.std.specs.Prelude.{ℤ, Float, Bool, None, if◌then◌else◌}
 use Rattle.std.specs.Float.{binary64, float_is_finite}
-use Rattle.bh_lines.specs.Flat.{are_members, is_over, is_scalar_then, is_whole, scalar_data, put_all, flat_data, ReadsMembers}
+use Rattle.bh_lines.specs.Flat.{are_members, is_over, is_scalar_then, is_whole, scalar_data, put_all, flat_data, IsBegun, ReadsScalar, ReadsMembers}
 use Rattle.bh_lines.specs.declared.flat.FlatMember.{FlatMember}
 
 not_whole : (fits finite : Bool) (z : ℤ) (x : Float) → is_whole (if fits then Some (negative z) else (if finite then Some (float x) else None)) ≡ false
@@ -62,6 +62,48 @@ pub put_all_push : (ms : List FlatMember) (m : FlatMember) (found : Members)
     → put_all (ms ++ m ∷ []) found ≡ put m.name.now (scalar_data m.value) (put_all ms found)
 put_all_push [] m found = refl
 put_all_push (first ∷ ms) m found = put_all_push ms m (put first.name.now (scalar_data first.value) found)
+
+-- ---- the members that were found of an object, and what is left of its tokens
+
+pub begun : (first : List Token) (found : List FlatMember) → found ≡ [] → IsBegun first found first
+begun first found none =
+    let no_length : length found ≡ 0 = ap length none in
+    record {
+      turns = length first;
+      enough = omega arith;
+      reads = λ rest after read. (rest, read, ap (λ ms. of_members rest (put_all ms no_members)) (sym none));
+      few = omega arith;
+      flat = ap (λ n. are_members n first) (omega arith);
+    }
+
+-- one member more
+pub begun_after : (first : List Token) (found : List FlatMember) (m : FlatMember) (left s r : List Token) → IsBegun first found left → json.read_key left ≡ Some (Some m.name.now, s)
+    → ReadsScalar m.value s r → ((rest : List Token → Bool) → is_scalar_then rest s ≡ rest r) → length r < length left → length found < 8 → IsBegun first (found ++ m ∷ []) r
+begun_after first found m left s r so_far named scalar one shorter room =
+    let n = so_far.turns in
+    let k = m.name.now in
+    let counted : length (found ++ m ∷ []) ≡ length found + 1 = length-append found (m ∷ []) in
+    let fewer : 8 - length found ≡ suc (8 - length (found ++ m ∷ [])) = omega arith in
+    record {
+      turns = n - 1;
+      enough = omega (arith, so_far.enough);
+      reads = λ rest after read.
+          let turn = members_more (json.value 126) n k left s r scalar.0 (omega (arith, so_far.enough)) named (scalar.1 126) ∙ ap (json.parse_map (json.member k scalar.0)) read in
+          let all = so_far.reads (json.member k scalar.0 rest) after turn in
+          (all.0, all.1, all.2 ∙ rw (scalar.2, put_all_push found m no_members));
+      few = omega (arith, so_far.few);
+      flat = so_far.flat ∙ members_after_one _ _ left s r k named fewer one;
+    }
+
+-- the bracket that closes the object
+pub begun_closed : (first : List Token) (found : List FlatMember) (left after : List Token) → IsBegun first found left → json.read_key left ≡ Some (None, after) → ReadsMembers found first after
+begun_closed first found left after so_far over = so_far.reads json.no_members after (members_end (json.value 126) so_far.turns left after so_far.enough over)
+
+-- the same, and no more
+pub begun_over : (first : List Token) (found : List FlatMember) → IsBegun first found (Token.end_object ∷ []) → ReadsMembers found first [] × (are_members 8 first ≡ true)
+begun_over first found so_far = (begun_closed first found (Token.end_object ∷ []) [] so_far refl, so_far.flat ∙ members_over _ (Token.end_object ∷ []) [] refl)
+
+-- ---- what is found
 
 -- what is found under a name is what was put there, or else what stood there before
 abbrev Found : List ℕ → Ordering → Data → Members → Members → Type 0

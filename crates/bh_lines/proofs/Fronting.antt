@@ -2,8 +2,8 @@
 use Rattle.std.proofs.Common.{◌≡◌, ℕ, suc, ◌+◌, ◌-◌, ◌<◌, ◌≤◌, ◌==◌, Bool, true, false, cond, not, List, [], ◌∷◌, ◌++◌, length, take, drop, refl, sym, ap, ◌∙◌, subst, arith, Some, None, Bor, ◌⊎◌, inl, inr}
 use Rattle.std.specs.List.{list_any}
 use Rattle.std.specs.Prelude.{slice_index, ◌||◌, ◌&&◌, nat_lt, nat_eq}
-use Rattle.std.specs.Str.{is_utf8, IsUtf8}
-use Rattle.std.proofs.lemmas.Str.{is_utf8-from_IsUtf8, IsUtf8-from_is_utf8}
+use Rattle.std.specs.Str.{is_utf8, IsUtf8, IsAscii}
+use Rattle.std.proofs.lemmas.Str.{is_utf8-from_IsUtf8, IsUtf8-from_is_utf8, IsUtf8-from_ascii, IsAscii-take}
 use Rattle.std.specs.Cmp.Lexicographic.{pointwise}
 use Rattle.std.proofs.lemmas.Bool.Decides.{nat_tests}
 use Rattle.std.proofs.lemmas.List.Sums.{position_or_len_is}
@@ -131,3 +131,15 @@ return-missing (b ∷ c ∷ bs) h =
     let two : suc (suc (length bs)) - 1 ≡ suc (length bs) = omega arith in
     let one : suc (length bs) - 1 ≡ length bs = omega arith in
     ap (λ ys. b ∷ ys) (return-missing (c ∷ bs) (rw one (rw two at h)))
+
+-- the bytes without their carriage return are ASCII, as they are with it
+return-ascii : (xs : List ℕ) → IsAscii xs → IsAscii (less_return xs)
+return-ascii xs h =
+    elim (pointwise nat_eq (drop (length xs - 1) xs) (13 ∷ [])) as (λ v. pointwise nat_eq (drop (length xs - 1) xs) (13 ∷ []) ≡ v → IsAscii (less_return xs)) [
+      | true ↦ λ e. subst (λ (ys : List ℕ). IsAscii ys) (sym (return-stripped xs e)) (IsAscii-take xs (length xs - 1) h)
+      | false ↦ λ e. subst (λ (ys : List ℕ). IsAscii ys) (sym (return-missing xs e)) h
+    ] refl
+
+-- a line of ASCII is text without its carriage return
+pub ascii-text : (xs : List ℕ) → IsAscii xs → IsUtf8 (less_return xs)
+ascii-text xs h = IsUtf8-from_ascii (less_return xs) (return-ascii xs h)

@@ -1,43 +1,48 @@
 -- Plain lines: the tokens that their bytes are, and the members of these.
-use Rattle.std.proofs.Common.{◌≡◌, ℕ, Bool, suc, ◌+◌, ◌-◌, ◌^◌, ◌<◌, ◌≤◌, true, false, cond, ◌==◌, List, [], ◌∷◌, ◌++◌, length, take, drop, get_or, Some, refl, sym, ap, ap₂, ◌∙◌, subst, arith, take-append-drop, length-take-le, get_or-take, append-nil, lt-ltb, ne_eqb, length-append, length-drop, IsUtf8, IsCharBoundary}
-use Rattle.std.proofs.Common.{inl, inr, eq-eqb, option_and_then, None}
-use Rattle.std.proofs.lemmas.Bool.{false≢true, eqb-true, cases_eq}
+use Rattle.std.proofs.Common.{◌≡◌, ℕ, Bool, ◌+◌, ◌-◌, ◌^◌, ◌<◌, ◌≤◌, true, false, cond, ◌==◌, List, [], ◌∷◌, ◌++◌, length, take, drop, get_or, Some, refl, sym, ap, ap₂, ◌∙◌, subst, arith, take-append-drop, length-take-le, get_or-take, append-nil, lt-ltb, ne_eqb, length-drop, IsUtf8, IsCharBoundary}
+use Rattle.std.proofs.Common.{zero, suc, ◌*◌, ◌%◌, leb-true, inl, inr, eq-eqb, Option, option_and_then, None}
+use Rattle.std.proofs.lemmas.Bool.{false≢true, cases_eq}
 use Rattle.std.proofs.lemmas.List.{drop_all, drop_more, drop-drop, take_all, get_or-drop, get_or_default}
 use Rattle.std.proofs.lemmas.Slice.Eq.{starts_is}
-use Rattle.std.proofs.lemmas.Str.{IsCharBoundary-after_ascii}
+use Rattle.std.proofs.lemmas.Str.{IsCharBoundary-after_ascii, IsCharBoundary-before_ascii}
 use Rattle.std.proofs.lemmas.Bool.Decides.{Decides-eqb}
 use Rattle.std.specs.List.{starts_with}
 use Rattle.std.proofs.lemmas.List.Sums.{prefix_len_passes, prefix_len-le-length}
-use Rattle.std.specs.Prelude.{◌&&◌}
+use Rattle.std.specs.Prelude.{◌&&◌, nat_le}
 use Rattle.std.proofs.lemmas.Str.Parse.{digit_from_value}
 use Rattle.std.specs.Borrow.{Bor}
 use Rattle.std.specs.List.{prefix_len}
-use Rattle.std.specs.Char.{is_ascii_digit}
+use Rattle.std.specs.Char.{digit_value, is_ascii_digit}
 use Rattle.std.specs.Str.Parse.{AllDigits, digits_value}
+use Rattle.std.specs.Float.Numeral.{digits_len}
+use Rattle.std.proofs.Math.Nat.{mod-eq_of_lt, pow-le-pow_right}
+use Rattle.std.proofs.lemmas.Int.Digits.{digits_value-lt}
+use Rattle.std.proofs.lemmas.Str.{digit_value_digit}
+use Rattle.std.proofs.lemmas.Bool.{and_parts}
 use Rattle.json.specs.Token.{Token}
 use Rattle.json.specs.Text.{content, plain}
 use Rattle.json.specs.Word.{ends_word, head, after_digits, after_minus, after_whole, after_fraction, after_exponent, after_number, word}
-use Rattle.json.specs.Lex.{Lexeme, token, comma, colon, string_token, Place, fresh, after_value, after_comma, after_key, may_begin, between, in_string, lex, punctuate, tokens}
+use Rattle.json.specs.Lex.{Lexeme, token, comma, colon, string_token, Place, fresh, after_value, after_comma, after_key, may_begin, begins_colon, place_token, between, in_string, lex, punctuate, tokens}
 use Rattle.json.specs.Run.{is_plain}
 use Rattle.json.specs.Print.{escape, IsNumber}
 use Rattle.json.specs.Written.{PlainBetween}
 use Rattle.json.specs.Json as json
-use Rattle.json.proofs.Grammar.{value_is, members_more, members_end}
+use Rattle.json.proofs.Grammar.{value_is}
 use Rattle.json.proofs.Printed.Plain.{escape_on_plain}
 use Rattle.json.proofs.Printed.Strings.{content-escape, lex-escape}
 use Rattle.json.proofs.Printed.Numbers.{in_word-ended, lex-number}
 use Rattle.fast_float.specs.Text.{Parts, IsWellFormed, scan, digits_of}
 use Rattle.fast_float.proofs.Writing.{scan-text_of}
 use Rattle.fast_float.proofs.Integers.{digits_len_all}
-use Rattle.serde_json.specs.Data.{unsigned, no_members}
-use Rattle.serde_json.specs.Read.{number_of, is_integer, of_members}
-use Rattle.bh_lines.specs.Flat.{is_scalar, is_whole, are_members, put_all, ReadsScalar, ReadsMembers}
-use Rattle.bh_lines.specs.Plain.{IsSignThen, IsTextThen, IsKeyThen, IsNumberThen, IsScalarThen, IsMemberThen, behind_member}
+use Rattle.serde_json.specs.Data.{unsigned}
+use Rattle.serde_json.specs.Read.{number_of, is_integer}
+use Rattle.bh_lines.specs.Flat.{is_scalar, is_whole, are_members, IsBegun, ReadsMembers}
+use Rattle.bh_lines.specs.Plain.{IsSignThen, IsTextThen, IsKeyThen, IsNumberThen, IsScalarThen, IsMemberThen, IsReadTo, behind_member}
 use Rattle.bh_lines.specs.declared.plain.PlainMember.{PlainMember}
 use Rattle.bh_lines.specs.declared.flat.Scalar.{Scalar}
 use Rattle.bh_lines.specs.declared.flat.Scalar.TheVariants as scalars
 use Rattle.bh_lines.specs.declared.flat.FlatMember.{FlatMember}
-use Rattle.bh_lines.proofs.FlatReading.{put_all_push, members_over, members_after_one}
+use Rattle.bh_lines.proofs.FlatReading.{begun_after, begun_over}
 
 -- ---- bytes that stand by themselves
 
@@ -277,75 +282,61 @@ module _
         let lexed = found.lexed ended ∙ ap (λ l. token found.token ∷ l) (follows ∙ lex-end rest) in
         key p may ∙ ap (λ l. Token.key name ∷ l) (ap (punctuate fresh) lexed ∙ scalar_end found.token (lex between rest) found.scalar)
 
--- the members that were found, and what is left of the tokens of an object behind its bracket
-pub record Begun (first : List Token) (found : List FlatMember) (left : List Token) : Type 0 where
-  pub turns : ℕ
-  pub enough : length left ≤ turns
-  pub reads : (rest : json.Members) (after : List Token) → json.members (json.value 126) turns left ≡ Some (rest, after)
-      → (ms : json.Members) × (json.members (json.value 126) (length first) first ≡ Some (ms, after)) × (of_members ms no_members ≡ of_members rest (put_all found no_members))
-  pub few : length found ≤ 8
-  pub flat : are_members 8 first ≡ are_members (8 - length found) left
-
-pub begun : (first : List Token) (found : List FlatMember) → found ≡ [] → Begun first found first
-begun first found none =
-    let no_length : length found ≡ 0 = ap length none in
-    record {
-      turns = length first;
-      enough = omega arith;
-      reads = λ rest after read. (rest, read, ap (λ ms. of_members rest (put_all ms no_members)) (sym none));
-      few = omega arith;
-      flat = ap (λ n. are_members n first) (omega arith);
-    }
-
--- one member more
-pub begun_more : (first : List Token) (found : List FlatMember) (m : FlatMember) (t : Token) (ts : List Token) → Begun first found (Token.key m.name.now ∷ t ∷ ts)
-    → is_scalar t ≡ true → ReadsScalar m.value (t ∷ ts) ts → length found < 8 → Begun first (found ++ m ∷ []) ts
-begun_more first found m t ts so_far scalar reads room =
-    let n = so_far.turns in
-    let k = m.name.now in
-    let counted : length (found ++ m ∷ []) ≡ length found + 1 = length-append found (m ∷ []) in
-    let fewer : 8 - length found ≡ suc (8 - length (found ++ m ∷ [])) = omega arith in
-    record {
-      turns = n - 1;
-      enough = omega (arith, so_far.enough);
-      reads = λ rest after read.
-          let turn = members_more (json.value 126) n k (Token.key k ∷ t ∷ ts) (t ∷ ts) ts reads.0 (omega (arith, so_far.enough)) refl (reads.1 126) ∙ ap (json.parse_map (json.member k reads.0)) read in
-          let all = so_far.reads (json.member k reads.0 rest) after turn in
-          (all.0, all.1, all.2 ∙ rw (reads.2, put_all_push found m no_members));
-      few = omega (arith, so_far.few);
-      flat = so_far.flat ∙ members_after_one _ _ (Token.key k ∷ t ∷ ts) (t ∷ ts) ts k refl fewer (λ more. ap (λ b. b && more ts) scalar);
-    }
-
--- the bracket that closes the object, and no more
-pub begun_over : (first : List Token) (found : List FlatMember) → Begun first found (Token.end_object ∷ []) → ReadsMembers found first [] × (are_members 8 first ≡ true)
-begun_over first found so_far = (
-  so_far.reads json.no_members [] (members_end (json.value 126) so_far.turns (Token.end_object ∷ []) [] so_far.enough refl),
-  so_far.flat ∙ members_over _ (Token.end_object ∷ []) [] refl,
-)
-
 -- a member and what follows it
 after_member : (first : List Token) (found : List FlatMember) (line : List ℕ) (place : ℕ) (m : PlainMember)
-    → ((p : Place) × (may_begin p ≡ true) × Begun first found (punctuate p (lex between (drop place line)))) → IsMemberThen line place m → length found < 8
-    → Begun first (found ++ m.member ∷ []) (behind_member m.is_last (drop m.next line))
+    → ((p : Place) × (may_begin p ≡ true) × IsBegun first found (punctuate p (lex between (drop place line)))) → IsMemberThen line place m → length found < 8
+    → IsBegun first (found ++ m.member ∷ []) (behind_member m.is_last (drop m.next line))
 after_member first found line place m so_far is room =
-    begun_more first found m.member is.token _ (subst (Begun first found) (is.tokens so_far.0 so_far.1) so_far.2) is.scalar (is.reads _) room
+    let rest = behind_member m.is_last (drop m.next line) in
+    begun_after first found m.member (Token.key m.member.name.now ∷ is.token ∷ rest) (is.token ∷ rest) rest (subst (IsBegun first found) (is.tokens so_far.0 so_far.1) so_far.2) refl (is.reads _)
+    (λ more. ap (λ b. b && more rest) is.scalar) (omega arith) room
 
 -- a comma behind a member: there is more
 pub next_member : (first : List Token) (found all : List FlatMember) (line : List ℕ) (place : ℕ) (m : PlainMember)
-    → ((p : Place) × (may_begin p ≡ true) × Begun first found (punctuate p (lex between (drop place line)))) → IsMemberThen line place m → length found < 8
-    → all ≡ found ++ m.member ∷ [] → m.is_last ≡ false → Begun first all (punctuate after_comma (lex between (drop m.next line)))
+    → ((p : Place) × (may_begin p ≡ true) × IsBegun first found (punctuate p (lex between (drop place line)))) → IsMemberThen line place m → length found < 8
+    → all ≡ found ++ m.member ∷ [] → m.is_last ≡ false → IsBegun first all (punctuate after_comma (lex between (drop m.next line)))
 next_member first found all line place m so_far is room pushed more =
     let after = after_member first found line place m so_far is room in
-    subst (λ x. Begun first x (punctuate after_comma (lex between (drop m.next line)))) (sym pushed) (subst (λ b. Begun first (found ++ m.member ∷ []) (behind_member b (drop m.next line))) more after)
+    subst (λ x. IsBegun first x (punctuate after_comma (lex between (drop m.next line)))) (sym pushed) (subst (λ b. IsBegun first (found ++ m.member ∷ []) (behind_member b (drop m.next line))) more after)
 
 -- the bracket behind a member, and the end of the text: that is all
 pub last_member : (first : List Token) (found all : List FlatMember) (line : List ℕ) (place : ℕ) (m : PlainMember)
-    → ((p : Place) × (may_begin p ≡ true) × Begun first found (punctuate p (lex between (drop place line)))) → IsMemberThen line place m → length found < 8
+    → ((p : Place) × (may_begin p ≡ true) × IsBegun first found (punctuate p (lex between (drop place line)))) → IsMemberThen line place m → length found < 8
     → all ≡ found ++ m.member ∷ [] → m.is_last ≡ true → (drop m.next line) ≡ [] → ReadsMembers all first [] × (are_members 8 first ≡ true)
 last_member first found all line place m so_far is room pushed last ended =
     let after = after_member first found line place m so_far is room in
     let over : behind_member m.is_last (drop m.next line) ≡ Token.end_object ∷ [] = ap₂ behind_member last ended ∙ ap (λ l. Token.end_object ∷ l) no_tokens in
-    begun_over first all (subst (λ x. Begun first x (Token.end_object ∷ [])) (sym pushed) (subst (Begun first (found ++ m.member ∷ [])) over after))
+    begun_over first all (subst (λ x. IsBegun first x (Token.end_object ∷ [])) (sym pushed) (subst (IsBegun first (found ++ m.member ∷ [])) over after))
+
+-- a quote begins the same token wherever one may begin
+text_or_fault : (p : Place) (o : Option (List ℕ)) (ls : List Lexeme) → may_begin p ≡ true → punctuate p (token (string_token o) ∷ ls) ≡ punctuate fresh (token (string_token o) ∷ ls)
+unfolding punctuate
+text_or_fault fresh o ls may = refl
+text_or_fault after_value o ls may = absurd (false≢true may)
+text_or_fault after_comma None ls may = refl
+text_or_fault after_comma (Some s) ls may = elim (begins_colon ls) as (λ b. place_token after_comma (Token.string s) b (λ next. punctuate next ls) ≡ place_token fresh (Token.string s) b (λ next. punctuate next ls)) [ true ↦ refl | false ↦ refl ]
+text_or_fault after_key o ls may = absurd (false≢true may)
+
+quote_begins : (p : Place) (inside : List ℕ) → may_begin p ≡ true → punctuate p (lex between (34 ∷ inside)) ≡ tokens (34 ∷ inside)
+unfolding lex
+quote_begins p inside may = text_or_fault p (content plain inside) (lex in_string inside) may
+
+-- where a name may begin, what is left of the line can be read by itself
+pub read_to : (line : List ℕ) (found : List FlatMember) (place next : ℕ) → drop 0 line ≡ 123 ∷ drop 1 line
+    → ((p : Place) × (may_begin p ≡ true) × IsBegun (punctuate fresh (lex between (drop 1 line))) found (punctuate p (lex between (drop place line)))) → IsSignThen line place 34 next
+    → IsReadTo line found (next - 1)
+read_to line found place next opens so_far name =
+    let first = punctuate fresh (lex between (drop 1 line)) in
+    let behind : next - 1 + 1 ≡ next = omega (arith, name.behind) in
+    let byte : get_or line (next - 1) 0 ≡ 34 = byte_there line (next - 1) 34 (name.stands ∙ ap (λ k. 34 ∷ drop k line) (sym behind)) in
+    let left : punctuate so_far.0 (lex between (drop place line)) ≡ tokens (drop (next - 1) line) =
+    ap (punctuate so_far.0) name.same ∙ quote_begins so_far.0 (drop next line) so_far.1 ∙ ap tokens (sym name.stands) in
+    record {
+      first = first;
+      opens = ap tokens opens ∙ tokens-open (drop 1 line);
+      begun = subst (IsBegun first found) left so_far.2;
+      boundary = IsCharBoundary-before_ascii line (next - 1) (omega (arith, name.behind, name.within)) (omega (arith, byte));
+    }
 
 -- ---- numbers
 
@@ -394,6 +385,18 @@ digits_number ds h some zero_alone =
     let whole : after_whole (after_minus ds) ≡ Some [] = ap after_whole unsigned_text ∙ all_whole ds h some (λ e. zero_alone (sym first ∙ e)) in
     ap (λ o. option_and_then after_exponent (option_and_then after_fraction o)) whole
 
+-- of the digits that some bytes begin with each is a digit
+digits_ahead : (t : List ℕ) (n : ℕ) → n ≤ digits_len t → AllDigits 10 (take n t)
+digits_ahead t zero h = tt
+digits_ahead [] (suc n) h = tt
+digits_ahead (x ∷ xs) (suc n) h = go (digits_ahead xs n) (is_ascii_digit x) refl h
+  where
+    go : (n ≤ digits_len xs → AllDigits 10 (take n xs)) → (b : Bool) → is_ascii_digit x ≡ b → suc n ≤ cond b (1 + digits_len xs) 0 → (digit_value x < 10) × AllDigits 10 (take n xs)
+    go rest true e k =
+        let range = and_parts (nat_le 48 x) (nat_le x 57) e in
+        (omega (arith, leb-true x 57 range.1, digit_value_digit x (leb-true 48 x range.0, leb-true x 57 range.1)), rest (omega arith))
+    go rest false e k = absurd (omega arith)
+
 -- digits from one place to another are a number
 pub number_between : (line : List ℕ) (place end n : ℕ) → place ≤ end → end ≤ length line → (end ≡ place → ⊥) → AllDigits 10 (take (end - place) (drop place line))
     → n ≡ digits_value 10 (take (end - place) (drop place line)) → n < 2 ^ 64 → (get_or line place 0 ≡ 48 → ⊥)
@@ -414,6 +417,21 @@ number_between line place end n after within some h value fits no_zero =
       is_found = subst (λ v. number_of ds ≡ Some (unsigned v)) (sym value) (digits_read ds h filled (omega arith));
     }
 
+-- the digits that stand from a place on, so few that their number has 64 bits
+pub number_there : (line : List ℕ) (place end n : ℕ) → place ≤ length line → end ≡ place + digits_len (drop place line) → (end ≡ place → ⊥) → end - place ≤ 19
+    → n ≡ (0 * 10 ^ (end - place) + digits_value 10 (take (end - place) (drop place line))) % 2 ^ 64 → (get_or line place 0 ≡ 48 → ⊥) → IsNumberThen (drop place line) n (drop end line)
+number_there line place end n here is some few value no_zero =
+    let text = drop place line in
+    let count : end - place ≡ digits_len text = omega arith in
+    let within : end ≤ length line = omega (arith, prefix_len-le-length is_ascii_digit text, length-drop place line) in
+    let digits : AllDigits 10 (take (end - place) text) = digits_ahead text (end - place) (omega (arith, count)) in
+    let long : length (take (end - place) text) ≡ end - place = length-take-le (end - place) text (omega (arith, within, length-drop place line)) in
+    let raised : 10 ^ (end - place) ≤ 10 ^ 19 = pow-le-pow_right {n = 10} (omega arith) few in
+    let small : digits_value 10 (take (end - place) text) < 10 ^ 19 = omega (arith, digits_value-lt 10 (take (end - place) text) digits, ap (λ k. 10 ^ k) long, raised) in
+    let alone : 0 * 10 ^ (end - place) + digits_value 10 (take (end - place) text) ≡ digits_value 10 (take (end - place) text) = omega arith in
+    let same : n ≡ digits_value 10 (take (end - place) text) = value ∙ ap (λ x. x % 2 ^ 64) alone ∙ mod-eq_of_lt (omega (arith, small)) in
+    number_between line place end n (omega (arith, is)) within some digits same (omega (arith, same, small)) no_zero
+
 -- a zero in front is a number by itself
 zero_in_front : (text rest : List ℕ) → text ≡ 48 ∷ rest → IsNumberThen text 0 rest
 zero_in_front text rest is =
@@ -427,9 +445,9 @@ zero_in_front text rest is =
 
 -- the same at a place of the line, as the code looks at its bytes
 pub zero_at : (line bytes : List ℕ) (place : ℕ) → bytes ≡ line → place < length bytes → get_or bytes place 0 ≡ 48 → IsNumberThen (drop place line) 0 (drop (place + 1) line)
-zero_at line bytes place same inside zero =
-    subst (λ t. IsNumberThen (drop place t) 0 (drop (place + 1) t)) same (zero_in_front (drop place bytes) (drop (place + 1) bytes) (drop_more bytes place 0 inside ∙ ap (λ b. b ∷ drop (place + 1) bytes) zero))
+zero_at line bytes place same inside first =
+    subst (λ t. IsNumberThen (drop place t) 0 (drop (place + 1) t)) same (zero_in_front (drop place bytes) (drop (place + 1) bytes) (drop_more bytes place 0 inside ∙ ap (λ b. b ∷ drop (place + 1) bytes) first))
 
 -- nothing is left behind the last byte
-pub nothing_left : (line : List ℕ) (place : ℕ) → (place == length line) ≡ true → drop place line ≡ []
-nothing_left line place e = drop_all place line (omega (arith, eqb-true place (length line) e))
+pub nothing_left : (line : List ℕ) (place : ℕ) → place ≡ length line → drop place line ≡ []
+nothing_left line place e = drop_all place line (omega (arith, e))

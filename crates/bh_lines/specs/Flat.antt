@@ -1,5 +1,5 @@
 -- The data of an object whose members hold no others.
-use Rattle.std.specs.Prelude.{◌≡◌, ℕ, zero, suc, List, [], ◌∷◌, length, Bool, true, false, ◌&&◌, Option, None, Some}
+use Rattle.std.specs.Prelude.{◌≡◌, ℕ, zero, suc, ◌-◌, ◌≤◌, List, [], ◌∷◌, length, Bool, true, false, ◌&&◌, Option, None, Some}
 use Rattle.json.specs.Token.{Token}
 use Rattle.json.specs.Json as json
 use Rattle.serde_json.specs.Data.{Num, unsigned, negative, float, Data, null, boolean, number, string, object, Members, no_members, put}
@@ -90,6 +90,16 @@ ReadsScalar s old new = (j : json.Json) × ((depth : ℕ) → json.value depth o
 abbrev pub ReadsMembers : List FlatMember → List Token → List Token → Type 0
 ReadsMembers found old new =
     (ms : json.Members) × (json.members (json.value 126) (length old) old ≡ Some (ms, new)) × (of_members ms no_members ≡ Some (put_all found no_members))
+
+-- of an object whose members begin at `first` these have been read, and `left` is left: whatever is read of that, all members
+-- are these and what was read
+pub record IsBegun (first : List Token) (found : List FlatMember) (left : List Token) : Type 0 where
+  pub turns : ℕ
+  pub enough : length left ≤ turns
+  pub reads : (rest : json.Members) (after : List Token) → json.members (json.value 126) turns left ≡ Some (rest, after)
+      → (ms : json.Members) × (json.members (json.value 126) (length first) first ≡ Some (ms, after)) × (of_members ms no_members ≡ of_members rest (put_all found no_members))
+  pub few : length found ≤ 8
+  pub flat : are_members 8 first ≡ are_members (8 - length found) left
 
 -- what is looked into
 abbrev pub members_data : Looked → Data

@@ -1,14 +1,17 @@
 -- What stands in front of a text, and the tokens that it is.
-use Rattle.std.specs.Prelude.{◌≡◌, ℕ, ◌-◌, ◌<◌, ◌≤◌, List, ◌∷◌, ◌++◌, length, drop, Bool, true, false, Some}
+use Rattle.std.specs.Prelude.{◌≡◌, ◌⊎◌, ℕ, ◌-◌, ◌<◌, ◌≤◌, List, ◌∷◌, ◌++◌, length, drop, Bool, true, false, Some}
 use Rattle.json.specs.Token.{Token}
 use Rattle.json.specs.Word.{ends_word}
-use Rattle.json.specs.Lex.{Place, fresh, after_value, after_comma, may_begin, between, lex, punctuate}
+use Rattle.std.specs.Str.{IsCharBoundary}
+use Rattle.json.specs.Lex.{Place, fresh, after_value, after_comma, may_begin, between, lex, punctuate, tokens}
 use Rattle.json.specs.Lex as lexer
 use Rattle.json.specs.Print.{IsNumber}
 use Rattle.serde_json.specs.Data.{unsigned}
 use Rattle.serde_json.specs.Read.{number_of}
-use Rattle.bh_lines.specs.Flat.{is_scalar, ReadsScalar}
+use Rattle.bh_lines.specs.Flat.{is_scalar, ReadsScalar, IsBegun}
 use Rattle.bh_lines.specs.declared.flat.Scalar.{Scalar}
+use Rattle.bh_lines.specs.declared.flat.FlatMember.{FlatMember}
+use Rattle.bh_lines.specs.declared.flat.FlatObject.{FlatObject}
 use Rattle.bh_lines.specs.declared.plain.PlainMember.{PlainMember}
 
 -- behind a space at most stands this sign, and `next` is the place behind it
@@ -53,3 +56,14 @@ pub record IsMemberThen (line : List ℕ) (place : ℕ) (found : PlainMember) : 
   pub reads : (ts : List Token) → ReadsScalar found.member.value (token ∷ ts) ts
   pub tokens : (p : Place) → may_begin p ≡ true
       → punctuate p (lex between (drop place line)) ≡ Token.key found.member.name.now ∷ token ∷ behind_member found.is_last (drop found.next line)
+
+-- the line begins an object with these members, and from the place on it goes on with others
+pub record IsReadTo (line : List ℕ) (found : List FlatMember) (place : ℕ) : Type 0 where
+  pub first : List Token
+  pub opens : tokens line ≡ Token.begin_object ∷ first
+  pub begun : IsBegun first found (tokens (drop place line))
+  pub boundary : IsCharBoundary line place
+
+-- the object is the front of the one that the line is, up to the place where the rest stands, or nothing was read of it
+abbrev pub IsFrontOf : List ℕ → FlatObject → Type 0
+IsFrontOf line object = (object.rest ≡ 0) ⊎ IsReadTo line object.members.items object.rest

@@ -9,9 +9,10 @@ ghost use Rattle.json.specs.Token.{Token as JsonToken};
 ghost use Rattle.serde_json.specs.Data.{unsigned};
 ghost use Rattle.serde_json.specs.Find.{get};
 ghost use Rattle.serde_json.specs.Read.{read, number_of, number_from};
-ghost use Rattle.bh_lines.specs.Flat.{are_members, is_flat, is_over, is_scalar_then, is_whole, scalar_data, flat_data, ReadsScalar, ReadsMembers};
+ghost use Rattle.bh_lines.specs.Flat.{are_members, is_flat, is_over, is_scalar_then, is_whole, scalar_data, flat_data, IsBegun, ReadsScalar, ReadsMembers};
+ghost use Rattle.bh_lines.specs.Plain.{IsFrontOf};
 
-use crate::plain::read_plain;
+use crate::plain::{PlainRead, read_plain};
 use arrayvec::ArrayVec;
 use fast_float::Numeral;
 use json::{Reader, Scratch, Token};
@@ -41,6 +42,8 @@ pub struct FlatMember<'a> {
 #[derive(Drop)]
 pub struct FlatObject<'a> {
     pub members: ArrayVec<FlatMember<'a>, MOST_MEMBERS>,
+    /// Where a line goes on behind these members of which it is not known whether it is such an object; else 0.
+    pub rest: usize,
 }
 
 impl<'a> FlatObject<'a> {
@@ -55,7 +58,7 @@ impl<'a> FlatObject<'a> {
         };
         let mut members = ArrayVec::from_array_in((), [member; MOST_MEMBERS]);
         members.clear();
-        FlatObject { members }
+        FlatObject { members, rest: 0 }
     }
 
     /// Becomes the object that a line is, and says whether it is one of at most eight members, each a scalar; where it
@@ -71,20 +74,64 @@ impl<'a> FlatObject<'a> {
         if self.read_plain(line) {
             return Ok(true);
         }
-        self.read_tokens(line, scratch)
+        self.read_on(line, scratch)
     }
 
-    /// Becomes the object that a plain line is, and says whether the line is one; where it is not, this says no more of it,
-    /// and the members mean nothing. It takes no memory, and one object serves for any number of lines.
+    /// Becomes the object that a plain line is, and says whether the line is one; where it is not, this says no more of it
+    /// but what its front is, for `read_rest`. It takes no memory, and one object serves for any number of lines.
     ///
     /// Plain is an object of at most eight members: texts without escapes, whole numbers of 64 bits, truth values and null,
     /// with no white space between them but one space at a time.
     pub fn read_plain(&mut self, line: &'a str) -> bool
         ensures found { result ≡ true → is_flat (tokens line.now) ≡ true }
         ensures value { result ≡ true → read line.now ≡ Some (flat_data self.new.members.items) }
+        ensures front { IsFrontOf line.now self.new }
     {
         self.members.clear();
-        read_plain(line, &mut self.members)
+        self.rest = 0;
+        match read_plain(line, &mut self.members) {
+            PlainRead::Whole => true,
+            PlainRead::UpTo(place) => {
+                self.rest = place;
+                false
+            }
+            PlainRead::Nothing => false,
+        }
+    }
+
+    /// As `read`, of a line whose front was read by `read_plain`, and is kept: only what is behind it is read here. It fails
+    /// only for want of memory, where the scratch has no room for the line.
+    pub fn read_rest(
+        &mut self,
+        front: &FlatObject<'a>,
+        line: &'a str,
+        scratch: &'a mut Scratch,
+    ) -> Result<bool, AllocError>
+        requires { IsFrontOf line.now front.now }
+        ensures found { IfOk result (λ found. found ≡ is_flat (tokens line.now)) }
+        ensures value { IfOk result (λ found. found ≡ true → read line.now ≡ Some (flat_data self.new.members.items)) }
+        ensures full { OnErr result (room scratch.old < length line.now) }
+    {
+        self.members.clear();
+        let Ok(()) = self.members.try_extend_from_slice(front.members.as_slice()) else {
+            unreachable!()
+        };
+        self.rest = front.rest;
+        self.read_on(line, scratch)
+    }
+
+    /// Reads what is left of a line behind its front, which the object is.
+    fn read_on(&mut self, line: &'a str, scratch: &'a mut Scratch) -> Result<bool, AllocError>
+        requires { IsFrontOf line.now self.old }
+        ensures found { IfOk result (λ found. found ≡ is_flat (tokens line.now)) }
+        ensures value { IfOk result (λ found. found ≡ true → read line.now ≡ Some (flat_data self.new.members.items)) }
+        ensures full { OnErr result (room scratch.old < length line.now) }
+    {
+        if self.rest == 0 {
+            return self.read_tokens(line, scratch);
+        }
+        let mut reader = Reader::new(&line[self.rest..], scratch)?;
+        Ok(ends_object(&mut reader, &mut self.members))
     }
 
     /// As `read`, without a look whether the line is plain.
@@ -103,13 +150,7 @@ impl<'a> FlatObject<'a> {
             return Ok(false);
         };
         self.members.clear();
-        let Some(()) = next_members(&mut reader, &mut self.members) else {
-            return Ok(false);
-        };
-        match reader.next() {
-            Some(_) => Ok(false),
-            None => Ok(true),
-        }
+        Ok(ends_object(&mut reader, &mut self.members))
     }
 
     /// The value of the member, if there is one.
@@ -126,15 +167,30 @@ impl<'a> FlatObject<'a> {
     }
 }
 
-/// Reads the members up to the bracket that closes their object into `members`, which has none yet, or `None` where
-/// something else comes.
+/// Reads what is left of an object of which `members` have been read, and says whether it is one of at most eight members, each
+/// a scalar, and nothing follows.
+fn ends_object<'a>(
+    reader: &mut Reader<'a>,
+    members: &mut ArrayVec<FlatMember<'a>, MOST_MEMBERS>,
+) -> bool
+    ensures found { (first : List JsonToken) → IsBegun first members.old.items reader.old → result ≡ are_members 8 first }
+    ensures value { (first : List JsonToken) → IsBegun first members.old.items reader.old → result ≡ true → ReadsMembers members.new.items first [] }
+{
+    let Some(()) = next_members(reader, members) else {
+        return false;
+    };
+    reader.next().is_none()
+}
+
+/// Reads the members up to the bracket that closes their object behind those that have been read, or `None` where something
+/// else comes.
 fn next_members<'a>(
     reader: &mut Reader<'a>,
     members: &mut ArrayVec<FlatMember<'a>, MOST_MEMBERS>,
 ) -> Option<()>
-    requires { members.old.items ≡ [] }
-    ensures found { MatchOption result (are_members 8 reader.old ≡ false) (λ _. are_members 8 reader.old ≡ is_over reader.new) }
-    ensures value { OnSome result (ReadsMembers members.new.items reader.old reader.new) }
+    ensures found { (first : List JsonToken) → IsBegun first members.old.items reader.old →
+        MatchOption result (are_members 8 first ≡ false) (λ _. are_members 8 first ≡ is_over reader.new) }
+    ensures value { OnSome result ((first : List JsonToken) → IsBegun first members.old.items reader.old → ReadsMembers members.new.items first reader.new) }
 {
     while let Some(name) = reader.next_key().ok()? {
         let value = next_scalar(reader)?;

@@ -1,6 +1,7 @@
 //! Lines: bytes cut into lines, and what a line of JSON asks for or its fault.
 #![tactic(auto)]
 
+mod ascii;
 pub mod flat;
 pub mod front;
 pub mod lines;

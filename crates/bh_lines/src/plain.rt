@@ -1,21 +1,23 @@
 //! Plain lines: one object of a few members, taken straight from the bytes of the line.
 //!
 //! Plain are texts without escapes, whole numbers of 64 bits, truth values and null, with no white space between them but
-//! one space at a time. A line of any other form is not refused here: nothing is said of it, and it is left before much work
-//! goes into it.
+//! one space at a time. A line of any other form is not refused here: the library reads what is left of it from its first
+//! member that is not plain.
 
-ghost use Rattle.std.specs.Prelude.{◌≡◌, ◌+◌, ◌<◌, ◌≤◌, [], ◌∷◌, ◌++◌, length, drop, true, Some, IfSome};
+ghost use Rattle.std.specs.Prelude.{◌≡◌, ℕ, ◌+◌, ◌<◌, ◌≤◌, [], ◌∷◌, ◌++◌, length, drop, true, Some, IfSome};
 ghost use Rattle.json.specs.Lex.{between, lex, tokens};
 ghost use Rattle.serde_json.specs.Read.{read};
 ghost use Rattle.bh_lines.specs.Flat.{is_flat, flat_data};
-ghost use Rattle.bh_lines.specs.Plain.{IsTextThen, IsKeyThen, IsNumberThen, IsScalarThen, IsMemberThen, IsSignThen};
+ghost use Rattle.bh_lines.specs.declared.plain.PlainRead.TheVariants as read_as;
+ghost use Rattle.bh_lines.specs.Plain.{IsReadTo, IsTextThen, IsKeyThen, IsNumberThen, IsScalarThen, IsMemberThen, IsSignThen};
 
 use crate::flat::{FlatMember, MOST_MEMBERS, Scalar};
 use crate::stops::plain_end;
 use arrayvec::ArrayVec;
+use core::dec2flt::read_digits;
 
-/// Behind a larger number one more digit may not fit.
-const MOST_TENS: u64 = (u64::MAX - 9) / 10;
+/// A number of so many digits is one of 64 bits; of a longer one it is not looked whether it is.
+const SURE_DIGITS: usize = 19;
 
 /// A member of a line, whether the bracket that closes its object follows or a comma, and the place behind that.
 #[derive(Clone, Copy)]
@@ -25,30 +27,49 @@ struct PlainMember<'a> {
     next: usize,
 }
 
-/// Reads the members of the object that a plain line is into `members`, which has none yet, and says whether it is such a
-/// line; where it is not, the members mean nothing.
+/// How much of a line was read as plain.
+#[derive(Clone, Copy, Debug, PartialEq, Eq)]
+pub(crate) enum PlainRead {
+    /// All of it.
+    Whole,
+    /// The members up to this place, where the name of another one may begin.
+    UpTo(usize),
+    /// Nothing that is of use.
+    Nothing,
+}
+
+/// Reads the members of the object that a line is into `members`, which has none yet, as far as the line is plain, and says
+/// how far that is.
 pub(crate) fn read_plain<'a>(
     line: &'a str,
     members: &mut ArrayVec<FlatMember<'a>, MOST_MEMBERS>,
-) -> bool
+) -> PlainRead
     requires { members.old.items ≡ [] }
-    ensures found { result ≡ true → is_flat (tokens line.now) ≡ true }
-    ensures value { result ≡ true → read line.now ≡ Some (flat_data members.new.items) }
+    ensures found { result ≡ PlainRead.Whole → is_flat (tokens line.now) ≡ true }
+    ensures value { result ≡ PlainRead.Whole → read line.now ≡ Some (flat_data members.new.items) }
+    ensures front { (place : ℕ) → result ≡ read_as.UpTo place → IsReadTo line.now members.new.items place }
 {
     if !is_at(line, 0, b'{') {
-        return false;
+        return PlainRead::Nothing;
     }
     let mut place = 1;
     while let Some(found) = plain_member(line, place) {
         if members.try_push(found.member).is_err() {
-            return false;
+            return PlainRead::Nothing;
         }
         place = found.next;
         if found.is_last {
-            return place == line.len();
+            return if place == line.len() {
+                PlainRead::Whole
+            } else {
+                PlainRead::Nothing
+            };
         }
     }
-    false
+    match behind_sign(line, place, b'"') {
+        Some(name) => PlainRead::UpTo(name - 1),
+        None => PlainRead::Nothing,
+    }
 }
 
 /// The member at the place, with the comma or the bracket behind it.
@@ -130,20 +151,15 @@ fn plain_number(line: &str, place: usize) -> Option<(u64, usize)>
     ensures { IfSome result (λ found. IsNumberThen (drop place line.now) found.0 (drop found.1 line.now)) }
 {
     let bytes = line.as_bytes();
-    // No other digit stands behind a zero in front, so a number that is looked at has no more than twenty.
-    if place < bytes.len() && bytes[place] == b'0' {
+    if place >= bytes.len() {
+        return None;
+    }
+    // No other digit stands behind a zero in front.
+    if bytes[place] == b'0' {
         return Some((0, place + 1));
     }
-    let mut number = 0u64;
-    let mut end = place;
-    while end < bytes.len() && bytes[end].is_ascii_digit() {
-        if number > MOST_TENS {
-            return None;
-        }
-        number = number * 10 + (bytes[end] - b'0') as u64;
-        end += 1;
-    }
-    if end == place {
+    let (end, number) = read_digits(bytes, place, 0);
+    if end == place || end - place > SURE_DIGITS {
         return None;
     }
     Some((number, end))

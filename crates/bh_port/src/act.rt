@@ -3,6 +3,7 @@
 ghost use Rattle.std.specs.Prelude.{◌≡◌, Err, IfOk, IfSome, MatchOption, MatchResult, Ok, OnErr, OnOk, option_copied};
 ghost use Rattle.bh_replies.specs.declared.told.Told.TheVariants as told;
 ghost use Rattle.bh_lines.specs.Flat.{members_data};
+ghost use Rattle.bh_lines.specs.Plain.{IsFrontOf};
 ghost use Rattle.bh_lines.specs.ScriptLine.{asked_at};
 ghost use Rattle.bh_props.specs.SettingsView.{SettingsView};
 ghost use Rattle.bh_props.specs.Shown.{settings_view};
@@ -57,11 +58,12 @@ pub fn line_act(
     let mut object = FlatObject::new();
     match plain_act(settings, groups, &mut object, line, act) {
         Some(said) => Ok(said),
-        None => other_act(alloc, settings, groups, scratch, line, act),
+        None => other_act(alloc, settings, groups, scratch, &object, line, act),
     }
 }
 
-/// The same of a plain line, and nothing of any other. It takes no memory, and one object serves for all lines.
+/// The same of a plain line, and nothing of any other but what its front is. It takes no memory, and one object serves for all
+/// lines.
 #[tactic(auto, unfolding(bh_lines::specs::ScriptLine::line_asked, crate::specs::Course::line_act))]
 pub(crate) fn plain_act<'a>(
     settings: &Settings,
@@ -73,6 +75,7 @@ pub(crate) fn plain_act<'a>(
     ensures said { IfSome result (IsSaid (settings_view settings.now) groups.now.entries line.now act.new) }
     ensures act { IfSome result (λ said. OnOk said (IsActOf (settings_view settings.now) groups.now.entries act.new)) }
     ensures kept { MatchOption result (act.new ≡ act.old) (λ said. OnErr said (act.new ≡ act.old)) }
+    ensures front { IsFrontOf line.now object.new }
 {
     if !object.read_plain(line) {
         return None;
@@ -80,22 +83,24 @@ pub(crate) fn plain_act<'a>(
     Some(act_at(settings, groups, Members::Flat(object), act))
 }
 
-/// The same of any line, without a look whether it is plain.
+/// The same of any line, of which the front was read.
 #[tactic(auto, unfolding(bh_lines::specs::ScriptLine::line_asked, crate::specs::Course::line_act))]
 pub(crate) fn other_act(
     alloc: Global,
     settings: &Settings,
     groups: &Groups,
     scratch: &mut Scratch,
+    front: &FlatObject<'_>,
     line: &str,
     act: &mut LineAct,
 ) -> Result<Result<(), Fault>, AllocError>
+    requires { IsFrontOf line.now front.now }
     ensures said { IfOk result (IsSaid (settings_view settings.now) groups.now.entries line.now act.new) }
     ensures act { IfOk result (λ said. OnOk said (IsActOf (settings_view settings.now) groups.now.entries act.new)) }
     ensures kept { MatchResult result (λ said. OnErr said (act.new ≡ act.old)) (λ _. act.new ≡ act.old) }
 {
     let mut object = FlatObject::new();
-    if object.read_tokens(line, scratch)? {
+    if object.read_rest(front, line, scratch)? {
         return Ok(act_at(settings, groups, Members::Flat(&object), act));
     }
     match value_of(alloc, line)? {

@@ -7,6 +7,7 @@ ghost use Rattle.std.specs.Prelude.{◌≡◌, ◌⊎◌, ◌+◌, ◌++◌, ◌
 ghost use Rattle.bh_props.specs.Shown.{settings_view};
 ghost use Rattle.bh_lines.specs.Front.{IsFront};
 ghost use Rattle.bh_lines.specs.Lines.{cut};
+ghost use Rattle.bh_lines.specs.Plain.{IsFrontOf};
 ghost use Rattle.bh_replies.specs.ToldLine.{told_line};
 ghost use Rattle.bh_port.specs.Ahead.{AreRead, AreReady, IsReady, IsStep};
 ghost use Rattle.bh_port.specs.CommandPlaces.{AreCommandPlaces};
@@ -66,6 +67,7 @@ impl ReadLine {
     ) -> bool
         ensures said { result ≡ true → IsSaid (settings_view settings.now) groups.now.entries line.now self.new.act self.new.said }
         ensures ready { result ≡ true → IsReady groups.now.entries self.new }
+        ensures front { IsFrontOf line.now object.new }
     {
         let Some(said) = plain_act(settings, groups, object, line, &mut self.act) else {
             return false;
@@ -79,7 +81,7 @@ impl ReadLine {
 }
 
 /// Reads such lines from the front of the bytes, as many as there is place for; None where no line has ended there, or it is
-/// refused.
+/// refused. Of a line that is none of these the object is what was read.
 fn read_ahead<'a>(
     settings: &Settings,
     groups: &Groups,
@@ -92,6 +94,7 @@ fn read_ahead<'a>(
     ensures ready { IfSome result (λ ahead. AreReady groups.now.entries (take ahead.lines lines.new)) }
     ensures within { IfSome result (λ ahead. ahead.taken ≤ length bytes.now) }
     ensures other { IfSome result (λ ahead. IfSome ahead.other (λ front. IsFront (drop ahead.taken bytes.now) (Some front))) }
+    ensures front { IfSome result (λ ahead. IfSome ahead.other (λ line. IsFrontOf line.text.now object.new)) }
     ensures more { IfSome result (λ ahead. (0 < ahead.taken) ⊎ IsSome ahead.other) }
 {
     let mut count = 0;
@@ -169,7 +172,7 @@ impl Run {
             self.answer_read(settings, places, &lines[..ahead.lines])?;
             taken += ahead.taken;
             if let Some(front) = ahead.other {
-                self.answer_other(settings, places, front.text)?;
+                self.answer_other(settings, places, object, front.text)?;
                 taken += front.taken;
             }
         }

@@ -4,6 +4,7 @@ ghost use Rattle.std.specs.Prelude.{◌≡◌, ◌⊎◌, ◌++◌, ◌<◌, ◌
 ghost use Rattle.bh_props.specs.Shown.{settings_view};
 ghost use Rattle.bh_lines.specs.Front.{IsFront};
 ghost use Rattle.bh_lines.specs.Lines.{cut, has_line};
+ghost use Rattle.bh_lines.specs.Plain.{IsFrontOf};
 ghost use Rattle.bh_lines.specs.Taken.{IsMemoryOrLine};
 ghost use Rattle.bh_replies.specs.FaultLine.{fault_line};
 ghost use Rattle.bh_replies.specs.ReplyLine.{reply_line};
@@ -257,8 +258,8 @@ impl Run {
         self.answer_said(settings, places, said)
     }
 
-    /// The same of a line in front, by an object that serves for all of them. A line of which the object is not plain is
-    /// read once more, in a function of its own.
+    /// The same of a line in front, by an object that serves for all of them. What is left of a line that is not plain is read
+    /// in a function of its own.
     #[inline(always)]
     fn answer_plain<'a>(
         &mut self,
@@ -274,19 +275,21 @@ impl Run {
     {
         match plain_act(settings, &self.groups, object, line, &mut self.act) {
             Some(said) => self.answer_said(settings, places, said),
-            None => self.answer_other(settings, places, line),
+            None => self.answer_other(settings, places, object, line),
         }
     }
 
-    /// The same of a line of which the object is not plain.
+    /// The same of any line, of which the front was read.
     #[inline(never)]
     pub fn answer_other(
         &mut self,
         settings: &Settings,
         places: &CommandPlaces,
+        front: &FlatObject<'_>,
         line: &str,
     ) -> Result<(), AllocError>
-        requires { AreCommandPlaces (settings_view settings.now).commands places.now }
+        requires places { AreCommandPlaces (settings_view settings.now).commands places.now }
+        requires front { IsFrontOf line.now front.now }
         ensures answers { OnOk result ((before : Course) → GroupsShow (settings_view settings.now) self.old.groups before →
             AnswersLine (settings_view settings.now) before line.now self.new.groups self.old.out.items self.new.out.items) }
         ensures kept { OnErr result (self.new.out.items ≡ self.old.out.items) }
@@ -296,6 +299,7 @@ impl Run {
             settings,
             &self.groups,
             &mut self.scratch,
+            front,
             line,
             &mut self.act,
         )?;

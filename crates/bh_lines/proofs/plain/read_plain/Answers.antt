@@ -1,9 +1,10 @@
-use Rattle.std.proofs.Common.{◌≡◌, ◌<◌, [], ◌∷◌, ◌++◌, length, drop, refl, ap, ◌∙◌, arith}
+use Rattle.std.proofs.Common.{◌≡◌, ◌-◌, ◌<◌, [], ◌∷◌, ◌++◌, length, drop, refl, ap, ◌∙◌, subst, arith}
 use Rattle.json.specs.Token.{Token}
 use Rattle.json.specs.Lex.{fresh, after_comma, between, lex, punctuate, tokens}
 use Rattle.bh_lines.specs.Flat.{is_flat}
-use Rattle.bh_lines.proofs.FlatReading.{read_flat}
-use Rattle.bh_lines.proofs.PlainReading.{tokens-open, begun, next_member, last_member, nothing_left}
+use Rattle.bh_lines.specs.Plain.{IsReadTo}
+use Rattle.bh_lines.proofs.FlatReading.{begun, read_flat}
+use Rattle.bh_lines.proofs.PlainReading.{tokens-open, next_member, last_member, nothing_left, read_to}
 use Rattle.bh_lines.proofs.plain.read_plain.Goals as goal
 
 pub loop-found-init : goal.loop-found-init
@@ -18,26 +19,34 @@ loop-found-preserved c =
     let room : length so_far.members.items < 8 = grind arith in
     (after_comma, refl, next_member _ so_far.members.items c.try_push.new.self.items line so_far.place next.found so_far.invariant next.ensures room pushed c.if-found.false)
 
-pub returns-then-found-clause-found : goal.returns-then-found-clause-found
-returns-then-found-clause-found c ended =
+pub returns-then-place-line-clause-found : goal.returns-then-place-line-clause-found
+returns-then-place-line-clause-found c whole =
     let line = c.args.line.now in
     let so_far = c.loop-found in
     let next = c.in-Some in
     let pushed : c.try_push.new.self.items ≡ so_far.members.items ++ next.found.member ∷ [] = grind arith in
     let room : length so_far.members.items < 8 = grind arith in
     let first = punctuate fresh (lex between (drop 1 line)) in
-    let all = last_member first so_far.members.items c.try_push.new.self.items line so_far.place next.found so_far.invariant next.ensures room pushed c.if-found.true (nothing_left line next.found.next ended) in
+    let all = last_member first so_far.members.items c.try_push.new.self.items line so_far.place next.found so_far.invariant next.ensures room pushed c.if-found.true (nothing_left line next.found.next c.if-place-line.true) in
     let opens : tokens line ≡ Token.begin_object ∷ first = ap tokens (c.if-not-is_at.ensures.stands refl) ∙ tokens-open (drop 1 line) in
     ap is_flat opens ∙ all.1
 
-pub returns-then-found-clause-value : goal.returns-then-found-clause-value
-returns-then-found-clause-value c ended =
+pub returns-then-place-line-clause-value : goal.returns-then-place-line-clause-value
+returns-then-place-line-clause-value c whole =
     let line = c.args.line.now in
     let so_far = c.loop-found in
     let next = c.in-Some in
     let pushed : c.try_push.new.self.items ≡ so_far.members.items ++ next.found.member ∷ [] = grind arith in
     let room : length so_far.members.items < 8 = grind arith in
     let first = punctuate fresh (lex between (drop 1 line)) in
-    let all = last_member first so_far.members.items c.try_push.new.self.items line so_far.place next.found so_far.invariant next.ensures room pushed c.if-found.true (nothing_left line next.found.next ended) in
+    let all = last_member first so_far.members.items c.try_push.new.self.items line so_far.place next.found so_far.invariant next.ensures room pushed c.if-found.true (nothing_left line next.found.next c.if-place-line.true) in
     let opens : tokens line ≡ Token.begin_object ∷ first = ap tokens (c.if-not-is_at.ensures.stands refl) ∙ tokens-open (drop 1 line) in
     read_flat line c.try_push.new.self.items first opens all.0
+
+pub returns-in-Some-behind_sign-clause-front : goal.returns-in-Some-behind_sign-clause-front
+returns-in-Some-behind_sign-clause-front c place is =
+    let line = c.args.line.now in
+    let so_far = c.loop-found in
+    let name = c.in-Some-behind_sign.name in
+    let same : name - 1 ≡ place = grind arith in
+    subst (IsReadTo line so_far.members.items) same (read_to line so_far.members.items so_far.place name (c.if-not-is_at.ensures.stands refl) so_far.invariant c.in-Some-behind_sign.ensures)
