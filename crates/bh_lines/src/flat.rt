@@ -42,7 +42,7 @@ pub struct FlatMember<'a> {
 #[derive(Drop)]
 pub struct FlatObject<'a> {
     pub members: ArrayVec<FlatMember<'a>, MOST_MEMBERS>,
-    /// Where a line goes on behind these members of which it is not known whether it is such an object; else 0.
+    /// The place in the line behind these members, where `read_plain` read no further; else 0.
     pub rest: usize,
 }
 
@@ -80,8 +80,8 @@ impl<'a> FlatObject<'a> {
     /// Becomes the object that a plain line is, and says whether the line is one; where it is not, this says no more of it
     /// but what its front is, for `read_rest`. It takes no memory, and one object serves for any number of lines.
     ///
-    /// Plain is an object of at most eight members: texts without escapes, whole numbers of 64 bits, truth values and null,
-    /// with no white space between them but one space at a time.
+    /// Plain is an object of at most eight members: texts without escapes, whole numbers of at most nineteen digits,
+    /// truth values and null, with no white space between them but one space at a time.
     pub fn read_plain(&mut self, line: &'a str) -> bool
         ensures found { result ≡ true → is_flat (tokens line.now) ≡ true }
         ensures value { result ≡ true → read line.now ≡ Some (flat_data self.new.members.items) }
@@ -100,7 +100,7 @@ impl<'a> FlatObject<'a> {
     }
 
     /// As `read`, of a line whose front was read by `read_plain`, and is kept: only what is behind it is read here. It fails
-    /// only for want of memory, where the scratch has no room for the line.
+    /// only for want of memory, where the scratch has no room for the line; the object has the members of the front then.
     pub fn read_rest(
         &mut self,
         front: &FlatObject<'a>,
@@ -110,6 +110,7 @@ impl<'a> FlatObject<'a> {
         requires { IsFrontOf line.now front.now }
         ensures found { IfOk result (λ found. found ≡ is_flat (tokens line.now)) }
         ensures value { IfOk result (λ found. found ≡ true → read line.now ≡ Some (flat_data self.new.members.items)) }
+        ensures err { OnErr result (self.new.members.items ≡ front.now.members.items) }
         ensures full { OnErr result (room scratch.old < length line.now) }
     {
         self.members.clear();
@@ -125,6 +126,7 @@ impl<'a> FlatObject<'a> {
         requires { IsFrontOf line.now self.old }
         ensures found { IfOk result (λ found. found ≡ is_flat (tokens line.now)) }
         ensures value { IfOk result (λ found. found ≡ true → read line.now ≡ Some (flat_data self.new.members.items)) }
+        ensures err { OnErr result (self.new.members.items ≡ self.old.members.items) }
         ensures full { OnErr result (room scratch.old < length line.now) }
     {
         if self.rest == 0 {

@@ -1,7 +1,7 @@
 //! Plain lines: one object of a few members, taken straight from the bytes of the line.
 //!
-//! Plain are texts without escapes, whole numbers of 64 bits, truth values and null, with no white space between them but
-//! one space at a time. A line of any other form is not refused here: the library reads what is left of it from its first
+//! Plain are texts without escapes, whole numbers of at most nineteen digits, truth values and null, with no white space
+//! between them but one space at a time. A line of any other form is not refused here: the library reads what is left of it from its first
 //! member that is not plain.
 
 ghost use Rattle.std.specs.Prelude.{◌≡◌, ℕ, ◌+◌, ◌<◌, ◌≤◌, [], ◌∷◌, ◌++◌, length, drop, true, Some, IfSome};

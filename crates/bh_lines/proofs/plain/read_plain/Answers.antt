@@ -1,7 +1,7 @@
-use Rattle.std.proofs.Common.{◌≡◌, ◌-◌, ◌<◌, [], ◌∷◌, ◌++◌, length, drop, refl, ap, ◌∙◌, subst, arith}
+use Rattle.std.proofs.Common.{◌≡◌, ◌-◌, ◌<◌, true, List, [], ◌∷◌, ◌++◌, length, drop, refl, ap, ◌∙◌, subst, arith}
 use Rattle.json.specs.Token.{Token}
 use Rattle.json.specs.Lex.{fresh, after_comma, between, lex, punctuate, tokens}
-use Rattle.bh_lines.specs.Flat.{is_flat}
+use Rattle.bh_lines.specs.Flat.{are_members, is_flat, ReadsMembers}
 use Rattle.bh_lines.specs.Plain.{IsReadTo}
 use Rattle.bh_lines.proofs.FlatReading.{begun, read_flat}
 use Rattle.bh_lines.proofs.PlainReading.{tokens-open, next_member, last_member, nothing_left, read_to}
@@ -19,8 +19,9 @@ loop-found-preserved c =
     let room : length so_far.members.items < 8 = grind arith in
     (after_comma, refl, next_member _ so_far.members.items c.try_push.new.self.items line so_far.place next.found so_far.invariant next.ensures room pushed c.if-found.false)
 
-pub returns-then-place-line-clause-found : goal.returns-then-place-line-clause-found
-returns-then-place-line-clause-found c whole =
+-- where the line ends behind the last member it is one object of these members
+whole_line : (c : goal.Then-place-line) → (first : List Token) × (tokens c.args.line.now ≡ Token.begin_object ∷ first) × ReadsMembers c.try_push.new.self.items first [] × (are_members 8 first ≡ true)
+whole_line c =
     let line = c.args.line.now in
     let so_far = c.loop-found in
     let next = c.in-Some in
@@ -29,19 +30,13 @@ returns-then-place-line-clause-found c whole =
     let first = punctuate fresh (lex between (drop 1 line)) in
     let all = last_member first so_far.members.items c.try_push.new.self.items line so_far.place next.found so_far.invariant next.ensures room pushed c.if-found.true (nothing_left line next.found.next c.if-place-line.true) in
     let opens : tokens line ≡ Token.begin_object ∷ first = ap tokens (c.if-not-is_at.ensures.stands refl) ∙ tokens-open (drop 1 line) in
-    ap is_flat opens ∙ all.1
+    (first, opens, all.0, all.1)
+
+pub returns-then-place-line-clause-found : goal.returns-then-place-line-clause-found
+returns-then-place-line-clause-found c whole = let w = whole_line c in ap is_flat w.1 ∙ w.3
 
 pub returns-then-place-line-clause-value : goal.returns-then-place-line-clause-value
-returns-then-place-line-clause-value c whole =
-    let line = c.args.line.now in
-    let so_far = c.loop-found in
-    let next = c.in-Some in
-    let pushed : c.try_push.new.self.items ≡ so_far.members.items ++ next.found.member ∷ [] = grind arith in
-    let room : length so_far.members.items < 8 = grind arith in
-    let first = punctuate fresh (lex between (drop 1 line)) in
-    let all = last_member first so_far.members.items c.try_push.new.self.items line so_far.place next.found so_far.invariant next.ensures room pushed c.if-found.true (nothing_left line next.found.next c.if-place-line.true) in
-    let opens : tokens line ≡ Token.begin_object ∷ first = ap tokens (c.if-not-is_at.ensures.stands refl) ∙ tokens-open (drop 1 line) in
-    read_flat line c.try_push.new.self.items first opens all.0
+returns-then-place-line-clause-value c whole = let w = whole_line c in read_flat c.args.line.now c.try_push.new.self.items w.0 w.1 w.2
 
 pub returns-in-Some-behind_sign-clause-front : goal.returns-in-Some-behind_sign-clause-front
 returns-in-Some-behind_sign-clause-front c place is =
