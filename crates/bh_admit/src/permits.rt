@@ -55,6 +55,13 @@ impl Permits {
         self.taken -= 1;
     }
 
+    /// How many permits are not taken.
+    pub fn free(&self) -> u64
+        ensures { result ≡ self.now.max - self.now.taken }
+    {
+        self.max - self.taken
+    }
+
     /// How many permits are taken.
     pub fn taken(&self) -> u64
         ensures number { result ≡ self.now.taken }

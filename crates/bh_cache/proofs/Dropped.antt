@@ -5,7 +5,7 @@ use Rattle.std.specs.Option.{option_map}
 use Rattle.std.proofs.lemmas.Bool.{cases_eq, eq-eqb, ne_eqb}
 use Rattle.bh_base.specs.declared.ticket.Ticket.{Ticket}
 use Rattle.bh_base.specs.Tickets.{is_cached_in}
-use Rattle.bh_slot_arena.specs.Slots.{lists_in}
+use Rattle.bh_slot_arena.specs.Slots.{bounds_of, lists_in}
 use Rattle.bh_cache.specs.declared.lists.GroupLists.{GroupLists}
 use Rattle.bh_cache.specs.Cache.{IsDropped, IsDroppedFrom, cached_among, uncached_in}
 use Rattle.bh_cache.specs.Chains.{IsChained, IsChainFrame}
@@ -53,7 +53,7 @@ none_cached context (Some t) = uncached_not context t
 -- ---- one slot
 
 module _ (context : ℕ) (a b : Slots) (g : GroupLists) (slot : ℕ) (t : Ticket) (n : ℕ) (within : slot < length a.payloads) (is : slice_get a.payloads slot ≡ Some t)
-    (limit : b.limit ≡ a.limit) (first : lists_in b 0 ≡ lists_in a 0) (families : length b.families ≡ length a.families) (chained : IsChained b g) (frame : IsChainFrame g a b) (slots : length b.payloads ≡ length a.payloads)
+    (bounds : bounds_of b ≡ bounds_of a) (first : lists_in b 0 ≡ lists_in a 0) (families : length b.families ≡ length a.families) (chained : IsChained b g) (frame : IsChainFrame g a b) (slots : length b.payloads ≡ length a.payloads)
     (now : (y : ℕ) → slice_get b.payloads y ≡ (if eqb y slot then Some (uncached_in context t) else slice_get a.payloads y)) (number : n ≡ one (is_cached_in context t)) where
   now_slot : slice_get b.payloads slot ≡ Some (uncached_in context t)
   now_slot = now slot ∙ ap (λ c. if c then Some (uncached_in context t) else slice_get a.payloads slot) (eq-eqb slot slot refl)
@@ -78,7 +78,7 @@ module _ (context : ℕ) (a b : Slots) (g : GroupLists) (slot : ℕ) (t : Ticket
   -- the one slot's ticket is cached in the context no more, and the number says whether it was
   pub dropped_at : IsDroppedFrom context g (slot ∷ []) a b n
   dropped_at = record {
-    limit = limit;
+    bounds = bounds;
     first = first;
     families = families;
     chained = chained;
@@ -116,7 +116,7 @@ module _ (context : ℕ) (g : GroupLists) (xs ys : List ℕ) (a b c : Slots) (n 
   -- slots that are dropped after others are dropped together with them, and the numbers add up
   pub dropped_both : IsDroppedFrom context g (xs ++ ys) a c (n + m)
   dropped_both = record {
-    limit = second.limit ∙ first.limit;
+    bounds = second.bounds ∙ first.bounds;
     first = second.first ∙ first.first;
     families = second.families ∙ first.families;
     chained = second.chained;
@@ -199,7 +199,7 @@ module _ (context : ℕ) (a b : Slots) (g : GroupLists) (n : ℕ) (xs : List ℕ
   -- where the slots that have all tickets of the context are dropped, the tickets of the group are
   pub dropped_group : IsDropped context g a b n
   dropped_group = record {
-    limit = dropped.limit;
+    bounds = dropped.bounds;
     first = dropped.first;
     families = dropped.families;
     chained = dropped.chained;

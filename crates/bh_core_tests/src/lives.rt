@@ -90,6 +90,36 @@ fn slots_of_two_groups_go_to_two_others(rt: HostRuntime) {
     play(&rt, &mut core, THREE_SLOTS);
 }
 
+/// One slot of three is ever used.
+const ONE_USED: &str = "0 0 submit x = Queued(1)
+0 0 start = Assigned(1 x)
+0 0 finish 1 one = Done
+0 0 collect 1 = Value(one)
+";
+
+const FOUR_SLOTS: &str = "1 0 submit x = Queued(1)
+1 0 submit x = Queued(2)
+1 0 submit x = Queued(3)
+1 0 submit x = Queued(4)
+1 0 submit x = GroupFull
+2 0 submit x = Queued(1)
+2 0 submit x = GroupFull
+";
+
+#[test]
+fn slots_that_a_retired_group_never_used_are_there_for_others(rt: HostRuntime) {
+    let mut core = Core::new(rt.alloc(), 5);
+    assert_registered(&rt, &mut core, 3, Ok(GroupId(0)));
+    assert_registered(&rt, &mut core, 3, Err(RegisterError::TooManySlots));
+    play(&rt, &mut core, ONE_USED);
+    assert_retired(&rt, &mut core, 0, Ok(()));
+    assert_registered(&rt, &mut core, 6, Err(RegisterError::TooManySlots));
+    assert_registered(&rt, &mut core, 4, Ok(GroupId(1)));
+    assert_registered(&rt, &mut core, 2, Err(RegisterError::TooManySlots));
+    assert_registered(&rt, &mut core, 1, Ok(GroupId(2)));
+    play(&rt, &mut core, FOUR_SLOTS);
+}
+
 /// Asserts that a group of one slot gets the number, and is retired.
 fn assert_comes_and_goes<R: Abort + AllocGlobal>(rt: &R, core: &mut Core, number: u64) {
     assert_registered(rt, core, 1, Ok(GroupId(number)));

@@ -56,6 +56,37 @@ fn slots_move_to_the_ends_of_lists(rt: HostRuntime) {
 }
 
 #[test]
+fn reserved_slots_come_one_after_another(rt: HostRuntime) {
+    let mut arena = Arena::<u8, 1>::new(rt.alloc(), 4);
+    arena.add_lists(0, 2).expect(&rt, "memory");
+    arena.reserve_slots(3).expect(&rt, "memory");
+    assert_number(&rt, u64::from(arena.slot_count()), 0);
+    assert!(rt; arena.has_room_for(1));
+    assert!(rt; !arena.has_room_for(2));
+    assert!(rt; arena.reserve_slots(2).err() == Some(SlotsError::TooManySlots));
+    assert_number(&rt, u64::from(arena.add_reserved(1, [1], 7)), 0);
+    assert_number(&rt, u64::from(arena.add_reserved(2, [0], 9)), 1);
+    assert_numbers(&rt, &slots_on(&rt, &arena, 0, 0, 3), &[1, 2]);
+    assert_numbers(&rt, &slots_on(&rt, &arena, 0, 1, 3), &[0]);
+    for (slot, want) in [(0, 7), (1, 9), (2, 9)] {
+        assert_number(&rt, u64::from(*arena.get(slot)), want);
+    }
+}
+
+#[test]
+fn slots_that_are_added_leave_the_reserved_ones(rt: HostRuntime) {
+    let mut arena = Arena::<u8, 1>::new(rt.alloc(), 4);
+    arena.add_lists(0, 1).expect(&rt, "memory");
+    arena.reserve_slots(2).expect(&rt, "memory");
+    let refused = arena.add_slots(3, [0], 9).err();
+    assert!(rt; refused == Some(SlotsError::TooManySlots));
+    arena.add_slots(2, [0], 9).expect(&rt, "memory");
+    assert!(rt; !arena.has_room_for(1));
+    assert_number(&rt, u64::from(arena.add_reserved(2, [0], 7)), 2);
+    assert_numbers(&rt, &slots_on(&rt, &arena, 0, 0, 4), &[0, 1, 2, 3]);
+}
+
+#[test]
 fn a_list_goes_to_the_end_of_another(rt: HostRuntime) {
     let mut arena = Arena::<u8, 1>::new(rt.alloc(), 4);
     arena.add_lists(0, 2).expect(&rt, "memory");

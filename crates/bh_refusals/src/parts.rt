@@ -99,6 +99,25 @@ fn slots_are_added_or_not(rt: HostRuntime) {
 }
 
 #[test]
+fn slots_are_reserved_or_not(rt: HostRuntime) {
+    for nth in 1..MANY {
+        let mut arena = three_slots(&rt);
+        refuse(rt.alloc(), nth);
+        let reserved = arena.reserve_slots(2);
+        assert_told(&rt, nth, reserved.is_ok());
+        if reserved.is_ok() {
+            assert_eq!(rt; arena.add_reserved(2, [0, 0], 7), 3);
+            return;
+        }
+        assert_eq!(rt; reserved.err(), Some(SlotsError::Memory));
+        assert_three_slots(&rt, &arena);
+        assert!(rt; arena.has_room_for(2));
+        assert_eq!(rt; arena.add_slots(2, [0, 0], 7).ok(), Some(3));
+    }
+    give_up(&rt);
+}
+
+#[test]
 fn lists_too_many_for_any_memory_are_not_added(rt: HostRuntime) {
     let mut arena = three_slots(&rt);
     assert!(rt; arena.add_lists(0, 1 << 60).is_err());

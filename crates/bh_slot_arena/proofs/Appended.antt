@@ -1,13 +1,13 @@
 -- The slots of a list that go to the end of another, one after another.
-use Rattle.std.proofs.Common.{◌≡◌, ℕ, suc, ◌<◌, inl, inr, List, [], ◌∷◌, ◌++◌, length, get_or, set, map, Some, slice_get, refl, sym, ap, ap₂, subst, ◌∙◌, arith, append_assoc, append-nil, length-set, get_or-set_same, get_or-set_other}
+use Rattle.std.proofs.Common.{◌≡◌, ℕ, suc, ◌<◌, inl, inr, List, [], ◌∷◌, ◌++◌, length, map, Some, slice_get, refl, sym, ap, ap₂, ◌∙◌, arith, append_assoc, append-nil, length-set, get_or-set_same, get_or-set_other}
 use Rattle.std.specs.Prelude.{◌≢◌}
 use Rattle.std.proofs.Math.ListN.{get_or-map as get_or-map_default}
 use Rattle.std.proofs.lemmas.Bool.{cases_eq}
-use Rattle.std.proofs.lemmas.List.{same_lists, get_or_default, length-map, set-get_or}
+use Rattle.std.proofs.lemmas.List.{same_lists, get_or_default, length-map}
 use Rattle.bh_index_lists.specs.Lists.{without}
 use Rattle.bh_index_lists.proofs.Members.{IsIn, without-in, without-out}
 use Rattle.bh_slot_arena.specs.Lists.{IsPartition, appended, list_at, moved, put_last}
-use Rattle.bh_slot_arena.proofs.Parted.{IsIn-at, place_of}
+use Rattle.bh_slot_arena.proofs.Parted.{place_of}
 
 -- as many lists with the same slots each are the same
 alike : (xs ys : List (List ℕ)) → length xs ≡ length ys → ((l : ℕ) → list_at xs l ≡ list_at ys l) → xs ≡ ys

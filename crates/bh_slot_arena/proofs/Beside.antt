@@ -1,8 +1,7 @@
 -- The links and the list numbers of nodes.
-use Rattle.std.proofs.Common.{◌≡◌, ℕ, ◌+◌, ◌<◌, List, [], ◌∷◌, ◌++◌, length, get_or, set, map, None, ◌∙◌, sym, ap, subst, arith}
+use Rattle.std.proofs.Common.{◌≡◌, ℕ, ◌<◌, List, [], ◌∷◌, ◌++◌, length, get_or, set, ◌∙◌, sym, ap, subst, arith}
 use Rattle.std.specs.List.{Contains}
 use Rattle.std.proofs.lemmas.List.{get_or-map, length-map, map-append, map-set, set-get_or}
-use Rattle.bh_index_lists.specs.declared.lists.Link.{Link}
 use Rattle.bh_index_lists.specs.declared.lists.ListHead.{ListHead}
 use Rattle.bh_index_lists.specs.Lists.{link_at, list_of, no_link}
 use Rattle.bh_slot_arena.specs.declared.nodes.Node.{Node}

@@ -22,14 +22,14 @@ pub all_lists-read : (fs : List FamilyView) (f : ℕ) (d : FamilyView) → f < l
 all_lists-read fs f d lt = get_or-map (λ (v : FamilyView). v.lists) fs f d [] lt
 
 -- what an arena of the families shows
-abbrev pub shown : {T : Type 0} → ℕ → List T → List FamilyView → ArenaView T
-shown limit payloads fs = record { limit = limit; payloads = payloads; families = all_lists fs }
+abbrev pub shown : {T : Type 0} → ℕ → ℕ → List T → List FamilyView → ArenaView T
+shown limit reserved payloads fs = record { limit = limit; reserved = reserved; payloads = payloads; families = all_lists fs }
 
 -- where one family changes, the arena shows the change of that family's lists and no other
-pub shown-set : {T : Type 0} (limit : ℕ) (payloads : List T) (fs : List FamilyView) (f : ℕ) (d v : FamilyView) (change : List (List ℕ) → List (List ℕ)) → f < length fs → v.lists ≡ change (get_or fs f d).lists
-    → shown limit payloads (set fs f v) ≡ with_lists f (change (lists_in (shown limit payloads fs) f)) (shown limit payloads fs)
-shown-set {T} limit payloads fs f d v change lt e =
-    ap (λ (ls : List (List (List ℕ))). let a : ArenaView T = record { limit = limit; payloads = payloads; families = ls } in a)
+pub shown-set : {T : Type 0} (limit reserved : ℕ) (payloads : List T) (fs : List FamilyView) (f : ℕ) (d v : FamilyView) (change : List (List ℕ) → List (List ℕ)) → f < length fs → v.lists ≡ change (get_or fs f d).lists
+    → shown limit reserved payloads (set fs f v) ≡ with_lists f (change (lists_in (shown limit reserved payloads fs) f)) (shown limit reserved payloads fs)
+shown-set {T} limit reserved payloads fs f d v change lt e =
+    ap (λ (ls : List (List (List ℕ))). let a : ArenaView T = record { limit = limit; reserved = reserved; payloads = payloads; families = ls } in a)
     (map-set (λ (w : FamilyView). w.lists) fs f v ∙ ap (λ (ls : List (List ℕ)). set (all_lists fs) f ls) (e ∙ ap change (sym (all_lists-read fs f d lt))))
 
 -- an arena is as it was where a family gets the lists that it has

@@ -27,7 +27,8 @@ pub record CanAddSlots (first count to : ℕ) (v : FamilyView) : Type 0 where
   pub room : count ≤ v.room
   pub list : to < length v.lists
 
--- so many slots, from a number on, are put at the end of the list
+-- so many slots, from a number on, are put at the end of the list, within the room that was there
 pub record AddsSlots (first count to : ℕ) (old new : FamilyView) : Type 0 where
   pub slots : new.slots ≡ first + count
   pub lists : new.lists ≡ put_last (range_with_len first count) to old.lists
+  pub room : new.room + count ≡ old.room

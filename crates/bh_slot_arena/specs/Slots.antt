@@ -3,11 +3,16 @@ use Rattle.std.specs.Prelude.{ℕ, List, [], ◌++◌, length, map, replicate, s
 use Rattle.std.specs.List.{range_with_len, zip}
 use Rattle.bh_slot_arena.specs.Lists.{appended, list_at, moved, put_last}
 
--- the payload of each slot, the lists of each family, and how many slots there may be
+-- the payload of each slot, the lists of each family, how many slots there may be, and for how many more the memory is taken
 pub record ArenaView (T : Type 0) : Type 0 where
   pub limit : ℕ
+  pub reserved : ℕ
   pub payloads : List T
   pub families : List (List (List ℕ))
+
+-- how many slots there may be, and for how many more the memory is taken
+abbrev pub bounds_of : {T : Type 0} → ArenaView T → ℕ × ℕ
+bounds_of a = (a.limit, a.reserved)
 
 -- the lists of a family
 abbrev pub lists_in : {T : Type 0} → ArenaView T → ℕ → List (List ℕ)
@@ -43,3 +48,7 @@ with_new_slots count lists payload a = record a {
   payloads = a.payloads ++ replicate count payload;
   families = map (λ p. put_last (range_with_len (length a.payloads) count) p.0 p.1) (zip lists a.families);
 }
+
+-- with so many slots reserved
+abbrev pub with_reserved : {T : Type 0} → ℕ → ArenaView T → ArenaView T
+with_reserved count a = record a { reserved = count }

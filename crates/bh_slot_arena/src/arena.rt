@@ -1,8 +1,8 @@
 //! Slots with a payload each, on lists of several families.
 
-ghost use Rattle.std.specs.Prelude.{◌≡◌, ℕ, ◌+◌, ◌<◌, ◌≤◌, ◌↔◌, ◌≢◌, ◌^◌, [], ◌++◌, Contains, length, nat_le, replicate, reverse, slice_get, slice_index, vec_len, vec_capacity, IfOk, OnOk, OnErr, Err, Some};
+ghost use Rattle.std.specs.Prelude.{◌≡◌, ℕ, ◌+◌, ◌-◌, ◌<◌, ◌≤◌, ◌↔◌, ◌≢◌, ◌^◌, [], ◌++◌, Contains, length, nat_le, replicate, reverse, slice_get, slice_index, vec_len, vec_capacity, IfOk, OnOk, OnErr, Err, Some};
 ghost use Rattle.bh_slot_arena.specs.Lists.{IsPartition};
-ghost use Rattle.bh_slot_arena.specs.Slots.{lists_in, slots_on, with_appended, with_moved, with_new_lists, with_new_slots, with_payload};
+ghost use Rattle.bh_slot_arena.specs.Slots.{lists_in, slots_on, with_appended, with_moved, with_new_lists, with_new_slots, with_payload, with_reserved};
 ghost use Rattle.bh_slot_arena.specs.Family.{AddsSlots, CanAddSlots, but_room, family_at, no_lists};
 ghost use Rattle.std.specs.Borrow.{Lends, sem};
 ghost use Rattle.bh_slot_arena.specs.contracts.arena.Arena.{the_row};
@@ -20,6 +20,8 @@ use thiserror::Error;
 pub struct Arena<T: Copy, const K: usize> {
     /// How many slots there may be.
     limit: u32,
+    /// How many slots more there may be without more memory.
+    reserved: u32,
     payloads: Vec<T>,
     families: [Family; K],
 }
@@ -37,23 +39,24 @@ pub enum SlotsError {
 
 impl<T: Copy, const K: usize> Model for Arena<T, K> {
     ghost use Rattle.bh_slot_arena.specs.Slots.{ArenaView};
-    ghost use Rattle.std.specs.Prelude.{map, length};
+    ghost use Rattle.std.specs.Prelude.{map, length, vec_capacity};
     ghost use Rattle.bh_slot_arena.specs.Whole.{HasFamilies};
 
     ghost Value = { ArenaView T };
 
-    ghost view = { λ a. record { limit = a.limit; payloads = a.payloads.items; families = map (λ f. f.lists) a.families } };
+    ghost view = { λ a. record { limit = a.limit; reserved = a.reserved; payloads = a.payloads.items; families = map (λ f. f.lists) a.families } };
 
-    ghost invariant = { λ a. HasFamilies a.limit (length a.payloads.items) K a.families };
+    ghost invariant = { λ a. HasFamilies a.limit a.reserved (length a.payloads.items) (vec_capacity a.payloads) K a.families };
 }
 
 impl<T: Copy, const K: usize> Arena<T, K> {
     /// An arena without lists and slots, which may have so many slots.
     pub fn new(alloc: Global, limit: u32) -> Self
-        ensures { result ≡ record { limit = limit; payloads = []; families = replicate K [] } }
+        ensures { result ≡ record { limit = limit; reserved = 0; payloads = []; families = replicate K [] } }
     {
         Arena {
             limit,
+            reserved: 0,
             payloads: Vec::new(alloc),
             families: array::from_fn(
                 |_| -> Family
@@ -71,12 +74,12 @@ impl<T: Copy, const K: usize> Arena<T, K> {
         count as u32
     }
 
-    /// Whether so many slots more are within what the arena may have.
+    /// Whether so many slots more are within what the arena may have, beside those that are reserved.
     pub fn has_room_for(&self, count: u32) -> bool
-        ensures { result ≡ nat_le (length self.now.payloads + count) self.now.limit }
+        ensures { result ≡ nat_le (length self.now.payloads + self.now.reserved + count) self.now.limit }
     {
         let slots = self.payloads.len() as u32;
-        count <= self.limit - slots
+        count <= self.limit - slots - self.reserved
     }
 
     /// Adds empty lists to a family, and answers the number of the first. Where memory is refused, nothing has changed.
@@ -90,31 +93,58 @@ impl<T: Copy, const K: usize> Arena<T, K> {
         self.families[family].add_lists(count)
     }
 
+    /// Takes the memory for so many slots more, which `add_reserved` adds.
+    ///
+    /// It is refused with `TooManySlots` where there would be more slots than the arena may have, those among them that were
+    /// reserved before, and else with `Memory` where memory is refused; nothing has changed then.
+    pub fn reserve_slots(&mut self, count: u32) -> Result<(), SlotsError>
+        ensures ok { OnOk result (self.new ≡ with_reserved (self.old.reserved + count) self.old) }
+        ensures limit { (result ≡ Err SlotsError.TooManySlots) ↔ (self.old.limit < length self.old.payloads + self.old.reserved + count) }
+        ensures err { OnErr result (self.new ≡ self.old) }
+    {
+        if !self.has_room_for(count) {
+            return Err(SlotsError::TooManySlots);
+        }
+        let reserved = self.reserved + count;
+        if reserve_all(&mut self.families, reserved as usize).is_err() {
+            return Err(SlotsError::Memory);
+        }
+        if self.payloads.reserve(reserved as usize).is_err() {
+            return Err(SlotsError::Memory);
+        }
+        self.reserved = reserved;
+        Ok(())
+    }
+
+    /// Adds so many of the reserved slots, each with the payload `blank`, and answers the number of the first. They go to
+    /// the end of one list of each family, that of the number in `lists`, in the order of their numbers. It takes no memory.
+    pub fn add_reserved(&mut self, count: u32, lists: [usize; K], blank: T) -> u32
+        requires reserved { count ≤ self.old.reserved }
+        requires lists { (f : ℕ) → f < K → slice_index lists f < length (lists_in self.old f) }
+        ensures first { result ≡ length self.old.payloads }
+        ensures added { self.new ≡ with_reserved (self.old.reserved - count) (with_new_slots count lists.entry blank self.old) }
+    {
+        let first = self.payloads.len() as u32;
+        self.reserved -= count;
+        push_copies(&mut self.payloads, blank, count);
+        add_to_all(&mut self.families, first, count, &lists);
+        first
+    }
+
     /// Adds slots, each with the payload `blank`, and answers the number of the first. They go to the end of one list
     /// of each family, that of the number in `lists`, in the order of their numbers.
     ///
-    /// It is refused with `TooManySlots` where there would be more slots than the arena may have, and else with
-    /// `Memory` where memory is refused; nothing has changed then.
+    /// It is refused with `TooManySlots` where there would be more slots than the arena may have, those among them that are
+    /// reserved, and else with `Memory` where memory is refused; nothing has changed then.
     pub fn add_slots(&mut self, count: u32, lists: [usize; K], blank: T) -> Result<u32, SlotsError>
         requires { (f : ℕ) → f < K → slice_index lists f < length (lists_in self.old f) }
         ensures first { IfOk result (λ n. n ≡ length self.old.payloads) }
         ensures ok { OnOk result (self.new ≡ with_new_slots count lists.entry blank self.old) }
-        ensures limit { (result ≡ Err SlotsError.TooManySlots) ↔ (self.old.limit < length self.old.payloads + count) }
+        ensures limit { (result ≡ Err SlotsError.TooManySlots) ↔ (self.old.limit < length self.old.payloads + self.old.reserved + count) }
         ensures err { OnErr result (self.new ≡ self.old) }
     {
-        let first = self.payloads.len() as u32;
-        if self.limit - first < count {
-            return Err(SlotsError::TooManySlots);
-        }
-        if reserve_all(&mut self.families, count as usize).is_err() {
-            return Err(SlotsError::Memory);
-        }
-        if self.payloads.reserve(count as usize).is_err() {
-            return Err(SlotsError::Memory);
-        }
-        push_copies(&mut self.payloads, blank, count);
-        add_to_all(&mut self.families, first, count, &lists);
-        Ok(first)
+        self.reserve_slots(count)?;
+        Ok(self.add_reserved(count, lists, blank))
     }
 
     /// Takes a slot off its list of a family, and puts it last on the list `to`, which may be the same one.
@@ -228,16 +258,17 @@ impl<T: Copy, const K: usize> Arena<T, K> {
         requires { family < K }
         ensures lists { IsPartition (length self.now.payloads) (lists_in self.now family) }
         ensures families { length self.now.families ≡ K }
-        ensures limit { length self.now.payloads ≤ self.now.limit }
+        ensures limit { length self.now.payloads + self.now.reserved ≤ self.now.limit }
         ensures few { self.now.limit < 2 ^ 32 }
     {
         self.families[family].partition();
     }
 }
 
-/// Takes the memory for so many slots more in each family.
+/// Takes the memory for so many slots more in each family. None has room for fewer than before, also where it is refused.
 fn reserve_all(families: &mut [Family], count: usize) -> Result<(), AllocError>
     ensures same { (f : ℕ) → but_room (family_at families.new f) ≡ but_room (family_at families.old f) }
+    ensures room { (f : ℕ) → (family_at families.old f).room ≤ (family_at families.new f).room }
     ensures ok { OnOk result ((f : ℕ) → f < length families.old → count ≤ (family_at families.new f).room) }
 {
     for family in families.iter_mut() {
@@ -249,7 +280,8 @@ fn reserve_all(families: &mut [Family], count: usize) -> Result<(), AllocError>
 /// Adds so many copies of the payload within the room that is there.
 fn push_copies<T: Copy>(payloads: &mut Vec<T>, payload: T, count: u32)
     requires { vec_len payloads.old + count ≤ vec_capacity payloads.old }
-    ensures { payloads.new.items ≡ payloads.old.items ++ replicate count payload }
+    ensures items { payloads.new.items ≡ payloads.old.items ++ replicate count payload }
+    ensures room { vec_capacity payloads.new ≡ vec_capacity payloads.old }
 {
     for _ in 0..count {
         payloads.push_reserved(payload);

@@ -48,6 +48,7 @@ impl Family {
         ensures first { IfOk result (λ n. n ≡ length self.old.lists) }
         ensures few { IfOk result (λ n. n + count < 2 ^ 64) }
         ensures slots { self.new.slots ≡ self.old.slots }
+        ensures room { self.new.room ≡ self.old.room }
         ensures ok { OnOk result (self.new.lists ≡ self.old.lists ++ replicate count []) }
         ensures err { OnErr result (self.new.lists ≡ self.old.lists) }
     {
@@ -59,6 +60,7 @@ impl Family {
     /// Takes the memory for so many slots more.
     pub fn reserve(&mut self, count: usize) -> Result<(), AllocError>
         ensures same { but_room self.new ≡ but_room self.old }
+        ensures room { self.old.room ≤ self.new.room }
         ensures ok { OnOk result (count ≤ self.new.room) }
     {
         self.nodes.reserve(count)
@@ -78,6 +80,7 @@ impl Family {
         requires slot { slot < self.old.slots }
         requires list { to < length self.old.lists }
         ensures slots { self.new.slots ≡ self.old.slots }
+        ensures room { self.new.room ≡ self.old.room }
         ensures lists { self.new.lists ≡ moved slot to self.old.lists }
     {
         move_slot(&mut self.nodes, &mut self.heads, slot, to);
@@ -89,6 +92,7 @@ impl Family {
         requires to { to < length self.old.lists }
         requires differ { from ≢ to }
         ensures slots { self.new.slots ≡ self.old.slots }
+        ensures room { self.new.room ≡ self.old.room }
         ensures lists { self.new.lists ≡ appended from to self.old.lists }
     {
         for _ in 0..self.len_of(from) {
@@ -102,6 +106,7 @@ impl Family {
         requires to { to < length self.old.lists }
         requires some { 0 < length (list_at self.old.lists from) }
         ensures slots { self.new.slots ≡ self.old.slots }
+        ensures room { self.new.room ≡ self.old.room }
         ensures lists { (x : ℕ) → slice_get (list_at self.old.lists from) 0 ≡ Some x → self.new.lists ≡ moved x to self.old.lists }
         ensures parted { IsPartition self.old.slots self.old.lists }
     {
@@ -189,6 +194,7 @@ fn put_slots(nodes: &mut Vec<Node>, heads: &mut [ListHead], first: u32, count: u
     requires room { vec_len nodes.old + count ≤ vec_capacity nodes.old }
     ensures sound { AreLinked nodes.new.items heads.new }
     ensures slots { length nodes.new.items ≡ first + count }
+    ensures room { vec_capacity nodes.new ≡ vec_capacity nodes.old }
     ensures lists { map (list_of (links_of nodes.new.items)) heads.new ≡ put_last (range_with_len first count) list (map (list_of (links_of nodes.old.items)) heads.old) }
 {
     for slot in first..first + count {

@@ -75,7 +75,7 @@ module _ (n k m : ℕ) (a b : Slots) (ss : List GroupSlots) (whole : AreGroupSlo
   }
 
   view_new : view_of b ss ≡ view_of a ss
-  view_new = λ i. record { limit = more.limit i; groups = map_same (group_of b) (group_of a) ss (λ j s e. group_same a b s (same_more j s e) whole.arena (whole.each j s e)) i }
+  view_new = λ i. record { limit = (more.bounds i).0; groups = map_same (group_of b) (group_of a) ss (λ j s e. group_same a b s (same_more j s e) whole.arena (whole.each j s e)) i }
 
 -- with some empty lists more, the groups are as they should be
 pub whole_more : (a b : Slots) (ss : List GroupSlots) → AreGroupSlots a ss → HasMoreLists a b → AreGroupSlots b ss

@@ -88,7 +88,7 @@ module _ (n k m : ℕ) (xs : List ℕ) where
 -- no list more
 pub more_none : (a : Slots) → HasNewLists 0 0 0 a a
 more_none a = record {
-  limit = refl;
+  bounds = refl;
   payloads = refl;
   families = refl;
   first = sym (append-nil (lists_in a 0));
@@ -99,7 +99,7 @@ more_none a = record {
 -- more of the first family
 pub more_first : (n : ℕ) (a b : Slots) → 0 < length a.families → b ≡ with_new_lists 0 n a → HasNewLists n 0 0 a b
 more_first n a b there is = subst (HasNewLists n 0 0 a) (sym is) (record {
-  limit = refl;
+  bounds = refl;
   payloads = refl;
   families = length-set a.families 0 (lists_in a 0 ++ replicate n []);
   first = get_or-set_same a.families 0 (lists_in a 0 ++ replicate n []) [] there;
@@ -110,7 +110,7 @@ more_first n a b there is = subst (HasNewLists n 0 0 a) (sym is) (record {
 -- then of the second
 pub more_second : (n k : ℕ) (a b c : Slots) → 1 < length a.families → HasNewLists n 0 0 a b → c ≡ with_new_lists 1 k b → HasNewLists n k 0 a c
 more_second n k a b c there more is = subst (HasNewLists n k 0 a) (sym is) (record {
-  limit = more.limit;
+  bounds = more.bounds;
   payloads = more.payloads;
   families = length-set b.families 1 (lists_in b 1 ++ replicate k []) ∙ more.families;
   first = get_or-set_other b.families 1 0 (lists_in b 1 ++ replicate k []) [] (λ e. absurd (omega (arith, e))) ∙ more.first;
@@ -121,7 +121,7 @@ more_second n k a b c there more is = subst (HasNewLists n k 0 a) (sym is) (reco
 -- and then of the third
 pub more_third : (n k m : ℕ) (a b c : Slots) → 2 < length a.families → HasNewLists n k 0 a b → c ≡ with_new_lists 2 m b → HasNewLists n k m a c
 more_third n k m a b c there more is = subst (HasNewLists n k m a) (sym is) (record {
-  limit = more.limit;
+  bounds = more.bounds;
   payloads = more.payloads;
   families = length-set b.families 2 (lists_in b 2 ++ replicate m []) ∙ more.families;
   first = get_or-set_other b.families 2 0 (lists_in b 2 ++ replicate m []) [] (λ e. absurd (omega (arith, e))) ∙ more.first;
@@ -141,7 +141,7 @@ family_both f k m a b c p q = q ∙ ap (λ (ls : List (List ℕ)). ls ++ replica
 -- what is more after each of two steps is more after both
 pub more_both : (n k m p q r : ℕ) (a b c : Slots) → HasNewLists n k m a b → HasNewLists p q r b c → HasNewLists (n + p) (k + q) (m + r) a c
 more_both n k m p q r a b c one two = record {
-  limit = two.limit ∙ one.limit;
+  bounds = two.bounds ∙ one.bounds;
   payloads = two.payloads ∙ one.payloads;
   families = two.families ∙ one.families;
   first = family_both 0 n p a b c one.first two.first;

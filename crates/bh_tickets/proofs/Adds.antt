@@ -34,7 +34,7 @@ use Rattle.bh_cache.proofs.Placed.{alike_same, alike_trans, unnamed_alike}
 
 -- a ticket of the next serial and of a command below 16 that somebody needs, where a slot is free
 pub record IsNew (s : GroupSlots) (v : Ticket) : Type 0 where
-  pub room : s.slots.taken < s.slots.max
+  pub room : s.slots.taken + s.unmade < s.slots.max
   pub serial : v.serial ≡ s.next
   pub few : s.next < 2 ^ 63
   pub command : v.command < 16
@@ -99,11 +99,11 @@ back_none : (xs : List ℕ) → slice_get (reverse xs) 0 ≡ None → xs ≡ []
 back_none xs e = nil_from_length xs (sym (length-reverse xs) ∙ ap length (front_none (reverse xs) e))
 
 -- where no slot is free, all are taken
-pub all_taken : (a : Slots) (s : GroupSlots) → IsArena a 0 → IsGroupSlots a s → slice_get (reverse (slots_on a 0 s.lists.free)) 0 ≡ None → s.slots.taken ≡ s.slots.max
+pub all_taken : (a : Slots) (s : GroupSlots) → IsArena a 0 → IsGroupSlots a s → slice_get (reverse (slots_on a 0 s.lists.free)) 0 ≡ None → s.slots.taken + s.unmade ≡ s.slots.max
 all_taken a s arena group none =
-    group.taken
+    ap (λ n. n + s.unmade) (group.taken
     ∙ count_same (λ x. has_one is_any (ticket_at a s.lists x)) (is_owned a s.lists) (length a.payloads)
-    (λ x. live_is a s.lists x arena ∙ sym (ap (λ xs. has x xs || is_live a s.lists x) (back_none (slots_on a 0 s.lists.free) none)))
+    (λ x. live_is a s.lists x arena ∙ sym (ap (λ xs. has x xs || is_live a s.lists x) (back_none (slots_on a 0 s.lists.free) none))))
     ∙ group.slots
 
 -- a slot that is free has no ticket
@@ -264,8 +264,8 @@ module _ (a b : Slots) (s : GroupSlots) (x : ℕ) (v : Ticket) (arena : IsArena 
       there = omega (arith, group.there, touched.count);
       chained = chains.0;
       arranged = come_arranged a b s.lists x s.next v group.arranged within was can.serial touched order;
-      slots = ap (λ n. count_below n (is_owned b s.lists)) touched.slots
-          ∙ count_same (is_owned b s.lists) (is_owned a s.lists) (length a.payloads) (owned_same a b x (list_for s.lists v.state) v touched s.lists owned_slot owned_list)
+      slots = ap (λ n. n + s.unmade) (ap (λ n. count_below n (is_owned b s.lists)) touched.slots
+          ∙ count_same (is_owned b s.lists) (is_owned a s.lists) (length a.payloads) (owned_same a b x (list_for s.lists v.state) v touched s.lists owned_slot owned_list))
           ∙ group.slots;
       few = group.few;
       taken = omega (arith, group.taken, recount is_any);
@@ -287,9 +287,10 @@ module _ (a b : Slots) (s : GroupSlots) (x : ℕ) (v : Ticket) (arena : IsArena 
         group = subst (IsGroupSlots b) (sym made) whole;
         frame = touched_frame a b x (list_for s.lists v.state) v touched s.lists s.lists.free arena on (record { from = omega arith; to = omega (arith, group.numbered.settled) }) (own_for s.lists group.numbered v.state);
         chains = chains.1;
-        limit = touched.limit;
+        bounds = touched.bounds;
         lists = ap (λ (z : GroupSlots). z.lists) made;
         room = ap (λ (z : GroupSlots). z.slots.max) made;
+        unmade = ap (λ (z : GroupSlots). z.unmade) made;
       };
       next = ap (λ (z : GroupSlots). z.next) made;
       items = come_tickets a b s.lists x s.next v group.arranged within was can.serial touched;

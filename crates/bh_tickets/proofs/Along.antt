@@ -30,9 +30,10 @@ change_trans a s b r c u first second = record {
   group = second.group;
   frame = frame_trans s.lists a b c first.frame (subst (λ (g : GroupLists). IsFrame g b c) first.lists second.frame);
   chains = chain_frame_trans s.lists a b c first.chains (subst (λ (g : GroupLists). IsChainFrame g b c) first.lists second.chains);
-  limit = second.limit ∙ first.limit;
+  bounds = second.bounds ∙ first.bounds;
   lists = second.lists ∙ first.lists;
   room = second.room ∙ first.room;
+  unmade = second.unmade ∙ first.unmade;
 }
 
 module _ (f : Option Ticket → Option Ticket) (again : (o : Option Ticket) → f (f o) ≡ f o) where

@@ -3,7 +3,7 @@ use Rattle.std.proofs.Common.{◌≡◌, ℕ, ◌<◌, ◌≤◌, inl, inr, Bool
 use Rattle.std.specs.Prelude.{◌||◌, eqb, slice_get, if◌then◌else◌}
 use Rattle.std.proofs.lemmas.Bool.{cases_eq}
 use Rattle.bh_base.specs.declared.ticket.Ticket.{Ticket}
-use Rattle.bh_slot_arena.specs.Slots.{lists_in, slots_on, with_payload, with_moved}
+use Rattle.bh_slot_arena.specs.Slots.{bounds_of, lists_in, slots_on, with_payload, with_moved}
 use Rattle.bh_cache.specs.declared.lists.GroupLists.{GroupLists}
 use Rattle.bh_cache.specs.Chains.{IsChainFrame, AreOn, HasChains, IsChained, list_by_context, list_by_name, list_of_context, list_of_name, unchained, with_placed_where}
 use Rattle.bh_cache.specs.Slots.{Slots, has, is_live_list, is_on, is_owned, ticket_at, Once, IsArena}
@@ -25,16 +25,16 @@ pub payloads_placed : (named : Bool) (g : GroupLists) (x : ℕ) (o : Option Tick
 payloads_placed true g x o z = refl
 payloads_placed false g x o z = refl
 
-limit_placed : (named : Bool) (g : GroupLists) (x : ℕ) (o : Option Ticket) (z : Slots) → (with_placed_where named g x o z).limit ≡ z.limit
-limit_placed true g x o z = refl
-limit_placed false g x o z = refl
+bounds_placed : (named : Bool) (g : GroupLists) (x : ℕ) (o : Option Ticket) (z : Slots) → bounds_of (with_placed_where named g x o z) ≡ bounds_of z
+bounds_placed true g x o z = refl
+bounds_placed false g x o z = refl
 
 -- what was touched is so once it is placed
 pub touched_placed : (named : Bool) (a b : Slots) (x to : ℕ) (v : Ticket) (g : GroupLists) (o : Option Ticket) → IsTouched a b x to v → IsTouched a (with_placed_where named g x o b) x to v
 touched_placed named a b x to v g o touched = record {
   slots = ap (λ (ps : List Ticket). length ps) (payloads_placed named g x o b) ∙ touched.slots;
   wide = omega (arith, touched.wide, families_where named b g x o);
-  limit = limit_placed named g x o b ∙ touched.limit;
+  bounds = bounds_placed named g x o b ∙ touched.bounds;
   count = ap (λ (ls : List (List ℕ)). length ls) (first_where named b g x o) ∙ touched.count;
   payload = λ y. ap (λ (ps : List Ticket). slice_get ps y) (payloads_placed named g x o b) ∙ touched.payload y;
   on = λ l y. ap (has y) (placed_on named g x o b l) ∙ touched.on l y;

@@ -1,5 +1,5 @@
 -- A place gets other chains.
-use Rattle.std.proofs.Common.{◌≡◌, ℕ, suc, ◌<◌, ◌≤◌, inl, inr, Bool, true, false, List, [], ◌∷◌, ◌++◌, length, set, Some, None, refl, ◌∙◌, sym, ap, subst, arith}
+use Rattle.std.proofs.Common.{◌≡◌, ℕ, suc, ◌+◌, ◌<◌, ◌≤◌, inl, inr, Bool, true, false, List, [], ◌∷◌, ◌++◌, length, set, Some, None, refl, ◌∙◌, sym, ap, subst, arith}
 use Rattle.std.specs.Prelude.{slice_get}
 use Rattle.std.specs.Option.{option_map}
 use Rattle.std.proofs.lemmas.Bool.{cases_eq}
@@ -24,7 +24,7 @@ use Rattle.bh_tickets.proofs.NamesLeft.{left_made, names_at_end, names_lt, names
 use Rattle.bh_tickets.proofs.Ready.{more_whole}
 use Rattle.bh_tickets.proofs.Rebuilt.{entry_taken, entry_vacant, whole_group}
 use Rattle.bh_tickets.proofs.Vacant.{max_is, none_free, none_on, not_true, vacant_group}
-use Rattle.bh_tickets.proofs.Whole.{get_lt, group_is, groups_in, rooms_set, set_other, set_same}
+use Rattle.bh_tickets.proofs.Whole.{get_lt, group_is, groups_in, rooms_set, set_other, set_same, unmades_set}
 
 -- ---- chains that no group has
 
@@ -42,6 +42,7 @@ made_names c some a b ns x more names contexts many = record {
       record {
         all = still.all;
         slots = still.slots;
+        reserved = still.reserved;
         free = still.free;
         first = still.first;
         names = left_made a b (p ∷ ss) ns c x some more (made (w.all.each 0 p refl).chained.lists) (λ j s e. (w.all.each j s e).chained.lists) w.names;
@@ -79,7 +80,7 @@ module _ (b : Slots) (p : GroupSlots) (ss : List GroupSlots) (ms : List NameList
   h = with_names n s.lists
 
   abbrev r : GroupSlots
-  r = no_slot_taken h 0
+  r = no_slot_taken h 0 0
 
   abbrev qs : List GroupSlots
   qs = p ∷ ss
@@ -91,7 +92,10 @@ module _ (b : Slots) (p : GroupSlots) (ss : List GroupSlots) (ms : List NameList
   was = entry_vacant b p ss ms w place s is empty
 
   none : free_slots b g ≡ 0
-  none = sym (max_is b s w.all.arena (whole_group b p ss ms w place s is) (entry_taken b p ss ms w place s is empty)) ∙ empty
+  none = omega (arith, max_is b s w.all.arena (whole_group b p ss ms w place s is) (entry_taken b p ss ms w place s is empty), empty)
+
+  all_made : s.unmade ≡ 0
+  all_made = omega (arith, max_is b s w.all.arena (whole_group b p ss ms w place s is) (entry_taken b p ss ms w place s is empty), empty)
 
   no_free : slots_on b 0 g.free ≡ []
   no_free = nil_from_length (slots_on b 0 g.free) none
@@ -121,7 +125,7 @@ module _ (b : Slots) (p : GroupSlots) (ss : List GroupSlots) (ms : List NameList
   }
 
   group : IsGroupSlots b r
-  group = subst (λ k. IsGroupSlots b (no_slot_taken h k)) none (vacant_group b h now w.all.arena (omega (arith, none)))
+  group = let nothing : free_slots b g + 0 ≡ 0 = omega (arith, none) in subst (λ k. IsGroupSlots b (no_slot_taken h k 0)) nothing (vacant_group b h now 0 w.all.arena (omega (arith, none)))
 
   here : slice_get (set qs i r) i ≡ Some r
   here = set_same qs i r (get_lt qs i s is)
@@ -225,6 +229,7 @@ module _ (b : Slots) (p : GroupSlots) (ss : List GroupSlots) (ms : List NameList
   exchanged_whole = record {
     all = all;
     slots = w.slots ∙ sym (rooms_set qs i s r is (sym empty));
+    reserved = w.reserved ∙ sym (unmades_set qs i s r is (sym all_made));
     free = w.free;
     first = λ e. absurd (some_there e);
     names = names;
@@ -259,7 +264,7 @@ exchanged_gets chains place number a b ss rs ns ms ks left got exchanged =
     n = exchanged.entry
 
     r : GroupSlots
-    r = no_slot_taken (with_names exchanged.entry exchanged.was.lists) 0
+    r = no_slot_taken (with_names exchanged.entry exchanged.was.lists) 0 0
 
     empty : s.slots.max ≡ 0
     empty = ap (λ (z : GroupSlots). z.slots.max) (some_same s left.entry (sym exchanged.here ∙ left.here)) ∙ left.empty

@@ -17,7 +17,7 @@ or_assoc false b c = refl
 pub gathered_none : (f first to : ℕ) (a : Slots) → IsGathered f first 0 to a a
 gathered_none f first to a = record {
   payloads = refl;
-  limit = refl;
+  bounds = refl;
   families = refl;
   others = λ h ne. refl;
   lists = refl;
@@ -64,7 +64,7 @@ module _ (f first k to : ℕ) (a b : Slots) (gathered : IsGathered f first k to 
   pub gathered_more : IsGathered f first (k + 1) to a now
   gathered_more = record {
     payloads = gathered.payloads;
-    limit = gathered.limit;
+    bounds = gathered.bounds;
     families = length-set b.families f (set put (first + k) []) ∙ gathered.families;
     others = λ h ne. get_or-set_other b.families f h (set put (first + k) []) [] ne ∙ gathered.others h ne;
     lists = ap (λ (xs : List (List ℕ)). length xs) lists_now ∙ length-set put (first + k) [] ∙ length-set ls to (list_at ls to ++ list_at ls (first + k)) ∙ gathered.lists;

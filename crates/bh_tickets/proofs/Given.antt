@@ -188,7 +188,7 @@ module _ (a c d b : Slots) (s : GroupSlots) (to : GroupLists) (group : IsGroupSl
       let r = on_run_out a 0 s.lists.free 4 x (run_first a s group x ∙ mine) in
       apart.apart to.free (subst (IsOwn s.lists) (sym (arena.apart to.free r.list x on r.on)) (own r.list r.from r.to)) (own_free to vacant.numbered)
 
-  got_now : free_slots b to ≡ free_slots a to + s.slots.max
+  got_now : free_slots b to + s.unmade ≡ free_slots a to + s.slots.max
   got_now =
       let n : ℕ = length a.payloads in
       let now : count_below n (λ x. has x (slots_on b 0 to.free)) ≡ free_slots b to = count_list n (slots_on b 0 to.free) (after.once to.free) (λ x on. let lt : x < length b.payloads = after.within to.free x on in omega (arith, lt, size)) in
@@ -211,4 +211,4 @@ module _ (a c d b : Slots) (s : GroupSlots) (to : GroupLists) (group : IsGroupSl
 
   -- all slots of the one group have gone to the other
   pub given_all : IsGiven s to a b
-  given_all = record { giver = giver_now; taker = taker_now; none = none_left; got = got_now; same = same_now; slots = size; limit = three.limit ∙ two.limit ∙ one_.limit }
+  given_all = record { giver = giver_now; taker = taker_now; none = none_left; got = got_now; same = same_now; slots = size; bounds = three.bounds ∙ two.bounds ∙ one_.bounds }

@@ -32,7 +32,8 @@ pub mod Uncached  -- the end of a request context
 pub mod AddedLists  -- families get empty lists, and then one of each the new slots
 pub mod Beside  -- chains of groups, and of none, that have no list in common
 pub mod AddedGroup  -- a group is added
-pub mod NewGroup  -- lists are made for a group, or slots come to one that has no ticket
+pub mod NewGroup  -- lists are made for a group
+pub mod Made  -- a slot of a group is made
 -- Slots go from one group without tickets to another:
 pub mod Vacant  -- a group without tickets
 pub mod Shifted  -- slots come to a group without tickets, or go from it
@@ -45,4 +46,5 @@ pub mod Exchanged  -- a place gets other chains
 pub mod Rebuilt  -- slots go between the spare ones and a group: what becomes of all groups
 pub mod Ready  -- spare slots and places are made ready
 pub mod SlotCounts  -- how many slots all groups have, as contracts see them
+pub mod Readied  -- a slot is free for a group's next ticket: what all groups are then
 pub mod Chosen  -- a place is chosen for a group, and slots for it among the spare ones; then it has them

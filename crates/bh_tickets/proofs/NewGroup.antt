@@ -1,26 +1,17 @@
--- Lists are made for a group, or slots come to one that has no ticket.
-use Rattle.std.proofs.Common.{◌≡◌, ℕ, zero, suc, ◌+◌, ◌<◌, ◌≤◌, false, List, [], ◌++◌, length, get_or, replicate, refl, ◌∙◌, sym, ap, subst, arith, length-append, length-set, get_or-set_same, get_or-set_other}
-use Rattle.std.specs.Prelude.{◌≢◌, ◌||◌, slice_get}
-use Rattle.std.specs.List.{range_with_len}
-use Rattle.std.proofs.lemmas.Bool.{ne_eqb}
-use Rattle.std.proofs.lemmas.List.{length-replicate}
-use Rattle.bh_slot_arena.specs.Lists.{list_at, put_last}
+-- Lists are made for a group.
+use Rattle.std.proofs.Common.{◌≡◌, ℕ, ◌+◌, ◌<◌, ◌≤◌, List, [], length, ap, arith}
 use Rattle.bh_slot_arena.specs.Slots.{lists_in, slots_on}
 use Rattle.bh_cache.specs.declared.lists.GroupLists.{GroupLists}
 use Rattle.bh_cache.specs.Chains.{HasChains, unchained}
-use Rattle.bh_cache.specs.Slots.{Slots, has, is_on, IsApart, IsArena, IsOwn}
-use Rattle.bh_cache.proofs.Members.{has_append}
-use Rattle.bh_tickets.specs.declared.names.NameLists.{NameLists}
+use Rattle.bh_cache.specs.Slots.{Slots, has, IsApart}
 use Rattle.bh_tickets.specs.GroupSlots.{IsNumbered}
-use Rattle.bh_tickets.specs.Growth.{HasNewLists, IsGrown, lists_from}
+use Rattle.bh_tickets.specs.Growth.{HasNewLists, lists_from}
 use Rattle.bh_tickets.specs.Names.{AreEmptyOn, names_of}
-use Rattle.bh_tickets.specs.Same.{IsSame, KeepsNames, KeepsOwn}
 use Rattle.bh_tickets.specs.Spare.{IsVacant, free_slots}
-use Rattle.bh_tickets.proofs.AddedGroup.{append_before}
-use Rattle.bh_tickets.proofs.AddedLists.{count_more, empty_made, empty_more, family_there, put_first, put_second, put_third}
+use Rattle.bh_tickets.proofs.AddedLists.{count_more, empty_made, empty_more}
 use Rattle.bh_tickets.proofs.Beside.{IsMade, beside_made}
-use Rattle.bh_tickets.proofs.Shifted.{IsGained, live_none, own_free, vacant_gained}
-use Rattle.bh_tickets.proofs.Vacant.{none_free, not_true, or_false}
+use Rattle.bh_tickets.proofs.Shifted.{live_none}
+use Rattle.bh_tickets.proofs.Vacant.{none_free, not_true}
 
 -- ---- lists
 
@@ -123,99 +114,3 @@ module _ (c : ℕ) (g : GroupLists) (a b : Slots) (new : IsNew c g a b) where
         names = beside.names;
         contexts = beside.contexts;
       }
-
--- ---- slots
-
-length_range : (m n : ℕ) → length (range_with_len m n) ≡ n
-length_range m zero = refl
-length_range m (suc n) = ap suc (length_range (m + 1) n)
-
--- what lies before a range is not in it
-has_range : (m n x : ℕ) → x < m → has x (range_with_len m n) ≡ false
-has_range m zero x lt = refl
-has_range m (suc n) x lt = ap (λ b. b || has x (range_with_len (m + 1) n)) (ne_eqb m x (λ e. absurd (omega (arith, e, lt)))) ∙ has_range (m + 1) n x (omega (arith, lt))
-
-module _ (count : ℕ) (g : GroupLists) (a b : Slots) (grown : IsGrown g count a b) (vacant : IsVacant a g) where
-  abbrev come : List ℕ
-  come = range_with_len (length a.payloads) count
-
-  second_there : unchained < length (lists_in a 1)
-  second_there = omega (arith, vacant.chains.names_behind, vacant.chains.names_some, vacant.chains.names_there)
-
-  third_there : unchained < length (lists_in a 2)
-  third_there = omega (arith, vacant.chains.contexts_behind, vacant.chains.contexts_some, vacant.chains.contexts_there)
-
-  wide : 2 < length a.families
-  wide = family_there a.families 2 (omega (arith, third_there))
-
-  first : lists_in b 0 ≡ put_last come g.free (lists_in a 0)
-  first = ap (λ (z : Slots). lists_in z 0) grown.is ∙ put_first g.free unchained unchained come a.families wide
-
-  second : lists_in b 1 ≡ put_last come unchained (lists_in a 1)
-  second = ap (λ (z : Slots). lists_in z 1) grown.is ∙ put_second g.free unchained unchained come a.families wide
-
-  third : lists_in b 2 ≡ put_last come unchained (lists_in a 2)
-  third = ap (λ (z : Slots). lists_in z 2) grown.is ∙ put_third g.free unchained unchained come a.families wide
-
-  put_count : (f to : ℕ) → lists_in b f ≡ put_last come to (lists_in a f) → length (lists_in b f) ≡ length (lists_in a f)
-  put_count f to is = ap (λ (ls : List (List ℕ)). length ls) is ∙ length-set (lists_in a f) to (list_at (lists_in a f) to ++ come)
-
-  put_here : (f to : ℕ) → lists_in b f ≡ put_last come to (lists_in a f) → to < length (lists_in a f) → slots_on b f to ≡ slots_on a f to ++ come
-  put_here f to is lt = ap (λ (ls : List (List ℕ)). get_or ls to []) is ∙ get_or-set_same (lists_in a f) to (list_at (lists_in a f) to ++ come) [] lt
-
-  put_other : (f to l : ℕ) → lists_in b f ≡ put_last come to (lists_in a f) → l ≢ to → slots_on b f l ≡ slots_on a f l
-  put_other f to l is ne = ap (λ (ls : List (List ℕ)). get_or ls l []) is ∙ get_or-set_other (lists_in a f) to l (list_at (lists_in a f) to ++ come) [] ne
-
-  put_on : (f to : ℕ) → lists_in b f ≡ put_last come to (lists_in a f) → to < length (lists_in a f) → (x : ℕ) → is_on b f to x ≡ (is_on a f to x || has x come)
-  put_on f to is lt x = ap (has x) (put_here f to is lt) ∙ has_append x (slots_on a f to) come
-
-  gained : (f from til : ℕ) → unchained < from → lists_in b f ≡ put_last come unchained (lists_in a f) → unchained < length (lists_in a f) → IsGained f from til (λ x. has x come) a b
-  gained f from til behind is lt = record {
-    on = λ x e. put_on f unchained is lt x ∙ e;
-    kept = λ l x low high on. sym (ap (has x) (put_other f unchained l is (λ e. absurd (omega (arith, behind, low, e))))) ∙ on;
-  }
-
-  free_there : g.free < length (lists_in a 0)
-  free_there = omega (arith, vacant.there, vacant.numbered.settled)
-
-  -- with slots more the group has no ticket still
-  pub grown_vacant : IsVacant b g
-  grown_vacant =
-      vacant_gained (λ x. has x come) a b g vacant
-      (record { first = omega (arith, put_count 0 g.free first); second = omega (arith, put_count 1 unchained second); third = omega (arith, put_count 2 unchained third) })
-      (record { on = put_on 0 g.free first free_there; kept = λ l x own ne on. sym (ap (has x) (put_other 0 g.free l first ne)) ∙ on })
-      (gained 1 g.names g.names_end vacant.chains.names_behind second second_there) (gained 2 g.contexts g.contexts_end vacant.chains.contexts_behind third third_there)
-
-  -- and so many free slots more
-  pub grown_free : free_slots b g ≡ free_slots a g + count
-  grown_free = ap (λ (xs : List ℕ). length xs) (put_here 0 g.free first free_there) ∙ length-append (slots_on a 0 g.free) come ∙ ap (λ n. free_slots a g + n) (length_range (length a.payloads) count)
-
-  -- the arena has so many slots more
-  pub grown_size : length b.payloads ≡ length a.payloads + count
-  grown_size = ap (λ (z : Slots). length z.payloads) grown.is ∙ length-append a.payloads (replicate count grown.blank) ∙ ap (λ n. length a.payloads + n) (length-replicate count grown.blank)
-
-  pub grown_limit : b.limit ≡ a.limit
-  grown_limit = ap (λ (z : Slots). z.limit) grown.is
-
-  put_apart : (f low high : ℕ) → lists_in b f ≡ put_last come unchained (lists_in a f) → KeepsOwn f low high a b
-  put_apart f low high is = record { count = omega (arith, put_count f unchained is); lists = λ l ne p q. put_other f unchained l is ne }
-
-  -- what lies on chains lies there still
-  pub grown_names : (n : NameLists) → KeepsNames n a b
-  grown_names n = record { names = put_apart 1 n.names n.names_end second; contexts = put_apart 2 n.contexts n.contexts_end third }
-
-  -- a slot that was there lies on the list for slots without a cached ticket just where it did
-  still_unchained : (f : ℕ) → lists_in b f ≡ put_last come unchained (lists_in a f) → unchained < length (lists_in a f) → (x : ℕ) → x < length a.payloads → is_on b f unchained x ≡ is_on a f unchained x
-  still_unchained f is lt x within = put_on f unchained is lt x ∙ ap (λ c. is_on a f unchained x || c) (has_range (length a.payloads) count x within) ∙ or_false (is_on a f unchained x)
-
-  -- and what lies on the lists of other groups
-  pub grown_same : (h : GroupLists) → IsArena a 0 → IsApart g h → IsSame h a b
-  grown_same h arena apart = record {
-    slots = omega (arith, grown_size);
-    count = omega (arith, put_count 0 g.free first);
-    lists = λ l own. put_other 0 g.free l first (λ e. apart.apart l (subst (IsOwn g) (sym e) (own_free g vacant.numbered)) own);
-    payloads = λ l x own on. ap (λ (z : Slots). slice_get z.payloads x) grown.is ∙ append_before a.payloads (replicate count grown.blank) x (arena.within l x on);
-    chains = grown_names (names_of h);
-    by_name = λ l x own on. still_unchained 1 second second_there x (arena.within l x on);
-    by_context = λ l x own on. still_unchained 2 third third_there x (arena.within l x on);
-  }

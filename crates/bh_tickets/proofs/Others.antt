@@ -1,6 +1,6 @@
 -- The other groups stay as they were.
-use Rattle.std.proofs.Common.{◌≡◌, ℕ, zero, suc, ◌≤◌, inl, inr, Bool, true, false, length, Option, None, refl, ◌∙◌, sym, ap, subst, arith}
-use Rattle.std.specs.Prelude.{◌||◌, slice_get, if◌then◌else◌}
+use Rattle.std.proofs.Common.{◌≡◌, ℕ, zero, suc, ◌+◌, ◌≤◌, inl, inr, Bool, true, false, length, Option, None, refl, ◌∙◌, sym, ap, subst, arith}
+use Rattle.std.specs.Prelude.{◌≢◌, ◌||◌, slice_get, if◌then◌else◌}
 use Rattle.bh_base.specs.declared.ticket.Ticket.{Ticket}
 use Rattle.bh_base.specs.declared.ticket.TicketState.{TicketState}
 use Rattle.bh_base.specs.declared.ticket.TicketState.TheVariants as ticket
@@ -10,7 +10,7 @@ use Rattle.bh_tickets.specs.declared.group_slots.GroupSlots.{GroupSlots}
 use Rattle.std.proofs.lemmas.Bool.{cases_eq}
 use Rattle.bh_cache.specs.Listed.{listed, put_in}
 use Rattle.bh_tickets.specs.Whole.{group_of, slotted, slot_in}
-use Rattle.bh_slot_arena.specs.Slots.{slots_on}
+use Rattle.bh_slot_arena.specs.Slots.{lists_in, slots_on}
 use Rattle.bh_cache.specs.Slots.{Slots, has, is_on, is_live, is_owned, ticket_at, tickets_of, list_for, serial_in, InOrder, count_below, IsOwn, IsApart, IsFrame, IsArena, has_one, one}
 use Rattle.bh_tickets.specs.GroupSlots.{IsNumbered, IsArranged, IsGroupSlots, count_at, is_any}
 use Rattle.bh_tickets.specs.Counts.{counts_of}
@@ -18,7 +18,7 @@ use Rattle.bh_tickets.proofs.InTime.{had, times_kept}
 use Rattle.bh_tickets.proofs.InTurn.{turns_kept}
 use Rattle.bh_tickets.proofs.ByCommand.{counts_alike}
 use Rattle.bh_cache.proofs.Order.{order_same, count_same}
-use Rattle.bh_cache.specs.Chains.{IsChainFrame}
+use Rattle.bh_cache.specs.Chains.{IsChainFrame, IsChained}
 use Rattle.bh_tickets.specs.Same.{IsSame}
 use Rattle.bh_tickets.specs.Names.{names_of}
 use Rattle.bh_tickets.proofs.Beside.{apart_beside}
@@ -107,12 +107,16 @@ slotted_past at n (suc m) le none = elim (cases_eq n (suc m)) [
   | inr ne ↦ ap (λ o. slot_in m o (slotted at m)) (none m (omega (arith, le, ne))) ∙ slotted_past at n m (omega (arith, le, ne)) none
 ]
 
-module _ (a b : Slots) (h : GroupSlots) (same : IsSame h.lists a b) (arena : IsArena a 0) (group : IsGroupSlots a h) where
+-- the lists of the group that have tickets, and what lies on them, are as before
+pub record KeepsLive (g : GroupLists) (a b : Slots) : Type 0 where
+  pub slots : length a.payloads ≤ length b.payloads
+  pub count : length (lists_in a 0) ≤ length (lists_in b 0)
+  pub lists : (l : ℕ) → IsOwn g l → l ≢ g.free → slots_on b 0 l ≡ slots_on a 0 l
+  pub payloads : (l x : ℕ) → IsOwn g l → is_on a 0 l x ≡ true → slice_get b.payloads x ≡ slice_get a.payloads x
+
+module _ (a b : Slots) (h : GroupSlots) (same : KeepsLive h.lists a b) (arena : IsArena a 0) (group : IsGroupSlots a h) where
   n : IsNumbered h.lists
   n = group.numbered
-
-  own_free : IsOwn h.lists h.lists.free
-  own_free = record { from = omega arith; to = omega (arith, n.settled) }
 
   own_queued : IsOwn h.lists h.lists.queued
   own_queued = record { from = omega (arith, n.queued); to = omega (arith, n.queued, n.settled) }
@@ -123,14 +127,18 @@ module _ (a b : Slots) (h : GroupSlots) (same : IsSame h.lists a b) (arena : IsA
   own_settled : IsOwn h.lists h.lists.settled
   own_settled = record { from = omega (arith, n.settled); to = omega arith }
 
-  on_same : (l x : ℕ) → IsOwn h.lists l → is_on b 0 l x ≡ is_on a 0 l x
-  on_same l x own = ap (has x) (same.lists l own)
+  queued_same : slots_on b 0 h.lists.queued ≡ slots_on a 0 h.lists.queued
+  queued_same = same.lists h.lists.queued own_queued (λ e. absurd (omega (arith, e, n.queued)))
 
-  live_same : (x : ℕ) → is_live b h.lists x ≡ is_live a h.lists x
-  live_same x = λ i. on_same h.lists.queued x own_queued i || (on_same h.lists.running x own_running i || on_same h.lists.settled x own_settled i)
+  running_same : slots_on b 0 h.lists.running ≡ slots_on a 0 h.lists.running
+  running_same = same.lists h.lists.running own_running (λ e. absurd (omega (arith, e, n.running)))
 
-  owned_alike : (x : ℕ) → is_owned b h.lists x ≡ is_owned a h.lists x
-  owned_alike x = λ i. on_same h.lists.free x own_free i || live_same x i
+  settled_same : slots_on b 0 h.lists.settled ≡ slots_on a 0 h.lists.settled
+  settled_same = same.lists h.lists.settled own_settled (λ e. absurd (omega (arith, e, n.settled)))
+
+  -- what lay on the group's lists with tickets lies there still
+  pub live_same : (x : ℕ) → is_live b h.lists x ≡ is_live a h.lists x
+  live_same x = λ i. has x (queued_same i) || (has x (running_same i) || has x (settled_same i))
 
   -- a slot has the ticket of the group that it had
   pub at_same : (x : ℕ) → ticket_at b h.lists x ≡ ticket_at a h.lists x
@@ -151,22 +159,23 @@ module _ (a b : Slots) (h : GroupSlots) (same : IsSame h.lists a b) (arena : IsA
       by false e = refl
       by true e = absurd (omega (arith, past, arena.within l x e))
 
-  none_past : (x : ℕ) → length a.payloads ≤ x → ticket_at a h.lists x ≡ None
+  -- and none has a ticket
+  pub none_past : (x : ℕ) → length a.payloads ≤ x → ticket_at a h.lists x ≡ None
   none_past x past = ap (λ c. if c then slice_get a.payloads x else None) (λ i. off h.lists.queued x past i || (off h.lists.running x past i || off h.lists.settled x past i))
 
-  owned_past : (x : ℕ) → length a.payloads ≤ x → is_owned a h.lists x ≡ false
+  pub owned_past : (x : ℕ) → length a.payloads ≤ x → is_owned a h.lists x ≡ false
   owned_past x past = λ i. off h.lists.free x past i || (off h.lists.queued x past i || (off h.lists.running x past i || off h.lists.settled x past i))
 
   -- the group's tickets are as they were
-  pub tickets_same : tickets_of b h.lists ≡ tickets_of a h.lists
+  tickets_same : tickets_of b h.lists ≡ tickets_of a h.lists
   tickets_same = (λ i. listed (λ x. at_same x i) (length b.payloads)) ∙ listed_past (ticket_at a h.lists) (length a.payloads) (length b.payloads) same.slots none_past
 
   -- the group's tickets with their slots are as they were
-  pub slotted_same : slotted (ticket_at b h.lists) (length b.payloads) ≡ slotted (ticket_at a h.lists) (length a.payloads)
+  slotted_same : slotted (ticket_at b h.lists) (length b.payloads) ≡ slotted (ticket_at a h.lists) (length a.payloads)
   slotted_same = (λ i. slotted (λ x. at_same x i) (length b.payloads)) ∙ slotted_past (ticket_at a h.lists) (length a.payloads) (length b.payloads) same.slots none_past
 
   -- as many of the group's tickets pass as before
-  pub count_alike : (q : Ticket → Bool) → count_at b h.lists q ≡ count_at a h.lists q
+  count_alike : (q : Ticket → Bool) → count_at b h.lists q ≡ count_at a h.lists q
   count_alike q = count_same (λ x. has_one q (ticket_at b h.lists x)) (λ x. has_one q (ticket_at a h.lists x)) (length b.payloads) (λ x. ap (has_one q) (at_same x))
       ∙ count_past (λ x. has_one q (ticket_at a h.lists x)) (length a.payloads) (length b.payloads) same.slots (λ x past. ap (has_one q) (none_past x past))
 
@@ -174,21 +183,19 @@ module _ (a b : Slots) (h : GroupSlots) (same : IsSame h.lists a b) (arena : IsA
   arranged_same = record {
     distinct = λ x y t u p q e. group.arranged.distinct x y t u (sym (at_same x) ∙ p) (sym (at_same y) ∙ q) e;
     below = λ x t p. group.arranged.below x t (sym (at_same x) ∙ p);
-    placed = λ x t p. on_same (list_for h.lists t.state) x (own_for h.lists n t.state) ∙ group.arranged.placed x t (sym (at_same x) ∙ p);
-    order = subst (InOrder b.payloads) (sym (same.lists h.lists.queued own_queued))
+    placed = λ x t p. each_list (λ l. is_on b 0 l x ≡ is_on a 0 l x) h.lists (ap (has x) queued_same) (ap (has x) running_same) (ap (has x) settled_same) t.state ∙ group.arranged.placed x t (sym (at_same x) ∙ p);
+    order = subst (InOrder b.payloads) (sym queued_same)
         (order_same a.payloads b.payloads (slots_on a 0 h.lists.queued) (λ y i. ap serial_in (same.payloads h.lists.queued y own_queued i)) group.arranged.order);
   }
 
-  -- what the group keeps still fits its tickets
-  pub slots_same : IsGroupSlots b h
-  slots_same = record {
+  -- what the group keeps still fits its tickets, with so many slots that are not made yet, where its slots do and lie on its chains
+  pub live_kept : (unmade : ℕ) → IsChained b h.lists → count_below (length b.payloads) (is_owned b h.lists) + unmade ≡ h.slots.max → IsGroupSlots b (record h { unmade = unmade })
+  live_kept unmade chained slots = record {
     numbered = group.numbered;
     there = omega (arith, group.there, same.count);
     arranged = arranged_same;
-    chained = chains_kept a b h.lists same.chains
-        (λ x was. let r = owned_list a h.lists x n was in same.by_name r.list x r.own r.on)
-        (λ x was. let r = owned_list a h.lists x n was in same.by_context r.list x r.own r.on) owned_alike at_same group.chained;
-    slots = count_same (is_owned b h.lists) (is_owned a h.lists) (length b.payloads) owned_alike ∙ count_past (is_owned a h.lists) (length a.payloads) (length b.payloads) same.slots owned_past ∙ group.slots;
+    chained = chained;
+    slots = slots;
     few = group.few;
     taken = group.taken ∙ sym (count_alike is_any);
     queued = group.queued ∙ sym (count_alike is_queued);
@@ -199,12 +206,39 @@ module _ (a b : Slots) (h : GroupSlots) (same : IsSame h.lists a b) (arena : IsA
     times = times_kept a b h.lists h.order.latest h.order.in_time (λ x u p. had a h.lists x u (sym (at_same x) ∙ p)) group.times;
     turns = turns_kept a b h.lists h.order.last_started h.order.in_turn
         (λ y i.
-        let was : is_on a 0 h.lists.running y ≡ true = sym (on_same h.lists.running y own_running) ∙ i in
+        let was : is_on a 0 h.lists.running y ≡ true = sym (ap (has y) running_same) ∙ i in
         (was, ap serial_in (same.payloads h.lists.running y own_running was)))
-        (λ order. subst (InOrder a.payloads) (sym (same.lists h.lists.running own_running)) order) group.turns;
+        (λ order. subst (InOrder a.payloads) (sym running_same) order) group.turns;
     needed = λ x t p. group.needed x t (sym (at_same x) ∙ p);
   }
 
   -- contracts see the group as it was
+  pub live_shown : (unmade : ℕ) → group_of b (record h { unmade = unmade }) ≡ group_of a h
+  live_shown unmade = λ i. record { items = tickets_same i; room = h.slots.max; next = h.next; slots = slotted_same i }
+
+-- ---- the lists of the group are as before
+
+live_from : (g : GroupLists) (a b : Slots) → IsSame g a b → KeepsLive g a b
+live_from g a b same = record { slots = same.slots; count = same.count; lists = λ l own ne. same.lists l own; payloads = same.payloads }
+
+module _ (a b : Slots) (h : GroupSlots) (same : IsSame h.lists a b) (arena : IsArena a 0) (group : IsGroupSlots a h) where
+  abbrev keeps : KeepsLive h.lists a b
+  keeps = live_from h.lists a b same
+
+  free_same : slots_on b 0 h.lists.free ≡ slots_on a 0 h.lists.free
+  free_same = same.lists h.lists.free (record { from = omega arith; to = omega (arith, group.numbered.settled) })
+
+  owned_alike : (x : ℕ) → is_owned b h.lists x ≡ is_owned a h.lists x
+  owned_alike x = λ i. has x (free_same i) || live_same a b h keeps arena group x i
+
+  -- what the group keeps still fits its tickets
+  pub slots_same : IsGroupSlots b h
+  slots_same = live_kept a b h keeps arena group h.unmade
+      (chains_kept a b h.lists same.chains
+      (λ x was. let r = owned_list a h.lists x group.numbered was in same.by_name r.list x r.own r.on)
+      (λ x was. let r = owned_list a h.lists x group.numbered was in same.by_context r.list x r.own r.on) owned_alike (at_same a b h keeps arena group) group.chained)
+      (ap (λ m. m + h.unmade) (count_same (is_owned b h.lists) (is_owned a h.lists) (length b.payloads) owned_alike ∙ count_past (is_owned a h.lists) (length a.payloads) (length b.payloads) same.slots (owned_past a b h keeps arena group)) ∙ group.slots)
+
+  -- contracts see the group as it was
   pub group_same : group_of b h ≡ group_of a h
-  group_same = λ i. record { items = tickets_same i; room = h.slots.max; next = h.next; slots = slotted_same i }
+  group_same = live_shown a b h keeps arena group h.unmade

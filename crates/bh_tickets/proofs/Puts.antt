@@ -274,9 +274,9 @@ module _ (a b : Slots) (s : GroupSlots) (x : ℕ) (t v : Ticket) (arena : IsAren
   chained = chains_touched a b s.lists x (list_for s.lists v.state) t v touched keeps group.chained owned_slot owned_list here now_here
       (can.cache ∙ ap (λ (u : Ticket). u.cache) was) (can.cached ∙ ap (λ (u : Ticket). u.cached) was)
 
-  owned_now : count_below (length b.payloads) (is_owned b s.lists) ≡ s.slots.max
-  owned_now = ap (λ n. count_below n (is_owned b s.lists)) touched.slots
-      ∙ count_same (is_owned b s.lists) (is_owned a s.lists) (length a.payloads) (owned_same a b x (list_for s.lists v.state) v touched s.lists owned_slot owned_list)
+  owned_now : count_below (length b.payloads) (is_owned b s.lists) + s.unmade ≡ s.slots.max
+  owned_now = ap (λ n. n + s.unmade) (ap (λ n. count_below n (is_owned b s.lists)) touched.slots
+      ∙ count_same (is_owned b s.lists) (is_owned a s.lists) (length a.payloads) (owned_same a b x (list_for s.lists v.state) v touched s.lists owned_slot owned_list))
       ∙ group.slots
 
   module _ (r : GroupSlots) (now : Noted) (last : ℕ) (in_turn : Bool) (turns : AreInTurn b s.lists last in_turn) (is : r ≡ record (counted_in v (counted_out t s)) { needless = now; order = record s.order { last_started = last; in_turn = in_turn } })
@@ -322,9 +322,10 @@ module _ (a b : Slots) (s : GroupSlots) (x : ℕ) (t v : Ticket) (arena : IsAren
         group = subst (IsGroupSlots b) (sym is) made;
         frame = touched_frame a b x (list_for s.lists v.state) v touched s.lists (list_for s.lists t.state) arena lies (own_for s.lists group.numbered t.state) (own_for s.lists group.numbered v.state);
         chains = frame_same s.lists a b (owned_same a b x (list_for s.lists v.state) v touched s.lists owned_slot owned_list) keeps.names keeps.contexts;
-        limit = touched.limit;
+        bounds = touched.bounds;
         lists = ap (λ (z : GroupSlots). z.lists) is;
         room = ap (λ (z : GroupSlots). z.slots.max) is;
+        unmade = ap (λ (z : GroupSlots). z.unmade) is;
       };
       next = ap (λ (z : GroupSlots). z.next) is;
       items = changed_tickets a b s.lists x s.next t v group.arranged here serial touched;

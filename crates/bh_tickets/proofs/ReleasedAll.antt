@@ -131,9 +131,10 @@ module _ (a : Slots) (s : GroupSlots) (b : Slots) (r : GroupSlots) (group : IsGr
       });
       frame = change.frame;
       chains = change.chains;
-      limit = change.limit;
+      bounds = change.bounds;
       lists = change.lists;
       room = change.room;
+      unmade = change.unmade;
     };
     next = next;
     items = ap (listed (ticket_at b s.lists)) change.frame.slots ∙ listed_filter is_kept (ticket_at a s.lists) (ticket_at b s.lists) (length a.payloads) group.arranged.distinct (λ x lt. kept x ∙ as_filter (ticket_at a s.lists x));
@@ -156,7 +157,7 @@ pub released_few : (a : Slots) (s : GroupSlots) (few : FewSlots) (b : Slots) (r 
 released_few a s few b r group is released = released_is a s b r group change released.swept.next (λ y. released.swept.tickets y ∙ at y (has y (take few.count few.slots)) refl)
   where
     change : IsGroupChange a s b r
-    change = let k = released.swept.change in record { arena = k.arena; group = k.group; frame = k.frame; chains = k.chains; limit = k.limit; lists = k.lists; room = k.room }
+    change = let k = released.swept.change in record { arena = k.arena; group = k.group; frame = k.frame; chains = k.chains; bounds = k.bounds; lists = k.lists; room = k.room; unmade = k.unmade }
 
     other : (y : ℕ) (t : Ticket) → has y (take few.count few.slots) ≡ false → ticket_at a s.lists y ≡ Some t → is_kept t ≡ true
     other y t out e = keeps_unless (is_kept t) (λ k.

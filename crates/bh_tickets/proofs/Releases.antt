@@ -46,7 +46,7 @@ there_within a s x some = by (ticket_at a s.lists x) refl some
 
 -- where nothing has changed, that is a change of the group too
 pub change_none : (a : Slots) (s : GroupSlots) → IsArena a 0 → IsGroupSlots a s → IsGroupChange a s a s
-change_none a s arena group = record { arena = arena; group = group; frame = frame_refl s.lists a; chains = chain_frame_refl s.lists a; limit = refl; lists = refl; room = refl }
+change_none a s arena group = record { arena = arena; group = group; frame = frame_refl s.lists a; chains = chain_frame_refl s.lists a; bounds = refl; lists = refl; room = refl; unmade = refl }
 
 -- a ticket that somebody needs stays
 pub stays_at : (a : Slots) (s : GroupSlots) (x : ℕ) (t : Ticket) → IsArena a 0 → IsGroupSlots a s → ticket_at a s.lists x ≡ Some t → is_kept t ≡ true → IsReleasedAt a s x a s
@@ -149,8 +149,8 @@ module _ (a b : Slots) (s : GroupSlots) (x : ℕ) (t : Ticket) (arena : IsArena 
       there = omega (arith, group.there, touched.count);
       chained = chains.0;
       arranged = gone_arranged a b s.lists x s.next t t group.arranged group.numbered here touched order;
-      slots = ap (λ n. count_below n (is_owned b s.lists)) touched.slots
-          ∙ count_same (is_owned b s.lists) (is_owned a s.lists) (length a.payloads) (owned_same a b x s.lists.free t touched s.lists owned_slot owned_list)
+      slots = ap (λ n. n + s.unmade) (ap (λ n. count_below n (is_owned b s.lists)) touched.slots
+          ∙ count_same (is_owned b s.lists) (is_owned a s.lists) (length a.payloads) (owned_same a b x s.lists.free t touched s.lists owned_slot owned_list))
           ∙ group.slots;
       few = group.few;
       taken = omega (arith, group.taken, recount is_any);
@@ -172,9 +172,10 @@ module _ (a b : Slots) (s : GroupSlots) (x : ℕ) (t : Ticket) (arena : IsArena 
         group = subst (IsGroupSlots b) (sym made) whole;
         frame = touched_frame a b x s.lists.free t touched s.lists (list_for s.lists t.state) arena lies (own_for s.lists group.numbered t.state) (record { from = omega arith; to = omega (arith, group.numbered.settled) });
         chains = chains.1;
-        limit = touched.limit;
+        bounds = touched.bounds;
         lists = ap (λ (z : GroupSlots). z.lists) made;
         room = ap (λ (z : GroupSlots). z.slots.max) made;
+        unmade = ap (λ (z : GroupSlots). z.unmade) made;
       };
       next = ap (λ (z : GroupSlots). z.next) made;
       needless = ap (λ (z : GroupSlots). z.needless) made;

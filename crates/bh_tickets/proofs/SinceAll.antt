@@ -178,9 +178,10 @@ timed_out_since a s due n b r since timed known own = record {
     group = since_set b r due.command since timed.change.group known own;
     frame = timed.change.frame;
     chains = timed.change.chains;
-    limit = timed.change.limit;
+    bounds = timed.change.bounds;
     lists = timed.change.lists;
     room = timed.change.room;
+    unmade = timed.change.unmade;
   };
   next = timed.next;
   items = timed.items;

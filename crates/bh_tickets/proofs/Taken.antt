@@ -58,7 +58,7 @@ same_refl h a = record {
 
 -- no slot has gone
 pub taken_none : (g h : GroupLists) (a : Slots) → IsVacant a g → IsVacant a h → IsTaken 0 g h a a
-taken_none g h a giver taker = record { giver = giver; taker = taker; left = omega arith; got = omega arith; same = λ k p q. same_refl k a; slots = refl; limit = refl }
+taken_none g h a giver taker = record { giver = giver; taker = taker; left = omega arith; got = omega arith; same = λ k p q. same_refl k a; slots = refl; bounds = refl }
 
 -- one slot more has gone
 pub taken_more : (n : ℕ) (g h : GroupLists) (a b c : Slots) → IsTaken n g h a b → IsTaken 1 g h b c → IsTaken (n + 1) g h a c
@@ -69,7 +69,7 @@ taken_more n g h a b c p q = record {
   got = omega (arith, p.got, q.got);
   same = λ k f e. same_both k a b c (p.same k f e) (q.same k f e);
   slots = q.slots ∙ p.slots;
-  limit = q.limit ∙ p.limit;
+  bounds = q.bounds ∙ p.bounds;
 }
 
 -- ---- one slot
@@ -198,4 +198,4 @@ module _ (a : Slots) (g h : GroupLists) (x : ℕ) (v : Ticket) (giver : IsVacant
 
   -- the first free slot of the one group has gone to the other
   pub taken_one : IsTaken 1 g h a now
-  taken_one = record { giver = giver_now; taker = taker_now; left = left_now; got = got_now; same = same_now; slots = touched.slots; limit = touched.limit }
+  taken_one = record { giver = giver_now; taker = taker_now; left = left_now; got = got_now; same = same_now; slots = touched.slots; bounds = touched.bounds }

@@ -7,7 +7,7 @@ use Rattle.bh_base.specs.declared.ticket.Ticket.{Ticket}
 use Rattle.bh_index_lists.specs.Lists.{without}
 use Rattle.bh_slot_arena.specs.Lists.{moved}
 use Rattle.bh_cache.specs.declared.lists.GroupLists.{GroupLists}
-use Rattle.bh_slot_arena.specs.Slots.{lists_in, slots_on, with_payload, with_moved}
+use Rattle.bh_slot_arena.specs.Slots.{bounds_of, lists_in, slots_on, with_payload, with_moved}
 use Rattle.bh_cache.proofs.Moves.{has_without, list_not_to, list_to, lists_count, on_moved, without_absent}
 use Rattle.bh_cache.proofs.Members.{get_set, has_append}
 use Rattle.bh_cache.specs.Slots.{Slots, has, is_on, is_live_list, is_owned, ticket_at, Once, IsArena, IsOwn, IsFrame}
@@ -46,7 +46,7 @@ once_append x (y ∷ ys) out h = (has_append y ys (x ∷ []) ∙ ap (λ b. b || 
 pub record IsTouched (a b : Slots) (x to : ℕ) (v : Ticket) : Type 0 where
   pub slots : length b.payloads ≡ length a.payloads
   pub wide : 0 < length b.families
-  pub limit : b.limit ≡ a.limit
+  pub bounds : bounds_of b ≡ bounds_of a
   pub count : length (lists_in b 0) ≡ length (lists_in a 0)
   pub payload : (y : ℕ) → slice_get b.payloads y ≡ (if eqb y x then Some v else slice_get a.payloads y)
   pub on : (l y : ℕ) → is_on b 0 l y ≡ (if eqb y x then eqb l to else is_on a 0 l y)
@@ -64,7 +64,7 @@ pub touched_both : (a : Slots) (x to : ℕ) (v : Ticket) → IsArena a 0 → x <
 touched_both a x to v arena within there = record {
   slots = length-set a.payloads x v;
   wide = omega (arith, arena.wide, length-set a.families 0 (moved x to (lists_in a 0)));
-  limit = refl;
+  bounds = refl;
   count = lists_count a 0 x to arena.wide;
   payload = λ y. get_set a.payloads x y v within;
   on = λ l y. on_moved a 0 x to arena.wide there l y;
@@ -83,7 +83,7 @@ pub touched_moved : (a : Slots) (x to : ℕ) (v : Ticket) → IsArena a 0 → sl
 touched_moved a x to v arena is there = record {
   slots = refl;
   wide = omega (arith, arena.wide, length-set a.families 0 (moved x to (lists_in a 0)));
-  limit = refl;
+  bounds = refl;
   count = lists_count a 0 x to arena.wide;
   payload = λ y. itself a.payloads x y v is;
   on = λ l y. on_moved a 0 x to arena.wide there l y;
@@ -104,7 +104,7 @@ pub touched_set : (a : Slots) (x to : ℕ) (v : Ticket) → IsArena a 0 → is_o
 touched_set a x to v arena on = record {
   slots = length-set a.payloads x v;
   wide = arena.wide;
-  limit = refl;
+  bounds = refl;
   count = refl;
   payload = λ y. get_set a.payloads x y v (arena.within to x on);
   on = λ l y. elim (cases_eq y x) [

@@ -1,5 +1,5 @@
 -- The end of a request context.
-use Rattle.std.proofs.Common.{◌≡◌, ℕ, ◌<◌, Bool, true, false, List, [], length, get_or, Option, Some, None, refl, ◌∙◌, sym, ap, subst, arith}
+use Rattle.std.proofs.Common.{◌≡◌, ℕ, ◌+◌, ◌<◌, Bool, true, false, List, [], length, get_or, Option, Some, None, refl, ◌∙◌, sym, ap, subst, arith}
 use Rattle.std.specs.Prelude.{◌||◌, ◌==◌, slice_get, if◌then◌else◌}
 use Rattle.std.specs.Option.{option_map}
 use Rattle.bh_base.specs.declared.ticket.Ticket.{Ticket}
@@ -137,7 +137,7 @@ module _ (a b : Slots) (s : GroupSlots) (context n : ℕ) (arena : IsArena a 0) 
       there = omega (arith, group.there, ap (λ (ls : List (List ℕ)). length ls) lists_same);
       chained = dropped.chained;
       arranged = arranged;
-      slots = ap (λ m. count_below m (is_owned b s.lists)) dropped.slots ∙ count_same (is_owned b s.lists) (is_owned a s.lists) (length a.payloads) owned_same ∙ group.slots;
+      slots = ap (λ m. m + s.unmade) (ap (λ m. count_below m (is_owned b s.lists)) dropped.slots ∙ count_same (is_owned b s.lists) (is_owned a s.lists) (length a.payloads) owned_same) ∙ group.slots;
       few = group.few;
       taken = group.taken ∙ sym (recount is_any (λ t. refl));
       queued = group.queued ∙ sym (recount is_queued (λ t. refl));
@@ -177,9 +177,10 @@ module _ (a b : Slots) (s : GroupSlots) (context n : ℕ) (arena : IsArena a 0) 
         group = subst (IsGroupSlots b) (sym made) whole;
         frame = frame;
         chains = dropped.frame;
-        limit = dropped.limit;
+        bounds = dropped.bounds;
         lists = ap (λ (z : GroupSlots). z.lists) made;
         room = ap (λ (z : GroupSlots). z.slots.max) made;
+        unmade = ap (λ (z : GroupSlots). z.unmade) made;
       };
       next = ap (λ (z : GroupSlots). z.next) made;
       items = dropped.tickets;

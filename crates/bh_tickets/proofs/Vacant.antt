@@ -1,5 +1,5 @@
 -- A group without tickets.
-use Rattle.std.proofs.Common.{◌≡◌, ℕ, zero, suc, ◌<◌, ◌≤◌, inl, inr, Bool, true, false, List, [], ◌∷◌, length, Option, Some, None, refl, ◌∙◌, sym, ap, subst, arith}
+use Rattle.std.proofs.Common.{◌≡◌, ℕ, zero, suc, ◌+◌, ◌<◌, ◌≤◌, inl, inr, Bool, true, false, List, [], ◌∷◌, length, Option, Some, None, refl, ◌∙◌, sym, ap, subst, arith}
 use Rattle.std.specs.Prelude.{◌||◌, ◌^◌, eqb, slice_get, if◌then◌else◌}
 use Rattle.std.proofs.lemmas.Bool.{cases_eq, eq-eqb, ne_eqb}
 use Rattle.std.proofs.lemmas.List.{get_or-replicate}
@@ -112,13 +112,13 @@ module _ (a : Slots) (s : GroupSlots) (arena : IsArena a 0) (group : IsGroupSlot
     contexts = free_on 2 s.lists.contexts s.lists.contexts_end (list_by_context s.lists) refl group.chained.contexts;
   }
 
-  -- and has as many slots as lie on the list of free ones
-  pub max_is : s.slots.max ≡ free_slots a s.lists
-  max_is = sym group.slots ∙ count_same (is_owned a s.lists) (λ x. has x (slots_on a 0 s.lists.free)) (length a.payloads) owned_free
-      ∙ count_list (length a.payloads) (slots_on a 0 s.lists.free) (arena.once s.lists.free) (λ x on. arena.within s.lists.free x on)
+  -- and has as many slots as lie on the list of free ones, and those that are not made yet
+  pub max_is : s.slots.max ≡ free_slots a s.lists + s.unmade
+  max_is = sym group.slots ∙ ap (λ n. n + s.unmade) (count_same (is_owned a s.lists) (λ x. has x (slots_on a 0 s.lists.free)) (length a.payloads) owned_free
+      ∙ count_list (length a.payloads) (slots_on a 0 s.lists.free) (arena.once s.lists.free) (λ x on. arena.within s.lists.free x on))
 
--- no more slots are taken than there are
-pub taken_few : (a : Slots) (s : GroupSlots) → IsGroupSlots a s → s.slots.taken ≤ s.slots.max
+-- no more slots are taken than are made
+pub taken_few : (a : Slots) (s : GroupSlots) → IsGroupSlots a s → s.slots.taken + s.unmade ≤ s.slots.max
 taken_few a s group = omega (arith, group.taken, group.slots, count_le (λ x. has_one is_any (ticket_at a s.lists x)) (is_owned a s.lists) (length a.payloads) (owned_if a s.lists is_any))
 
 -- ---- and what makes one
@@ -167,8 +167,8 @@ module _ (a : Slots) (g : GroupLists) (vacant : IsVacant a g) where
   no_runs = none_on (slots_on a 0 g.running) not_running
 
   -- what a group keeps without tickets fits its slots
-  pub vacant_group : IsArena a 0 → free_slots a g < 2 ^ 63 → IsGroupSlots a (no_slot_taken g (free_slots a g))
-  vacant_group arena few = record {
+  pub vacant_group : (unmade : ℕ) → IsArena a 0 → free_slots a g + unmade < 2 ^ 63 → IsGroupSlots a (no_slot_taken g (free_slots a g + unmade) unmade)
+  vacant_group unmade arena few = record {
     numbered = vacant.numbered;
     there = vacant.there;
     chained = record {
@@ -182,7 +182,7 @@ module _ (a : Slots) (g : GroupLists) (vacant : IsVacant a g) where
       placed = λ x t e. absurd (no_ticket x t e);
       order = subst (InOrder a.payloads) (sym no_queue) tt;
     };
-    slots = slots_are arena;
+    slots = ap (λ n. n + unmade) (slots_are arena);
     few = few;
     taken = sym (no_count is_any);
     queued = sym (no_count is_queued);
@@ -204,5 +204,5 @@ module _ (a : Slots) (g : GroupLists) (vacant : IsVacant a g) where
           ∙ count_list (length a.payloads) (slots_on a 0 g.free) (arena.once g.free) (λ x on. arena.within g.free x on)
 
   -- contracts see a group with so many slots and no ticket
-  pub vacant_shown : (count : ℕ) → group_of a (no_slot_taken g count) ≡ no_tickets_in count
-  vacant_shown count = λ i. record { items = nothing_listed (ticket_at a g) (length a.payloads) vacant_none i; room = count; next = 1; slots = nothing_slotted (ticket_at a g) (length a.payloads) vacant_none i }
+  pub vacant_shown : (count unmade : ℕ) → group_of a (no_slot_taken g count unmade) ≡ no_tickets_in count
+  vacant_shown count unmade = λ i. record { items = nothing_listed (ticket_at a g) (length a.payloads) vacant_none i; room = count; next = 1; slots = nothing_slotted (ticket_at a g) (length a.payloads) vacant_none i }

@@ -1,7 +1,7 @@
 -- One group of many changes, and what is read of its tickets.
-use Rattle.std.proofs.Common.{◌≡◌, ℕ, zero, suc, ◌<◌, ◌≤◌, inl, inr, Bool, true, false, List, [], ◌∷◌, length, set, get_or, Option, Some, None, refl, ◌∙◌, sym, ap, subst, arith, length-set}
+use Rattle.std.proofs.Common.{◌≡◌, ℕ, zero, suc, ◌+◌, ◌<◌, ◌≤◌, inl, inr, Bool, true, false, List, [], ◌∷◌, length, set, get_or, Option, Some, None, refl, ◌∙◌, sym, ap, subst, arith, length-set}
 use Rattle.std.proofs.lemmas.List.Sums.{sum_by-cons}
-use Rattle.std.specs.Prelude.{◌≢◌, ◌^◌, slice_get, find, count_by, if◌then◌else◌}
+use Rattle.std.specs.Prelude.{◌≢◌, ◌^◌, slice_get, find, count_by, sum_by, if◌then◌else◌}
 use Rattle.std.specs.Option.{option_map}
 use Rattle.std.proofs.lemmas.Bool.{cases_eq, cases_lt, eq-eqb, ne_eqb}
 use Rattle.std.proofs.lemmas.List.{length-map}
@@ -16,7 +16,7 @@ use Rattle.bh_tickets.specs.declared.changes.TicketChange.{TicketChange}
 use Rattle.bh_tickets.specs.declared.new_ticket.NewTicket.{NewTicket}
 use Rattle.bh_tickets.specs.Changes.{changed_by}
 use Rattle.bh_tickets.specs.TicketsView.{TicketsView, GroupTickets, ChangesOnly, CanPush, at_in, in_slot, group_at}
-use Rattle.bh_tickets.specs.Whole.{group_of, groups_of, rooms, view_of, slotted, slot_in, AreGroupSlots, IsWhole, IsChanged, CanChange}
+use Rattle.bh_tickets.specs.Whole.{group_of, groups_of, rooms, unmades, view_of, slotted, slot_in, AreGroupSlots, IsWhole, IsChanged, CanChange}
 use Rattle.bh_cache.proofs.Listed.{changed_is_map}
 use Rattle.bh_cache.proofs.Order.{count_le, length_listed}
 use Rattle.bh_cache.proofs.Counts.{count_listed}
@@ -63,15 +63,21 @@ get_is [] i s lt e = absurd (omega (arith, lt))
 get_is (y ∷ ys) zero s lt e = ap Some (sym e)
 get_is (y ∷ ys) (suc i) s lt e = get_is ys i s (omega (arith, lt)) e
 
+-- a part in place of another: what is counted of all is as much more as that of the part
+pub sum_now : (f : GroupSlots → ℕ) (ss : List GroupSlots) (i : ℕ) (s r : GroupSlots) → slice_get ss i ≡ Some s → sum_by f (set ss i r) + f s ≡ sum_by f ss + f r
+sum_now f [] i s r is = absurd cc
+sum_now f (y ∷ ys) zero s r is =
+    let k : y ≡ s = cc in
+    omega (arith, ap f k, sum_by-cons f r ys, sum_by-cons f y ys)
+sum_now f (y ∷ ys) (suc i) s r is = omega (arith, sum_now f ys i s r is, sum_by-cons f y (set ys i r), sum_by-cons f y ys)
+
 -- a part in place of one with as much room leaves the room of all groups as it was
 pub rooms_set : (ss : List GroupSlots) (i : ℕ) (s r : GroupSlots) → slice_get ss i ≡ Some s → r.slots.max ≡ s.slots.max → rooms (set ss i r) ≡ rooms ss
-rooms_set [] i s r is same = absurd cc
-rooms_set (y ∷ ys) zero s r is same =
-    let k : y ≡ s = cc in
-    let e : r.slots.max ≡ y.slots.max = same ∙ ap (λ (z : GroupSlots). z.slots.max) (sym k) in
-    omega (arith, e, sum_by-cons (λ (s : GroupSlots). s.slots.max) r ys, sum_by-cons (λ (s : GroupSlots). s.slots.max) y ys)
-rooms_set (y ∷ ys) (suc i) s r is same =
-    omega (arith, rooms_set ys i s r is same, sum_by-cons (λ (s : GroupSlots). s.slots.max) y (set ys i r), sum_by-cons (λ (s : GroupSlots). s.slots.max) y ys)
+rooms_set ss i s r is same = omega (arith, same, sum_now (λ (s : GroupSlots). s.slots.max) ss i s r is)
+
+-- and one with as many slots that are not made yet leaves these
+pub unmades_set : (ss : List GroupSlots) (i : ℕ) (s r : GroupSlots) → slice_get ss i ≡ Some s → r.unmade ≡ s.unmade → unmades (set ss i r) ≡ unmades ss
+unmades_set ss i s r is same = omega (arith, same, sum_now (λ (s : GroupSlots). s.unmade) ss i s r is)
 
 module _ (a b : Slots) (ss : List GroupSlots) (i : ℕ) (s r : GroupSlots) (whole : AreGroupSlots a ss) (is : slice_get ss i ≡ Some s)
     (change : IsGroupChange a s b r) where
@@ -158,7 +164,8 @@ kept a b None ss ns i s r whole is change = absurd (no_group ss i s (whole.first
     no_group (y ∷ ys) i s none e = cc
 kept a b (Some p) ss ns i s r whole is change = record {
   all = whole_kept a b (p ∷ ss) (suc i) s r whole.all is change;
-  slots = change.frame.slots ∙ whole.slots ∙ sym (rooms_set (p ∷ ss) (suc i) s r is change.room);
+  slots = omega (arith, change.frame.slots, whole.slots, rooms_set (p ∷ ss) (suc i) s r is change.room, ap (λ (k : ℕ × ℕ). k.1) change.bounds);
+  reserved = ap (λ (k : ℕ × ℕ). k.1) change.bounds ∙ whole.reserved ∙ sym (unmades_set (p ∷ ss) (suc i) s r is change.unmade);
   free = whole.free;
   first = λ e. absurd (some_there e);
   names = left_kept a b (p ∷ ss) ns (suc i) s r whole.names is change;
@@ -236,7 +243,7 @@ module _ (a b : Slots) (ss : List GroupSlots) (i : ℕ) (s r : GroupSlots) (whol
   -- where the next serial is as it was, nothing but the group's tickets has changed
   pub else_is : r.next ≡ s.next → ChangesOnly i (view_of a ss) (view_of b (set ss i r))
   else_is next = record {
-    limit = change.limit;
+    limit = ap (λ (k : ℕ × ℕ). k.0) change.bounds;
     others = λ g ne. others_same a b ss i s r whole is change g ne;
     count = same_count a b ss i s r whole is change;
     room = ap (λ (z : GroupTickets). z.room) new_group ∙ change.room ∙ sym (ap (λ (z : GroupTickets). z.room) old_group);
@@ -280,13 +287,13 @@ changed_is a b ss i x s r change whole is can done = record {
   left = let put = done can.ticket (there_is a ss i x s can.ticket whole is can.here) in else_is a b ss i s r whole is put.change put.next;
 }
 
--- a new ticket that can be pushed, as contracts see the group, can be added to the group's part
-pub can_add_at : (a : Slots) (ss : List GroupSlots) (i : ℕ) (s : GroupSlots) (new : NewTicket) → AreGroupSlots a ss → slice_get ss i ≡ Some s → CanPush (group_at (view_of a ss) i) new → CanAdd s new
-can_add_at a ss i s new whole is can =
+-- a new ticket that can be pushed, as contracts see the group, can be added to the group's part, where a slot is made for it
+pub can_add_at : (a : Slots) (ss : List GroupSlots) (i : ℕ) (s : GroupSlots) (new : NewTicket) → AreGroupSlots a ss → slice_get ss i ≡ Some s → CanPush (group_at (view_of a ss) i) new → (s.slots.taken < s.slots.max → s.slots.taken + s.unmade < s.slots.max) → CanAdd s new
+can_add_at a ss i s new whole is can made =
     let store = group_is a ss i s is in
     let room : length (tickets_of a s.lists) < s.slots.max = subst (λ (z : GroupTickets). length z.items < z.room) store can.room in
     record {
-      room = omega (arith, room, taken_is a s (whole.each i s is));
+      room = made (omega (arith, room, taken_is a s (whole.each i s is)));
       few = subst (λ (z : GroupTickets). z.next < 2 ^ 63) store can.few;
       command = can.command;
     }

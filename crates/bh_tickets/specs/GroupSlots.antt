@@ -17,7 +17,7 @@ use Rattle.bh_cache.specs.Cache.{uncached_in}
 use Rattle.bh_cache.specs.Chains.{IsChainFrame, IsChained}
 use Rattle.bh_cache.specs.Notes.{is_noted, nothing}
 use Rattle.bh_cache.specs.Listed.{now_is}
-use Rattle.bh_slot_arena.specs.Slots.{lists_in, slots_on}
+use Rattle.bh_slot_arena.specs.Slots.{bounds_of, lists_in, slots_on}
 use Rattle.bh_cache.specs.Slots.{Slots, has, is_on, is_owned, ticket_at, tickets_of, list_for, count_below, has_one, has_serial_in, one, serial_in, InOrder, IsArena, IsFrame}
 
 -- the four lists of a group follow on one another
@@ -52,9 +52,9 @@ may_be_due due s = nat_lt due.command 16 && due.timeout_on && nat_le due.timeout
 abbrev pub no_order : TicketOrder
 no_order = record { latest = 0; in_time = true; last_started = 0; in_turn = true }
 
--- so many slots, none of which has a ticket
-abbrev pub no_slot_taken : GroupLists → ℕ → GroupSlots
-no_slot_taken lists slots = record { lists = lists; slots = record { max = slots; taken = 0 }; next = 1; queued = 0; commands = replicate 16 no_counts; needless = nothing; order = no_order }
+-- so many slots, none of which has a ticket, with those that are not made yet
+abbrev pub no_slot_taken : GroupLists → ℕ → ℕ → GroupSlots
+no_slot_taken lists slots unmade = record { lists = lists; slots = record { max = slots; taken = 0 }; unmade = unmade; next = 1; queued = 0; commands = replicate 16 no_counts; needless = nothing; order = no_order }
 
 -- no ticket of the group was submitted after the latest moment, and where they are in time, none before one of an earlier serial
 pub record AreInTime (a : Slots) (g : GroupLists) (latest : ℕ) (in_time : Bool) : Type 0 where
@@ -80,7 +80,7 @@ pub record IsGroupSlots (a : Slots) (s : GroupSlots) : Type 0 where
   pub there : s.lists.settled < length (lists_in a 0)
   pub arranged : IsArranged a s.lists s.next
   pub chained : IsChained a s.lists
-  pub slots : count_below (length a.payloads) (is_owned a s.lists) ≡ s.slots.max
+  pub slots : count_below (length a.payloads) (is_owned a s.lists) + s.unmade ≡ s.slots.max
   pub few : s.slots.max < 2 ^ 63
   pub taken : s.slots.taken ≡ count_at a s.lists is_any
   pub queued : s.queued ≡ count_at a s.lists is_queued
@@ -101,9 +101,10 @@ pub record IsGroupChange (a : Slots) (s : GroupSlots) (b : Slots) (r : GroupSlot
   pub group : IsGroupSlots b r
   pub frame : IsFrame s.lists a b
   pub chains : IsChainFrame s.lists a b
-  pub limit : b.limit ≡ a.limit
+  pub bounds : bounds_of b ≡ bounds_of a
   pub lists : r.lists ≡ s.lists
   pub room : r.slots.max ≡ s.slots.max
+  pub unmade : r.unmade ≡ s.unmade
 
 -- the counts without a ticket, and with one
 abbrev pub counted_out : Ticket → GroupSlots → GroupSlots
@@ -151,9 +152,9 @@ pub record IsPut (a : Slots) (s : GroupSlots) (x : ℕ) (v : Ticket) (b : Slots)
   pub here : ticket_at b s.lists x ≡ Some v
   pub others : (y : ℕ) → (y ≡ x → ⊥) → ticket_at b s.lists y ≡ ticket_at a s.lists y
 
--- a new ticket of a command below 16, where a slot is free
+-- a new ticket of a command below 16, where a slot that is made is free
 pub record CanAdd (s : GroupSlots) (new : NewTicket) : Type 0 where
-  pub room : s.slots.taken < s.slots.max
+  pub room : s.slots.taken + s.unmade < s.slots.max
   pub few : s.next < 2 ^ 63
   pub command : new.request.now.command < 16
 

@@ -1,7 +1,7 @@
 -- How the arena grows by a group.
-use Rattle.std.specs.Prelude.{◌≡◌, ℕ, ◌+◌, ◌<◌, ◌≤◌, [], ◌∷◌, ◌++◌, length, nat_lt, replicate, if◌then◌else◌}
+use Rattle.std.specs.Prelude.{◌≡◌, ℕ, ◌+◌, ◌-◌, ◌<◌, [], ◌∷◌, ◌++◌, length, nat_lt, replicate, if◌then◌else◌}
 use Rattle.bh_base.specs.declared.ticket.Ticket.{Ticket}
-use Rattle.bh_slot_arena.specs.Slots.{lists_in, with_new_slots}
+use Rattle.bh_slot_arena.specs.Slots.{bounds_of, lists_in, with_new_slots, with_reserved}
 use Rattle.bh_cache.specs.declared.lists.GroupLists.{GroupLists}
 use Rattle.bh_cache.specs.Chains.{unchained}
 use Rattle.bh_cache.specs.Slots.{Slots, IsArena}
@@ -25,7 +25,7 @@ chains_for slots = if nat_lt slots 256 then 16 else (if nat_lt slots 1024 then 6
 
 -- so many empty lists more in each family, and all else is as before
 pub record HasNewLists (n k m : ℕ) (a b : Slots) : Type 0 where
-  pub limit : b.limit ≡ a.limit
+  pub bounds : bounds_of b ≡ bounds_of a
   pub payloads : b.payloads ≡ a.payloads
   pub families : length b.families ≡ length a.families
   pub first : lists_in b 0 ≡ lists_in a 0 ++ replicate n []
@@ -39,15 +39,15 @@ pub record HasMoreLists (a b : Slots) : Type 0 where
   pub third : ℕ
   pub lists : HasNewLists first second third a b
 
--- the lists for free slots are there, and so many slots more are within the limit
-pub record IsReadyFor (g : GroupLists) (count : ℕ) (a : Slots) : Type 0 where
+-- the lists for free slots are there, and a slot is reserved
+pub record IsReadyFor (g : GroupLists) (a : Slots) : Type 0 where
   pub first : g.free < length (lists_in a 0)
   pub second : unchained < length (lists_in a 1)
   pub third : unchained < length (lists_in a 2)
-  pub within : length a.payloads + count ≤ a.limit
+  pub reserved : 0 < a.reserved
 
--- so many slots more, on the lists for free slots
-pub record IsGrown (g : GroupLists) (count : ℕ) (a b : Slots) : Type 0 where
+-- one of the reserved slots is there, on the lists for free slots
+pub record IsGrown (g : GroupLists) (a b : Slots) : Type 0 where
   pub blank : Ticket
-  pub is : b ≡ with_new_slots count (g.free ∷ unchained ∷ unchained ∷ []) blank a
+  pub is : b ≡ with_reserved (a.reserved - 1) (with_new_slots 1 (g.free ∷ unchained ∷ unchained ∷ []) blank a)
   pub arena : IsArena b 0

@@ -61,5 +61,5 @@ pub record IsExchanged (place number : ℕ) (ss : List GroupSlots) (ns : List Na
   pub here : slice_get ss place ≡ Some was
   pub entry : NameLists
   pub there : slice_get ns number ≡ Some entry
-  pub groups : rs ≡ slice_set ss place (no_slot_taken (with_names entry was.lists) 0)
+  pub groups : rs ≡ slice_set ss place (no_slot_taken (with_names entry was.lists) 0 0)
   pub names : ms ≡ slice_set ns number (names_of was.lists)

@@ -1,6 +1,6 @@
 -- Slots without tickets, which go from one group to another.
-use Rattle.std.specs.Prelude.{◌≡◌, ◌≢◌, ℕ, zero, suc, ◌+◌, ◌<◌, ◌≤◌, Bool, true, false, ◌||◌, List, [], length, Option, Some, slice_get}
-use Rattle.bh_slot_arena.specs.Slots.{lists_in, slots_on}
+use Rattle.std.specs.Prelude.{◌≡◌, ◌≢◌, ℕ, zero, suc, ◌+◌, ◌<◌, ◌≤◌, Bool, true, false, ◌||◌, List, [], length, Option, Some, slice_get, slice_set}
+use Rattle.bh_slot_arena.specs.Slots.{bounds_of, lists_in, slots_on}
 use Rattle.bh_cache.specs.declared.lists.GroupLists.{GroupLists}
 use Rattle.bh_cache.specs.Chains.{HasChains, unchained}
 use Rattle.bh_cache.specs.Slots.{Slots, is_live, is_on, IsApart}
@@ -28,7 +28,7 @@ pub record IsVacant (a : Slots) (g : GroupLists) : Type 0 where
   pub names : AreFreeOn 1 g.names g.names_end a g
   pub contexts : AreFreeOn 2 g.contexts g.contexts_end a g
 
--- how many slots of the group have no ticket
+-- how many slots of the group are made and have no ticket
 abbrev pub free_slots : Slots → GroupLists → ℕ
 free_slots a g = length (slots_on a 0 g.free)
 
@@ -42,17 +42,17 @@ pub record IsTaken (count : ℕ) (from to : GroupLists) (a b : Slots) : Type 0 w
   pub got : free_slots b to ≡ free_slots a to + count
   pub same : (h : GroupLists) → IsApart from h → IsApart to h → IsSame h a b
   pub slots : length b.payloads ≡ length a.payloads
-  pub limit : b.limit ≡ a.limit
+  pub bounds : bounds_of b ≡ bounds_of a
 
--- all slots of a group have gone to one without tickets; all else is as it was
+-- all slots of a group that are made have gone to one without tickets; all else is as it was
 pub record IsGiven (s : GroupSlots) (to : GroupLists) (a b : Slots) : Type 0 where
   pub giver : IsVacant b s.lists
   pub taker : IsVacant b to
   pub none : free_slots b s.lists ≡ 0
-  pub got : free_slots b to ≡ free_slots a to + s.slots.max
+  pub got : free_slots b to + s.unmade ≡ free_slots a to + s.slots.max
   pub same : (h : GroupLists) → IsApart s.lists h → IsApart to h → IsSame h a b
   pub slots : length b.payloads ≡ length a.payloads
-  pub limit : b.limit ≡ a.limit
+  pub bounds : bounds_of b ≡ bounds_of a
 
 -- the slot is on one of so many lists of the family
 abbrev pub on_run : Slots → ℕ → ℕ → ℕ → ℕ → Bool
@@ -62,7 +62,7 @@ on_run a family first (suc n) x = on_run a family first n x || is_on a family (f
 -- what was on so many lists of the family is on another; all else is as it was
 pub record IsGathered (family first count to : ℕ) (a b : Slots) : Type 0 where
   pub payloads : b.payloads ≡ a.payloads
-  pub limit : b.limit ≡ a.limit
+  pub bounds : bounds_of b ≡ bounds_of a
   pub families : length b.families ≡ length a.families
   pub others : (f : ℕ) → f ≢ family → lists_in b f ≡ lists_in a f
   pub lists : length (lists_in b family) ≡ length (lists_in a family)
@@ -124,3 +124,22 @@ pub record GetsNames (chains number : ℕ) (a : Slots) (ns : List NameLists) (b 
   pub there : HasNames chains number ms
   pub whole : (p : GroupSlots) (ss : List GroupSlots) → IsWhole a (Some p) ss ns → IsWhole b (Some p) ss ms
   pub view : (p : GroupSlots) (ss : List GroupSlots) → IsWhole a (Some p) ss ns → view_of b ss ≡ view_of a ss
+
+-- ---- a slot for one ticket more
+
+-- the group is one of those that are as they should be
+pub record IsAmong (a : Slots) (s : GroupSlots) : Type 0 where
+  pub spare : Option GroupSlots
+  pub groups : List GroupSlots
+  pub names : List NameLists
+  pub number : ℕ
+  pub whole : IsWhole a spare groups names
+  pub here : slice_get groups number ≡ Some s
+
+-- a slot that is made is free, where the group has room for a ticket more; wherever the group is, all groups are as they should
+-- be still, and contracts see of them what they saw
+pub record HasSlotFree (a : Slots) (s : GroupSlots) (b : Slots) (r : GroupSlots) : Type 0 where
+  pub room : s.slots.taken < s.slots.max → r.slots.taken + r.unmade < r.slots.max
+  pub else : r ≡ record s { unmade = r.unmade }
+  pub whole : (spare : Option GroupSlots) (ss : List GroupSlots) (ns : List NameLists) (i : ℕ) → IsWhole a spare ss ns → slice_get ss i ≡ Some s → IsWhole b spare (slice_set ss i r) ns
+  pub view : (spare : Option GroupSlots) (ss : List GroupSlots) (ns : List NameLists) (i : ℕ) → IsWhole a spare ss ns → slice_get ss i ≡ Some s → view_of b (slice_set ss i r) ≡ view_of a ss

@@ -1,5 +1,5 @@
 -- The tickets of all groups, by the number of the group.
-use Rattle.std.specs.Prelude.{◌≡◌, ◌≢◌, ℕ, ◌==◌, ◌&&◌, Bool, true, false, find, zero, suc, List, [], ◌∷◌, map, length, Option, Some, None, slice_get, sum_by}
+use Rattle.std.specs.Prelude.{◌≡◌, ◌≢◌, ℕ, ◌+◌, ◌==◌, ◌&&◌, Bool, true, false, find, zero, suc, List, [], ◌∷◌, map, length, Option, Some, None, slice_get, sum_by}
 use Rattle.bh_base.specs.declared.ticket.Ticket.{Ticket}
 use Rattle.bh_base.specs.Tickets.{changed_first}
 use Rattle.bh_tickets.specs.declared.group_slots.GroupSlots.{GroupSlots}
@@ -43,17 +43,22 @@ pub record AreGroupSlots (a : Slots) (ss : List GroupSlots) : Type 0 where
 abbrev pub rooms : List GroupSlots → ℕ
 rooms ss = sum_by (λ (s : GroupSlots). s.slots.max) ss
 
+-- how many slots of all groups are not made yet
+abbrev pub unmades : List GroupSlots → ℕ
+unmades ss = sum_by (λ (s : GroupSlots). s.unmade) ss
+
 -- the groups, and before them the spare slots as those of one group more
 abbrev pub with_spare : Option GroupSlots → List GroupSlots → List GroupSlots
 with_spare None ss = ss
 with_spare (Some p) ss = p ∷ ss
 
--- the spare slots and those of all groups: none of the spare ones has a ticket, and all are there once there is a group;
--- and the chains that no group has
+-- the spare slots and those of all groups: none of the spare ones has a ticket, and all are there once there is a group, or
+-- are reserved as they are not made yet; and the chains that no group has
 pub record IsWhole (a : Slots) (spare : Option GroupSlots) (ss : List GroupSlots) (ns : List NameLists) : Type 0 where
   pub all : AreGroupSlots a (with_spare spare ss)
-  pub slots : length a.payloads ≡ rooms (with_spare spare ss)
-  pub free : (p : GroupSlots) → spare ≡ Some p → p ≡ no_slot_taken p.lists p.slots.max
+  pub slots : length a.payloads + a.reserved ≡ rooms (with_spare spare ss)
+  pub reserved : a.reserved ≡ unmades (with_spare spare ss)
+  pub free : (p : GroupSlots) → spare ≡ Some p → p ≡ no_slot_taken p.lists p.slots.max p.unmade
   pub first : spare ≡ None → ss ≡ []
   pub names : AreLeft a (with_spare spare ss) ns
 

@@ -28,6 +28,8 @@ pub struct GroupSlots {
     pub lists: GroupLists,
     /// Of the group's slots each ticket takes one.
     pub slots: Permits,
+    /// How many of the slots are not made yet: a slot is made as it is first needed.
+    pub unmade: u64,
     /// The next ticket's serial.
     pub next: Serial,
     /// How many of the tickets are queued, of whatever command.
@@ -42,13 +44,14 @@ pub struct GroupSlots {
 }
 
 impl GroupSlots {
-    /// So many slots, none of which has a ticket.
-    pub fn new(lists: GroupLists, slots: u64) -> Self
-        ensures { result ≡ no_slot_taken lists slots }
+    /// So many slots, none of which has a ticket, with those that are not made yet.
+    pub fn new(lists: GroupLists, slots: u64, unmade: u64) -> Self
+        ensures { result ≡ no_slot_taken lists slots unmade }
     {
         GroupSlots {
             lists,
             slots: Permits::new(slots),
+            unmade,
             next: 1,
             queued: 0,
             needless: nothing(),

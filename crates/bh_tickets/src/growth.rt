@@ -1,8 +1,8 @@
 //! How the arena grows by a group.
 
-ghost use Rattle.std.specs.Prelude.{◌≡◌, ◌+◌, ◌<◌, ◌^◌, [], ◌∷◌, length, IfOk, OnErr, OnOk};
+ghost use Rattle.std.specs.Prelude.{◌≡◌, ◌+◌, ◌<◌, ◌≤◌, ◌^◌, [], ◌∷◌, length, IfOk, OnErr, OnOk};
 ghost use Rattle.bh_base.specs.declared.ticket.Ticket.{Ticket};
-ghost use Rattle.bh_slot_arena.specs.Slots.{lists_in};
+ghost use Rattle.bh_slot_arena.specs.Slots.{lists_in, with_reserved};
 ghost use Rattle.bh_tickets.specs.Growth.{HasMoreLists, HasNewLists, IsGrown, IsReadyFor, chains_for, lists_from};
 
 use bh_base::{Text, Ticket, TicketState};
@@ -12,7 +12,7 @@ use std::alloc::{AllocError, Global};
 
 /// An arena without slots.
 pub fn new_arena(alloc: Global, limit: u32) -> Arena<Ticket, 3>
-    ensures { result ≡ record { limit = limit; payloads = []; families = [] ∷ [] ∷ [] ∷ [] } }
+    ensures { result ≡ record { limit = limit; reserved = 0; payloads = []; families = [] ∷ [] ∷ [] ∷ [] } }
 {
     Arena::new(alloc, limit)
 }
@@ -70,24 +70,22 @@ pub fn first_lists(arena: &mut Arena<Ticket, 3>, chains: usize) -> Result<GroupL
     add_lists(arena, chains)
 }
 
-/// So many free slots for a group. Refused, nothing has changed.
-pub fn add_slots(
-    arena: &mut Arena<Ticket, 3>,
-    lists: &GroupLists,
-    count: u32,
-) -> Result<(), AllocError>
-    requires { IsReadyFor lists.now count arena.old }
-    ensures ok { OnOk result (IsGrown lists.now count arena.old arena.new) }
+/// Takes the memory for so many slots more. Refused, nothing has changed.
+pub fn reserve_slots(arena: &mut Arena<Ticket, 3>, count: u32) -> Result<(), AllocError>
+    requires { length arena.old.payloads + arena.old.reserved + count ≤ arena.old.limit }
+    ensures ok { OnOk result (arena.new ≡ with_reserved (arena.old.reserved + count) arena.old) }
     ensures err { OnErr result (arena.new ≡ arena.old) }
 {
-    if arena
-        .add_slots(count, [lists.free, UNCHAINED, UNCHAINED], blank_ticket())
-        .is_err()
-    {
-        return Err(AllocError);
-    }
+    arena.reserve_slots(count).map_err(|_| AllocError)
+}
+
+/// One of the reserved slots is there, and free for a group.
+pub fn add_slot(arena: &mut Arena<Ticket, 3>, lists: &GroupLists)
+    requires { IsReadyFor lists.now arena.old }
+    ensures { IsGrown lists.now arena.old arena.new }
+{
+    arena.add_reserved(1, [lists.free, UNCHAINED, UNCHAINED], blank_ticket());
     arena.partition(0);
-    Ok(())
 }
 
 /// What lies in a slot that has no ticket: its serial is 0, which no ticket has.

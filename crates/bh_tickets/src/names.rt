@@ -86,7 +86,7 @@ pub fn exchange(
     let was = groups[place].lists;
     let names = left[number];
     left[number] = names_of(&was);
-    groups[place] = GroupSlots::new(with_names(&was, &names), 0);
+    groups[place] = GroupSlots::new(with_names(&was, &names), 0, 0);
 }
 
 /// The chains of a group.

@@ -26,8 +26,7 @@ pub struct NewTicket<'a> {
     pub test: bool,
 }
 
-/// The ticket of the serial is written where it is kept, field by field: of what lies there, the room for an answer is left
-/// alone, as a new ticket has none.
+/// The ticket of the serial is written where it is kept, field by field.
 #[inline(always)]
 pub fn write(new: &NewTicket, serial: Serial, kept: &mut Ticket)
     ensures { kept.new ≡ ticket_of new.now serial }

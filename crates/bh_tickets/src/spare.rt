@@ -7,10 +7,10 @@ ghost use Rattle.bh_cache.specs.Slots.{IsApart};
 ghost use Rattle.bh_tickets.specs.declared.names.NameLists.{NameLists};
 ghost use Rattle.bh_tickets.specs.GroupSlots.{IsGroupSlots, no_slot_taken};
 ghost use Rattle.bh_tickets.specs.Growth.{chains_for};
-ghost use Rattle.bh_tickets.specs.Spare.{AreSpare, GetsPlace, HasRoomBeside, IsGathered, IsGiven, IsLeft, IsTaken, IsVacant, KeepsGroups, StaysWhole, free_slots};
+ghost use Rattle.bh_tickets.specs.Spare.{AreSpare, GetsPlace, HasRoomBeside, HasSlotFree, IsAmong, IsGathered, IsGiven, IsLeft, IsTaken, IsVacant, KeepsGroups, StaysWhole, free_slots};
 
 use crate::group_slots::GroupSlots;
-use crate::growth::{add_lists, add_slots, blank_ticket, chains_for, first_lists};
+use crate::growth::{add_lists, add_slot, blank_ticket, chains_for, first_lists, reserve_slots};
 use crate::names::{NameLists, are_many, exchange, names_of, ready_names};
 use bh_base::Ticket;
 use bh_cache::{GroupLists, UNCHAINED};
@@ -20,16 +20,28 @@ use std::alloc::AllocError;
 /// The chains of each family among the lists of spare slots, on which no ticket ever lies.
 const SPARE_CHAINS: usize = 16;
 
-/// What a group keeps that has no ticket.
-pub fn vacant(arena: &Arena<Ticket, 3>, lists: &GroupLists) -> GroupSlots
-    requires { lists.now.free < length (lists_in arena.now 0) }
-    ensures { result ≡ no_slot_taken lists.now (free_slots arena.now lists.now) }
+/// What a group keeps that has no ticket, with so many slots that are not made yet.
+pub fn vacant(arena: &Arena<Ticket, 3>, lists: &GroupLists, unmade: u64) -> GroupSlots
+    requires there { lists.now.free < length (lists_in arena.now 0) }
+    requires few { free_slots arena.now lists.now + unmade < 2 ^ 64 }
+    ensures { result ≡ no_slot_taken lists.now (free_slots arena.now lists.now + unmade) unmade }
 {
-    GroupSlots::new(*lists, arena.len_of(0, lists.free) as u64)
+    let made = arena.len_of(0, lists.free) as u64;
+    GroupSlots::new(*lists, made + unmade, unmade)
 }
 
-/// The lists of spare slots, of which there are so many then at least: what is missing is new. Refused, the arena may
-/// have some empty lists more.
+/// How many spare slots are not made yet.
+pub fn unmade_of(spare: &Option<GroupSlots>) -> u64
+    ensures { (part : GroupSlots) → spare.now ≡ Some part → result ≡ part.unmade }
+{
+    match spare {
+        Some(part) => part.unmade,
+        None => 0,
+    }
+}
+
+/// The lists of spare slots, of which there are so many then at least: for what is missing the memory is taken. Refused, the
+/// arena may have some empty lists more.
 pub fn ready_spare(
     arena: &mut Arena<Ticket, 3>,
     spare: &mut Option<GroupSlots>,
@@ -41,10 +53,12 @@ pub fn ready_spare(
     ensures ok { IfOk result (λ lists. AreSpare slots lists spare.new) }
 {
     let lists = spare_lists(arena, spare)?;
-    let there = arena.len_of(0, lists.free) as u64;
+    let unmade = unmade_of(spare);
+    let there = arena.len_of(0, lists.free) as u64 + unmade;
     if there < slots {
-        add_slots(arena, &lists, (slots - there) as u32)?;
-        *spare = Some(vacant(arena, &lists));
+        let missing = slots - there;
+        reserve_slots(arena, missing as u32)?;
+        *spare = Some(vacant(arena, &lists, unmade + missing));
     }
     Ok(lists)
 }
@@ -61,7 +75,7 @@ fn spare_lists(
         return Ok(part.lists);
     }
     let lists = first_lists(arena, SPARE_CHAINS)?;
-    *spare = Some(GroupSlots::new(lists, 0));
+    *spare = Some(GroupSlots::new(lists, 0, 0));
     Ok(lists)
 }
 
@@ -123,7 +137,7 @@ fn new_place(
     groups.reserve(1)?;
     let lists = add_lists(arena, chains)?;
     let place = groups.len();
-    groups.push_reserved(GroupSlots::new(lists, 0));
+    groups.push_reserved(GroupSlots::new(lists, 0, 0));
     Ok(place)
 }
 
@@ -179,6 +193,20 @@ fn take_slot(arena: &mut Arena<Ticket, 3>, from: &GroupLists, to: &GroupLists)
     arena.move_to_back(0, slot, to.free);
 }
 
+/// A free slot for the group's next ticket, where it has room for one: one of those that are not made yet, where all others
+/// have tickets. It takes no memory.
+#[inline(always)]
+pub fn ready_slot(arena: &mut Arena<Ticket, 3>, group: &mut GroupSlots)
+    requires { IsAmong arena.old group.old }
+    ensures { HasSlotFree arena.old group.old arena.new group.new }
+{
+    if group.unmade == 0 || group.unmade < group.slots.free() {
+        return;
+    }
+    group.unmade -= 1;
+    add_slot(arena, &group.lists);
+}
+
 /// Nothing is left of the tickets that the slot had. One that had none since it was blank is not written again: it has the
 /// serial 0, which no ticket has.
 fn blank(arena: &mut Arena<Ticket, 3>, slot: u32)
@@ -190,7 +218,7 @@ fn blank(arena: &mut Arena<Ticket, 3>, slot: u32)
     }
 }
 
-/// All slots of a group go to one without tickets, and have none then. It takes no memory.
+/// All slots of a group that are made go to one without tickets, and have none then. It takes no memory.
 pub fn give_slots(arena: &mut Arena<Ticket, 3>, group: &GroupSlots, to: &GroupLists)
     requires giver { IsGroupSlots arena.old group.now }
     requires taker { IsVacant arena.old to.now }

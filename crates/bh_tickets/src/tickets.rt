@@ -18,7 +18,9 @@ use crate::group_slots::{self, GroupSlots, add, drop_cached, may_be_due};
 use crate::growth::new_arena;
 use crate::names::NameLists;
 use crate::new_ticket::NewTicket;
-use crate::spare::{give_slots, ready_spare, take_place, take_slots, vacant};
+use crate::spare::{
+    give_slots, ready_slot, ready_spare, take_place, take_slots, unmade_of, vacant,
+};
 use crate::states::{DueRule, is_due, is_held, is_in_fallback};
 use crate::sweeps::{release, time_out};
 use crate::walks::{any_due_on, any_used_on};
@@ -75,7 +77,7 @@ impl Tickets {
         ensures { result ≡ nat_le (slots_of self.now + slots) self.now.limit }
     {
         let spare = match &self.spare {
-            Some(part) => self.arena.len_of(0, part.lists.free) as u64,
+            Some(part) => self.arena.len_of(0, part.lists.free) as u64 + part.unmade,
             None => 0,
         };
         self.arena.partition(0);
@@ -83,8 +85,8 @@ impl Tickets {
     }
 
     /// A place for a group with so many slots and no ticket: one that a retired group left, else a new one behind the
-    /// others. Slots of retired groups are taken first. It takes all the memory that the group's tickets will need.
-    /// Refused, nothing has changed.
+    /// others. Slots of retired groups are taken first; others are made as they are first needed, in memory that is taken
+    /// here, as is all that the group's tickets will need. Refused, nothing has changed.
     pub fn add_group(&mut self, slots: u64) -> Result<usize, AllocError>
         requires few { slots ≤ 4096 }
         requires within { slots_of self.old + slots ≤ self.old.limit }
@@ -99,10 +101,13 @@ impl Tickets {
         let place = take_place(&mut self.arena, &mut self.groups, names, left, slots)?;
         self.first_left = place;
         let to = self.groups[place].lists;
-        take_slots(&mut self.arena, &from, &to, slots);
+        let made = slots.min(self.arena.len_of(0, from.free) as u64);
+        let unmade = slots - made;
+        let left_unmade = unmade_of(&self.spare) - unmade;
+        take_slots(&mut self.arena, &from, &to, made);
         self.arena.partition(0);
-        self.spare = Some(vacant(&self.arena, &from));
-        self.groups[place] = vacant(&self.arena, &to);
+        self.spare = Some(vacant(&self.arena, &from, left_unmade));
+        self.groups[place] = vacant(&self.arena, &to, unmade);
         put_table(&mut self.tables, place, table);
         Ok(place)
     }
@@ -119,8 +124,8 @@ impl Tickets {
         let group = self.groups[place];
         give_slots(&mut self.arena, &group, &spare.lists);
         self.arena.partition(0);
-        self.spare = Some(vacant(&self.arena, &spare.lists));
-        self.groups[place] = vacant(&self.arena, &group.lists);
+        self.spare = Some(vacant(&self.arena, &spare.lists, spare.unmade + group.unmade));
+        self.groups[place] = vacant(&self.arena, &group.lists, 0);
         self.tables[place].clear();
         self.first_left = self.first_left.min(place);
     }
@@ -416,6 +421,7 @@ impl Tickets {
         ensures limit { self.new.limit ≡ self.old.limit }
     {
         let entry = &mut self.groups[group];
+        ready_slot(&mut self.arena, entry);
         let slot = self.arena.back(0, entry.lists.free);
         put_slot(&mut self.tables[group], entry.next, slot);
         add(&mut self.arena, entry, new);

@@ -1,7 +1,6 @@
 use Rattle.std.proofs.Common.{◌≡◌, ℕ, ◌<◌, List, length, map, refl, sym, ap, subst, get_or, set, ◌∙◌, arith}
 use Rattle.std.specs.List.{Contains}
 use Rattle.bh_index_lists.specs.declared.lists.Link.{Link}
-use Rattle.bh_index_lists.specs.declared.lists.ListHead.{ListHead}
 use Rattle.bh_index_lists.specs.Lists.{IsList, list_of}
 use Rattle.bh_index_lists.proofs.Members.{IsIn, IsIn-from_Contains, IsIn-without}
 use Rattle.bh_index_lists.proofs.Segments.{listed, IsList-from}

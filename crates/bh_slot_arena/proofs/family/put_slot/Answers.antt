@@ -1,6 +1,5 @@
-use Rattle.std.proofs.Common.{◌≡◌, ℕ, ◌++◌, ◌∷◌, [], List, length, map, set, refl, sym, subst, ap, ap₂, ◌∙◌, arith}
+use Rattle.std.proofs.Common.{◌≡◌, ◌++◌, ◌∷◌, [], List, length, map, set, sym, subst, ap, ◌∙◌, arith}
 use Rattle.std.proofs.lemmas.List.{with_items_is}
-use Rattle.bh_index_lists.specs.declared.lists.Link.{Link}
 use Rattle.bh_index_lists.specs.Lists.{list_of}
 use Rattle.bh_slot_arena.specs.declared.nodes.Node.{Node}
 use Rattle.bh_slot_arena.specs.Linked.{IsLinked}

@@ -18,6 +18,7 @@ loop-slot-preserved c =
       sound = c.put_slot.ensures.sound;
       slots = c.put_slot.ensures.slots;
       room = omega (arith, c.loop-slot.invariant.room, c.put_slot.ensures.room);
+      same = omega (arith, c.loop-slot.invariant.same, c.put_slot.ensures.room);
       lists =
           c.put_slot.ensures.lists
           ∙ ap (put_last (c.loop-slot.slot ∷ []) c.args.list) c.loop-slot.invariant.lists

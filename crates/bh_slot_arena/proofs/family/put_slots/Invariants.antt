@@ -10,5 +10,6 @@ invariant-loop-slot l = record {
   sound : AreLinked l.nodes.items l.heads;
   slots : length l.nodes.items ≡ l.slot;
   room : l.first + l.count ≤ vec_capacity l.nodes;
+  same : vec_capacity l.nodes ≡ vec_capacity l.fn.nodes;
   lists : map (list_of (links_of l.nodes.items)) l.heads ≡ put_last (range_with_len l.first (l.slot - l.first)) l.list (map (list_of (links_of l.fn.nodes.items)) l.fn.heads);
 }

@@ -19,7 +19,7 @@ returns-clause-ok c =
     let b = c.add_lists.new.arena in
     let ss = c.args.groups.now.items in
     let g = c.in_ok-lists.lists in
-    let items : c.push_reserved.new.self.items ≡ ss ++ no_slot_taken g 0 ∷ [] = c.push_reserved.ensures.items ∙ (λ i. c.reserve.ensures.items i ++ c.new.ensures i ∷ []) in
+    let items : c.push_reserved.new.self.items ≡ ss ++ no_slot_taken g 0 0 ∷ [] = c.push_reserved.ensures.items ∙ (λ i. c.reserve.ensures.items i ++ c.new.ensures i ∷ []) in
     let size : c.len-place.result ≡ length c.reserve.new.self.items = search rules in
     let place : c.len-place.result ≡ length ss = size ∙ ap (λ (xs : List GroupSlots). length xs) c.reserve.ensures.items in
     λ ns. subst (λ k. GetsPlace c.args.chains k a ss ns b c.push_reserved.new.self.items ns) (sym place)

@@ -13,8 +13,10 @@ pub invariant_of-result : goal.invariant_of-result
 invariant_of-result g c = record {
   few = omega arith;
   within = omega (arith, ap length c.new.ensures.items);
+  room = omega (arith, ap length c.new.ensures.items);
   slots_in = λ f lt. ap (λ (v : FamilyView). v.slots) (empty g c f lt) ∙ sym (ap length c.new.ensures.items);
+  room_in = λ f lt. omega arith;
 }
 
 pub returns : goal.returns
-returns g c = ap₂ (λ (ps : List g.row.T.Denot) (ls : List (List (List ℕ))). let a : ArenaView g.row.T.Denot = record { limit = c.args.limit; payloads = ps; families = ls } in a) c.new.ensures.items (all_lists-empty g.row.K c.from_fn.result c.from_fn.ensures.items.long (empty g c))
+returns g c = ap₂ (λ (ps : List g.row.T.Denot) (ls : List (List (List ℕ))). let a : ArenaView g.row.T.Denot = record { limit = c.args.limit; reserved = 0; payloads = ps; families = ls } in a) c.new.ensures.items (all_lists-empty g.row.K c.from_fn.result c.from_fn.ensures.items.long (empty g c))

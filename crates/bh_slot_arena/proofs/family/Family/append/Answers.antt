@@ -17,6 +17,7 @@ loop-preserved c =
     let gone = ap (λ (ls : List (List ℕ)). length (list_at ls from)) put ∙ ap length (front_gone n now from to cut.0 cut.1 parted from_in to_in c.requires.differ cut.2) in
     record {
       slots = c.move_front.ensures.slots ∙ c.loop.invariant.slots;
+      room = c.move_front.ensures.room ∙ c.loop.invariant.room;
       count = ap length put ∙ next_size n now from to cut.0 cut.1 parted from_in to_in c.requires.differ cut.2 ∙ c.loop.invariant.count;
       left = omega (arith, gone, ap length cut.2, c.loop.invariant.left, c.loop-test.true);
       appended = ap (appended from to) put ∙ appended-next n now from to cut.0 cut.1 parted from_in to_in c.requires.differ cut.2 ∙ c.loop.invariant.appended;

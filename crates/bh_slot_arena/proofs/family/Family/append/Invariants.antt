@@ -6,6 +6,7 @@ use Rattle.bh_slot_arena.proofs.family.Family.append.Given as goal
 abbrev pub invariant-loop : goal.invariant-loop
 invariant-loop l = record {
   slots : l.self.slots ≡ l.fn.self.slots;
+  room : l.self.room ≡ l.fn.self.room;
   count : length l.self.lists ≡ length l.fn.self.lists;
   left : length (list_at l.self.lists l.from) ≡ l.end - l.counter;
   appended : appended l.from l.to l.self.lists ≡ appended l.from l.to l.fn.self.lists;
