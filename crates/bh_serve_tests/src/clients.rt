@@ -29,6 +29,10 @@ const UNREAD_LINES: usize = 4000;
 /// More short lines than fit into the buffers of a connection whose answers nobody reads.
 const MOST_LINES: u32 = 5_000_000;
 
+/// How many seconds in a row nothing is taken of what is sent by one that is sure that the service waits. The system may wake
+/// who waits for room only once there is much of it, which takes a busy machine longer than one.
+const QUIET_SECONDS: u32 = 3;
+
 /// How many groups are named.
 const NAMED_GROUPS: usize = 100;
 
@@ -58,6 +62,14 @@ fn many_groups<R: Abort + AllocGlobal>(rt: &R) -> String {
         .push_str("hystrix.command.default.execution.timeout.enabled = false\n")
         .expect(rt, "memory");
     settings
+}
+
+/// Sends what is left of a question, and answers what is left then, which is a question where all of this one was sent; None
+/// where nothing was taken in time.
+fn send_on<'q>(mut stream: &TcpStream, rest: &'q [u8]) -> Option<&'q [u8]> {
+    let count = stream.write(rest).ok()?;
+    let (_, rest) = rest.split_at(count);
+    Some(if rest.is_empty() { GROUPS } else { rest })
 }
 
 /// A connection that has asked more than it can be answered while it reads nothing.
@@ -136,8 +148,15 @@ impl<R: Net<Listener = TcpListener, Stream = TcpStream> + Wait + Clock + Abort +
     fn stop_beside(&self, stream: &TcpStream) {
         let mut byte = [0u8; 1];
         assert_eq!(self.rt; stream.peek(&mut byte).expect(self.rt, "an answer"), 1);
+        self.stop_to_end();
+    }
+
+    /// The service is told to stop, and the connection stays open until it has: one that is reset may be told as one that
+    /// could not be read.
+    fn stop_to_end(&self) {
         self.acceptor
             .tell(self.rt, &Door::Port(self.address.port()));
+        self.end.await_in_time(self.rt);
     }
 
     /// Another connection makes calls.
@@ -239,18 +258,26 @@ impl<R: Net<Listener = TcpListener, Stream = TcpStream> + Wait + Clock + Abort +
         assert_heard(self.rt, &late, "", "the end");
     }
 
-    /// Nothing is taken any more for a second: the service waits for room to write.
-    fn ask_on(&self, mut stream: &TcpStream) {
+    /// Sends short questions until nothing of them is taken for seconds, so that the service waits for room to write, which
+    /// is told to stop then.
+    fn ask_on(&self, stream: &TcpStream) {
         stream
             .set_write_timeout(Some(Duration::from_secs(1)))
             .expect(self.rt, "a time-out");
+        let (mut rest, mut in_vain) = (GROUPS, 0u32);
         for _ in 0..MOST_LINES {
-            if stream.write_all(GROUPS).is_err() {
+            match send_on(stream, rest) {
+                Some(left) => {
+                    rest = left;
+                    in_vain = 0;
+                }
+                None => in_vain = in_vain.saturating_add(1),
+            }
+            if in_vain == QUIET_SECONDS {
                 break;
             }
         }
-        self.acceptor
-            .tell(self.rt, &Door::Port(self.address.port()));
+        self.stop_to_end();
     }
 
     /// Two calls wait, of which one runs, when the service is told to stop.
