@@ -9,5 +9,6 @@ pub mod PortErrors  -- what is known where no error was answered
 pub mod FlatReading  -- the members of an object that holds scalars alone: how they are put, and what is found of them
 pub mod Lanes  -- sixteen bytes at once: where the first stands that passes a test
 pub mod PlainLanes  -- sixteen bytes of a text at once: which of them are stops
+pub mod Escapes  -- texts with escapes: what their bytes say, and where they end
 pub mod PlainReading  -- plain lines: the tokens that their bytes are, and the members of these
 pub mod GroupNumber  -- the number of a group, found by comparing the name from either side

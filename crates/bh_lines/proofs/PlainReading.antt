@@ -8,7 +8,7 @@ use Rattle.std.proofs.lemmas.Str.{IsCharBoundary-after_ascii, IsCharBoundary-bef
 use Rattle.std.proofs.lemmas.Bool.Decides.{Decides-eqb}
 use Rattle.std.specs.List.{starts_with}
 use Rattle.std.proofs.lemmas.List.Sums.{prefix_len_passes, prefix_len-le-length}
-use Rattle.std.specs.Prelude.{◌&&◌, nat_le}
+use Rattle.std.specs.Prelude.{◌&&◌, nat_le, IfSome}
 use Rattle.std.proofs.lemmas.Str.Parse.{digit_from_value}
 use Rattle.std.specs.Borrow.{Bor}
 use Rattle.std.specs.List.{prefix_len}
@@ -37,7 +37,7 @@ use Rattle.fast_float.proofs.Integers.{digits_len_all}
 use Rattle.serde_json.specs.Data.{unsigned}
 use Rattle.serde_json.specs.Read.{number_of, is_integer}
 use Rattle.bh_lines.specs.Flat.{is_scalar, is_whole, are_members, IsBegun, ReadsMembers}
-use Rattle.bh_lines.specs.Plain.{IsSignThen, IsTextThen, IsKeyThen, IsNumberThen, IsScalarThen, IsMemberThen, IsReadTo, behind_member}
+use Rattle.bh_lines.specs.Plain.{IsAmid, IsInsideThen, IsSignThen, IsTextThen, IsKeyThen, IsNumberThen, IsScalarThen, IsMemberThen, IsReadTo, behind_member}
 use Rattle.bh_lines.specs.declared.plain.PlainMember.{PlainMember}
 use Rattle.bh_lines.specs.declared.flat.Scalar.{Scalar}
 use Rattle.bh_lines.specs.declared.flat.Scalar.TheVariants as scalars
@@ -139,6 +139,12 @@ pub byte_there : (line : List ℕ) (place byte : ℕ) → drop place line ≡ by
 byte_there line place byte stands =
     let at_place : place + 0 ≡ place = omega arith in
     ap (λ k. get_or line k 0) (sym at_place) ∙ sym (get_or-drop place line 0 0) ∙ ap (λ l. get_or l 0 0) stands
+
+-- between quotes a text with escapes is what its inside says
+pub text_inside : (line : List ℕ) (place start : ℕ) (found : Option (Bor (List ℕ) × ℕ)) → IsSignThen line place 34 start → IfSome found (λ f. IsInsideThen (drop start line) f.0.now (drop f.1 line))
+    → IfSome found (λ f. IsTextThen (drop place line) f.0.now (drop f.1 line))
+text_inside line place start None opens inside = tt
+text_inside line place start (Some f) opens inside = opens.same ∙ lex-text (drop start line) f.0.now (drop f.1 line) inside.said inside.passed
 
 -- a sign is a letter of its own, behind which a text may be cut
 pub sign_is_boundary : (line : List ℕ) (place sign next : ℕ) → sign < 128 → IsUtf8 line → IsSignThen line place sign next → IsCharBoundary line next
@@ -337,6 +343,12 @@ read_to line found place next opens so_far name =
       begun = subst (IsBegun first found) left so_far.2;
       boundary = IsCharBoundary-before_ascii line (next - 1) (omega (arith, name.behind, name.within)) (omega (arith, byte));
     }
+
+-- what can be read by itself goes on where another member may begin
+pub amid_of : (line : List ℕ) (found : List FlatMember) (place : ℕ) → drop 0 line ≡ 123 ∷ drop 1 line → IsReadTo line found place → IsAmid line found place
+amid_of line found place opens front =
+    let same : front.first ≡ punctuate fresh (lex between (drop 1 line)) = ap (drop 1) (sym front.opens ∙ ap tokens opens ∙ tokens-open (drop 1 line)) in
+    (fresh, refl, subst (λ first. IsBegun first found (tokens (drop place line))) same front.begun)
 
 -- ---- numbers
 

@@ -1,9 +1,12 @@
 -- What stands in front of a text, and the tokens that it is.
-use Rattle.std.specs.Prelude.{◌≡◌, ◌⊎◌, ℕ, ◌-◌, ◌<◌, ◌≤◌, List, ◌∷◌, ◌++◌, length, drop, Bool, true, false, Some}
+use Rattle.std.specs.Prelude.{◌≡◌, ◌⊎◌, ℕ, ◌+◌, ◌-◌, ◌<◌, ◌≤◌, List, ◌∷◌, ◌++◌, length, drop, Bool, true, false, Some}
 use Rattle.json.specs.Token.{Token}
 use Rattle.json.specs.Word.{ends_word}
+use Rattle.std.specs.Char.{digit_value, encode_utf8}
 use Rattle.std.specs.Str.{IsCharBoundary}
-use Rattle.json.specs.Lex.{Place, fresh, after_value, after_comma, may_begin, between, lex, punctuate, tokens}
+use Rattle.json.specs.Run.{is_plain}
+use Rattle.json.specs.Text.{after_u, content, plain, prepend}
+use Rattle.json.specs.Lex.{Place, fresh, after_value, after_comma, may_begin, between, in_string, lex, punctuate, tokens}
 use Rattle.json.specs.Lex as lexer
 use Rattle.json.specs.Print.{IsNumber}
 use Rattle.serde_json.specs.Data.{unsigned}
@@ -21,6 +24,28 @@ pub record IsSignThen (line : List ℕ) (place : ℕ) (sign : ℕ) (next : ℕ) 
   pub behind : 0 < next
   pub stands : drop (next - 1) line ≡ sign ∷ drop next line
   pub within : next ≤ length line
+
+-- the inside of a text says this, up to its quote, and `rest` follows
+pub record IsInsideThen (inside : List ℕ) (found : List ℕ) (rest : List ℕ) : Type 0 where
+  pub said : content plain inside ≡ Some found
+  pub passed : lex in_string inside ≡ lex between rest
+
+-- from the place on the inside of a text says this up to `next`, and goes on there
+pub record SaysTo (line : List ℕ) (place : ℕ) (found : List ℕ) (next : ℕ) : Type 0 where
+  pub said : content plain (drop place line) ≡ prepend found (content plain (drop next line))
+  pub passed : lex in_string (drop place line) ≡ lex in_string (drop next line)
+
+-- the byte is a digit of this value, to the base of sixteen
+pub record IsHexDigit (byte : ℕ) (value : ℕ) : Type 0 where
+  pub is : value ≡ digit_value byte
+  pub small : value < 16
+  pub plain : is_plain byte ≡ true
+
+-- behind a backslash and a `u` four digits at the place say this character
+pub record IsNumberedAt (bytes : List ℕ) (place : ℕ) (character : ℕ) : Type 0 where
+  pub said : content after_u (drop place bytes) ≡ prepend (encode_utf8 character) (content plain (drop (place + 4) bytes))
+  pub passed : lex in_string (drop place bytes) ≡ lex in_string (drop (place + 4) bytes)
+  pub within : place + 4 ≤ length bytes
 
 -- the text begins with a string of this content, and `rest` follows
 abbrev pub IsTextThen : List ℕ → List ℕ → List ℕ → Type 0
@@ -56,6 +81,10 @@ pub record IsMemberThen (line : List ℕ) (place : ℕ) (found : PlainMember) : 
   pub reads : (ts : List Token) → ReadsScalar found.member.value (token ∷ ts) ts
   pub tokens : (p : Place) → may_begin p ≡ true
       → punctuate p (lex between (drop place line)) ≡ Token.key found.member.name.now ∷ token ∷ behind_member found.is_last (drop found.next line)
+
+-- of the members of the object that the line begins these have been read, and at the place another one may begin
+abbrev pub IsAmid : List ℕ → List FlatMember → ℕ → Type 0
+IsAmid line found place = (p : Place) × (may_begin p ≡ true) × IsBegun (punctuate fresh (lex between (drop 1 line))) found (punctuate p (lex between (drop place line)))
 
 -- the line begins an object with these members, and from the place on it goes on with others
 pub record IsReadTo (line : List ℕ) (found : List FlatMember) (place : ℕ) : Type 0 where

@@ -44,11 +44,21 @@ pub struct FlatObject<'a> {
     pub members: ArrayVec<FlatMember<'a>, MOST_MEMBERS>,
     /// The place in the line behind these members, where `read_plain` read no further; else 0.
     pub rest: usize,
+    /// Where `read_plain` puts the texts that have escapes: what is left of it.
+    room: &'a mut [u8],
 }
 
 impl<'a> FlatObject<'a> {
-    /// An object without members.
+    /// An object without members, which has no room for a text with escapes.
     pub fn new() -> FlatObject<'a>
+        ensures { result.members.items ≡ [] }
+    {
+        FlatObject::with_room(&mut [])
+    }
+
+    /// An object without members, where `read_plain` puts texts with escapes into the room, one behind the other. Once it is used
+    /// up, such a text is not plain.
+    pub fn with_room(room: &'a mut [u8]) -> FlatObject<'a>
         ensures { result.members.items ≡ [] }
     {
         // Members that are equal and whole are made in a third of the time that the vector takes for its own blanks.
@@ -58,7 +68,11 @@ impl<'a> FlatObject<'a> {
         };
         let mut members = ArrayVec::from_array_in((), [member; MOST_MEMBERS]);
         members.clear();
-        FlatObject { members, rest: 0 }
+        FlatObject {
+            members,
+            rest: 0,
+            room,
+        }
     }
 
     /// Becomes the object that a line is, and says whether it is one of at most eight members, each a scalar; where it
@@ -80,8 +94,9 @@ impl<'a> FlatObject<'a> {
     /// Becomes the object that a plain line is, and says whether the line is one; where it is not, this says no more of it
     /// but what its front is, for `read_rest`. It takes no memory, and one object serves for any number of lines.
     ///
-    /// Plain is an object of at most eight members: texts without escapes, whole numbers of at most nineteen digits,
-    /// truth values and null, with no white space between them but one space at a time.
+    /// Plain is an object of at most eight members: texts, whole numbers of at most nineteen digits, truth values and null, with
+    /// no white space between them but one space at a time. A text with escapes is one for which there is room, and of which no
+    /// character is a pair of them.
     pub fn read_plain(&mut self, line: &'a str) -> bool
         ensures found { result ≡ true → is_flat (tokens line.now) ≡ true }
         ensures value { result ≡ true → read line.now ≡ Some (flat_data self.new.members.items) }
@@ -89,7 +104,7 @@ impl<'a> FlatObject<'a> {
     {
         self.members.clear();
         self.rest = 0;
-        match read_plain(line, &mut self.members) {
+        match read_plain(line, &mut self.members, &mut self.room) {
             PlainRead::Whole => true,
             PlainRead::UpTo(place) => {
                 self.rest = place;

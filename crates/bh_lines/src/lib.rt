@@ -2,6 +2,7 @@
 #![tactic(auto)]
 
 mod ascii;
+mod escaped;
 pub mod flat;
 pub mod front;
 pub mod lines;

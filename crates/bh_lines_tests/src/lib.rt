@@ -10,6 +10,8 @@ mod conversation_order;
 #[cfg(test)]
 mod conversations;
 #[cfg(test)]
+mod escapes;
+#[cfg(test)]
 mod hostile_json;
 #[cfg(test)]
 mod hostile_talk;

@@ -33,6 +33,9 @@ use std::io::Write;
 /// So few groups stay in the processor's cache, and no line is read ahead.
 const FEW_GROUPS: usize = 256;
 
+/// Bytes for the texts with escapes of the plain lines that are answered in one go.
+const ESCAPED_ROOM: usize = 4_096;
+
 /// A run of a script: the groups, what the last line asked for, the reply to the last step, the answers that are to be
 /// written at once, and what putting and reading a line takes in memory. The bytes that have come stand elsewhere, so that
 /// each line is answered from where it stands in them.
@@ -156,7 +159,8 @@ impl Run {
         ensures stopped { OnErr result ((before : Course) (more : List ℕ) → GroupsShow (settings_view settings.now) self.old.groups before →
             ScriptOutcome (Some self.old.out.items) (Some self.new.out.items) (settings_view settings.now) before (cut (buffer.old.items ++ more)) (Err PortError.Memory)) }
     {
-        let mut object = FlatObject::new();
+        let mut room = [0; ESCAPED_ROOM];
+        let mut object = FlatObject::with_room(&mut room);
         let bytes = buffer.as_slice();
         let taken = if self.groups.count() > FEW_GROUPS {
             self.answer_ahead(settings, places, &mut object, bytes)?

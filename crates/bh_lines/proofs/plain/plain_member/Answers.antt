@@ -3,7 +3,7 @@ use Rattle.bh_lines.proofs.PlainReading.{comma_follows, end_follows}
 use Rattle.bh_lines.proofs.plain.plain_member.Goals as goal
 
 pub returns-in-Some : goal.returns-in-Some
-returns-in-Some c =
+returns-in-Some g c =
     let line = c.args.line.now in
     let found = c.in_ok-value.ensures in
     let comma = c.in-Some.ensures in
@@ -16,7 +16,7 @@ returns-in-Some c =
     }
 
 pub returns : goal.returns
-returns c =
+returns g c =
     let line = c.args.line.now in
     let found = c.in_ok-value.ensures in
     let end = c.in_ok-next.ensures in
