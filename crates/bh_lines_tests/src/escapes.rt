@@ -22,6 +22,12 @@ fn is_plain(line: &str) -> bool {
     object.read_plain(line)
 }
 
+/// Whether the line is plain for an object that has no room for texts with escapes.
+fn is_plain_without_room(line: &str) -> bool {
+    let mut object = FlatObject::new();
+    object.read_plain(line)
+}
+
 /// Asserts that the line is plain, and that its member `a` is what the library reads.
 fn assert_read<'a, R: Abort + AllocGlobal>(rt: &R, object: &mut FlatObject<'a>, line: &'a str) {
     assert!(rt; object.read_plain(line), "{line}");
@@ -29,6 +35,11 @@ fn assert_read<'a, R: Abort + AllocGlobal>(rt: &R, object: &mut FlatObject<'a>, 
     let want = value.get("a").and_then(Value::as_str);
     assert!(rt; want.is_some(), "{line}");
     assert_eq!(rt; text_of(object.get("a")), want, "{line}");
+}
+
+/// Asserts that the line is not plain.
+fn assert_not_plain<'a, R: Abort>(rt: &R, object: &mut FlatObject<'a>, line: &'a str) {
+    assert!(rt; !object.read_plain(line), "{line}");
 }
 
 /// Asserts that the line is read so where there is room for its texts alone.
@@ -75,4 +86,32 @@ fn a_text_with_a_pair_of_escapes_or_with_none_is_not_plain(rt: HostRuntime) {
     ] {
         assert!(&rt; !is_plain(line), "{line}");
     }
+}
+
+/// Asserts of an object with room for 32 bytes that one line is read, the next finds too little room, the third takes all
+/// of it, and then there is none.
+fn assert_room_goes<'a, R: Abort + AllocGlobal>(
+    rt: &R,
+    object: &mut FlatObject<'a>,
+    of_30: &'a str,
+    of_3: &'a str,
+    of_2: &'a str,
+) {
+    assert_read(rt, object, of_30);
+    assert_not_plain(rt, object, of_3);
+    assert_read(rt, object, of_2);
+    assert_not_plain(rt, object, of_2);
+}
+
+#[test]
+fn texts_with_escapes_are_plain_as_long_as_there_is_room(rt: HostRuntime) {
+    let mut room = [0; ROOM];
+    assert_room_goes(
+        &rt,
+        &mut FlatObject::with_room(&mut room),
+        r#"{"a":"123456789012345678901234567\n89"}"#,
+        r#"{"a":"1\n2"}"#,
+        r#"{"a":"\n\n"}"#,
+    );
+    assert!(&rt; !is_plain_without_room(r#"{"a":"\n\n"}"#), "there was none");
 }
