@@ -9,7 +9,7 @@ use crate::control::Control;
 use bh_base::{GroupId, Request, Text};
 use bh_faults::Fault;
 use bh_lines::flat::FlatObject;
-use bh_lines::members::{Members, value_of};
+use bh_lines::members::{Members, value_if_json};
 use bh_lines::step_line::{cache_of, command_of, short_name};
 use json::Scratch;
 use std::alloc::{AllocError, Global};
@@ -59,7 +59,7 @@ impl ControlLine {
         if object.read(line, scratch)? {
             return Ok(control_line_at(control, Members::Flat(&object)));
         }
-        match value_of(alloc, line)? {
+        match value_if_json(alloc, scratch, line)? {
             Some(value) => Ok(control_line_at(control, Members::Tree(&value))),
             None => Ok(Err(Fault::Syntax)),
         }

@@ -6,7 +6,7 @@ ghost use Rattle.bh_lines.specs.ScriptLine.{asked_at, asked_view};
 ghost use Rattle.bh_cut.specs.Named.{group_of, is_among, is_asked_of, names_one, texts};
 
 use bh_lines::flat::FlatObject;
-use bh_lines::members::{Members, value_of};
+use bh_lines::members::{Members, value_if_json};
 use bh_lines::script_line::{ScriptLine, asked_at};
 use json::Scratch;
 use std::alloc::{AllocError, Global};
@@ -28,7 +28,7 @@ pub fn names_one(
     if object.read(line, scratch)? {
         return Ok(asks_of_one(names, Members::Flat(&object)));
     }
-    match value_of(alloc, line)? {
+    match value_if_json(alloc, scratch, line)? {
         Some(value) => Ok(asks_of_one(names, Members::Tree(&value))),
         None => Ok(false),
     }

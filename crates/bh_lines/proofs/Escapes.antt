@@ -11,7 +11,7 @@ use Rattle.json.specs.Text.{code_unit, short_escape, is_high_surrogate, is_low_s
 use Rattle.json.specs.Word.{is_operator, is_space}
 use Rattle.json.specs.Lex.{quote, backslash, operator, space, other, in_string, between, lex, lex_byte}
 use Rattle.json.specs.Run.{is_plain}
-use Rattle.bh_lines.specs.Plain.{IsHexDigit, IsInsideThen, IsNumberedAt, SaysTo}
+use Rattle.bh_lines.specs.Plain.{IsHexDigit, IsInsideThen, IsUnicodeEscapeAt, SaysTo}
 
 -- ---- what is said one behind the other
 
@@ -144,12 +144,12 @@ four bytes place within =
     ∙ ap (λ l. get_or bytes (place + 2) 0 ∷ l) (one (place + 3) (place + 4) (omega arith) (omega arith))))
 
 -- four digits say the character of their number, where there is one
-pub numbered_by : (bytes : List ℕ) (place a b c d : ℕ) (found : Option ℕ) → place + 4 ≤ length bytes
+pub unicode_escape_by : (bytes : List ℕ) (place a b c d : ℕ) (found : Option ℕ) → place + 4 ≤ length bytes
     → IsHexDigit (get_or bytes place 0) a → IsHexDigit (get_or bytes (place + 1) 0) b → IsHexDigit (get_or bytes (place + 2) 0) c → IsHexDigit (get_or bytes (place + 3) 0) d
     → SomeIff found (IsScalar (a * 4096 + b * 256 + c * 16 + d)) (a * 4096 + b * 256 + c * 16 + d) → MatchOption found (OutOfScalarRange (a * 4096 + b * 256 + c * 16 + d)) (λ _. InScalarRange (a * 4096 + b * 256 + c * 16 + d))
-    → IfSome found (IsNumberedAt bytes place)
-numbered_by bytes place a b c d None within x y z w is range = tt
-numbered_by bytes place a b c d (Some unit) within x y z w is range =
+    → IfSome found (IsUnicodeEscapeAt bytes place)
+unicode_escape_by bytes place a b c d None within x y z w is range = tt
+unicode_escape_by bytes place a b c d (Some unit) within x y z w is range =
     let rest = drop (place + 4) bytes in
     let half = no_half _ range in
     let there = four bytes place within in
@@ -183,7 +183,7 @@ content-u : (xs : List ℕ) → content plain (92 ∷ 117 ∷ xs) ≡ content af
 unfolding content
 content-u xs = refl
 
-pub says_number : (line bytes : List ℕ) (place character : ℕ) → bytes ≡ line → drop place line ≡ 92 ∷ drop (place + 1) line → place + 1 < length bytes → get_or bytes (place + 1) 0 ≡ 117 → IsNumberedAt bytes (place + 2) character
+pub says_number : (line bytes : List ℕ) (place character : ℕ) → bytes ≡ line → drop place line ≡ 92 ∷ drop (place + 1) line → place + 1 < length bytes → get_or bytes (place + 1) 0 ≡ 117 → IsUnicodeEscapeAt bytes (place + 2) character
     → SaysTo line place (encode_utf8 character) (place + 6)
 says_number line bytes place character same stands within u numbered =
     let next : place + 1 + 1 ≡ place + 2 = omega arith in
@@ -192,7 +192,7 @@ says_number line bytes place character same stands within u numbered =
     let inside : place + 1 < length line = omega (arith, ap length same) in
     let letter : get_or line (place + 1) 0 ≡ 117 = ap (λ l. get_or l (place + 1) 0) (sym same) ∙ u in
     let there : drop place line ≡ 92 ∷ 117 ∷ rest = stands ∙ ap (λ l. 92 ∷ l) (drop_more line (place + 1) 0 inside ∙ ap₂ (λ x k. x ∷ drop k line) letter next) in
-    let in_line = subst (λ l. IsNumberedAt l (place + 2) character) same numbered in
+    let in_line = subst (λ l. IsUnicodeEscapeAt l (place + 2) character) same numbered in
     record {
       said = ap (content plain) there ∙ content-u rest ∙ in_line.said ∙ ap (λ k. prepend (encode_utf8 character) (content plain (drop k line))) behind;
       passed = ap (lex in_string) there ∙ lex-backslash 117 rest ∙ in_line.passed ∙ ap (λ k. lex in_string (drop k line)) behind;

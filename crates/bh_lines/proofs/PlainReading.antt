@@ -1,5 +1,5 @@
 -- Plain lines: the tokens that their bytes are, and the members of these.
-use Rattle.std.proofs.Common.{◌≡◌, ℕ, Bool, ◌+◌, ◌-◌, ◌^◌, ◌<◌, ◌≤◌, true, false, cond, ◌==◌, List, [], ◌∷◌, ◌++◌, length, take, drop, get_or, Some, refl, sym, ap, ap₂, ◌∙◌, subst, arith, take-append-drop, length-take-le, get_or-take, append-nil, lt-ltb, ne_eqb, length-drop, IsUtf8, IsCharBoundary}
+use Rattle.std.proofs.Common.{◌≡◌, ℕ, Bool, ◌+◌, ◌-◌, ◌^◌, ◌<◌, ◌≤◌, true, false, cond, ◌==◌, List, [], ◌∷◌, ◌++◌, length, take, drop, get_or, Some, refl, sym, ap, ap₂, ◌∙◌, subst, arith, take-append-drop, length-take-le, get_or-take, append-nil, lt-ltb, ne_eqb, length-append, length-drop, IsUtf8, IsCharBoundary}
 use Rattle.std.proofs.Common.{zero, suc, ◌*◌, ◌%◌, leb-true, inl, inr, eq-eqb, Option, option_and_then, None}
 use Rattle.std.proofs.lemmas.Bool.{false≢true, cases_eq}
 use Rattle.std.proofs.lemmas.List.{drop_all, drop_more, drop-drop, take_all, get_or-drop, get_or_default}
@@ -7,8 +7,8 @@ use Rattle.std.proofs.lemmas.Slice.Eq.{starts_is}
 use Rattle.std.proofs.lemmas.Str.{IsCharBoundary-after_ascii, IsCharBoundary-before_ascii}
 use Rattle.std.proofs.lemmas.Bool.Decides.{Decides-eqb}
 use Rattle.std.specs.List.{starts_with}
-use Rattle.std.proofs.lemmas.List.Sums.{prefix_len_passes, prefix_len-le-length}
-use Rattle.std.specs.Prelude.{◌&&◌, nat_le, IfSome}
+use Rattle.std.proofs.lemmas.List.Sums.{prefix_len-le-length}
+use Rattle.std.specs.Prelude.{◌&&◌, nat_le}
 use Rattle.std.proofs.lemmas.Str.Parse.{digit_from_value}
 use Rattle.std.specs.Borrow.{Bor}
 use Rattle.std.specs.List.{prefix_len}
@@ -23,26 +23,23 @@ use Rattle.json.specs.Token.{Token}
 use Rattle.json.specs.Text.{content, plain}
 use Rattle.json.specs.Word.{ends_word, head, after_digits, after_minus, after_whole, after_fraction, after_exponent, after_number, word}
 use Rattle.json.specs.Lex.{Lexeme, token, comma, colon, string_token, Place, fresh, after_value, after_comma, after_key, may_begin, begins_colon, place_token, between, in_string, lex, punctuate, tokens}
-use Rattle.json.specs.Run.{is_plain}
-use Rattle.json.specs.Print.{escape, IsNumber}
-use Rattle.json.specs.Written.{PlainBetween}
+use Rattle.json.specs.Print.{IsNumber}
 use Rattle.json.specs.Json as json
 use Rattle.json.proofs.Grammar.{value_is}
-use Rattle.json.proofs.Printed.Plain.{escape_on_plain}
-use Rattle.json.proofs.Printed.Strings.{content-escape, lex-escape}
 use Rattle.json.proofs.Printed.Numbers.{in_word-ended, lex-number}
 use Rattle.fast_float.specs.Text.{Parts, IsWellFormed, scan, digits_of}
 use Rattle.fast_float.proofs.Writing.{scan-text_of}
 use Rattle.fast_float.proofs.Integers.{digits_len_all}
 use Rattle.serde_json.specs.Data.{unsigned}
-use Rattle.serde_json.specs.Read.{number_of, is_integer}
-use Rattle.bh_lines.specs.Flat.{is_scalar, is_whole, are_members, IsBegun, ReadsMembers}
-use Rattle.bh_lines.specs.Plain.{IsAmid, IsInsideThen, IsSignThen, IsTextThen, IsKeyThen, IsNumberThen, IsScalarThen, IsMemberThen, IsReadTo, behind_member}
-use Rattle.bh_lines.specs.declared.plain.PlainMember.{PlainMember}
+use Rattle.serde_json.specs.Read.{number_of, is_integer, read}
+use Rattle.bh_lines.specs.Flat.{is_flat, flat_data, is_scalar, is_whole, IsBegun, ReadsScalar}
+use Rattle.bh_lines.specs.Plain.{AreSignsThen, IsAmid, GoesOn, IsFollowing, IsInsideThen, IsNamed, IsSignThen, IsTaken, IsTextThen, IsKeyThen, IsNumberThen, IsScalarThen, IsMemberThen, IsReadTo}
+use Rattle.bh_lines.specs.declared.plain.Follows.{Follows}
+use Rattle.bh_lines.specs.declared.plain.Follows.TheVariants as follows
 use Rattle.bh_lines.specs.declared.flat.Scalar.{Scalar}
 use Rattle.bh_lines.specs.declared.flat.Scalar.TheVariants as scalars
 use Rattle.bh_lines.specs.declared.flat.FlatMember.{FlatMember}
-use Rattle.bh_lines.proofs.FlatReading.{begun_after, begun_over}
+use Rattle.bh_lines.proofs.FlatReading.{begun_after, begun_over, read_flat}
 
 -- ---- bytes that stand by themselves
 
@@ -99,6 +96,13 @@ sign_behind_space line place sign space stands within =
       within = omega (arith, within);
     }
 
+-- two signs, one behind the other
+pub signs_stand : (line : List ℕ) (place first second : ℕ) → drop place line ≡ first ∷ second ∷ drop (place + 2) line → place + 1 < length line → AreSignsThen line place first second (place + 2)
+signs_stand line place first second stand within =
+    let after : drop (place + 1) line ≡ second ∷ drop (place + 2) line = ap (λ k. drop k line) (omega arith) ∙ sym (drop-drop 1 place line) ∙ ap (drop 1) stand in
+    let behind : place + 2 ≡ place + 1 + 1 = omega arith in
+    (place + 1, sign_stands line place first (stand ∙ ap (λ l. first ∷ l) (sym after)) (omega arith), subst (IsSignThen line (place + 1) second) (sym behind) (sign_stands line (place + 1) second (after ∙ ap (λ k. second ∷ drop k line) behind) within))
+
 -- ---- texts
 
 lex-text : (inside found rest : List ℕ) → content plain inside ≡ Some found → lex in_string inside ≡ lex between rest
@@ -106,45 +110,15 @@ lex-text : (inside found rest : List ℕ) → content plain inside ≡ Some foun
 unfolding lex
 lex-text inside found rest read passed = ap₂ (λ o l. token (string_token o) ∷ l) read passed
 
--- between quotes plain bytes stand for themselves
-pub text_in_quotes : (line : List ℕ) (place end : ℕ) → drop place line ≡ 34 ∷ drop (place + 1) line → end ≡ place + 1 + prefix_len is_plain (drop (place + 1) line)
-    → drop end line ≡ 34 ∷ drop (end + 1) line → IsTextThen (drop place line) (take (end - (place + 1)) (drop (place + 1) line)) (drop (end + 1) line)
-text_in_quotes line place end opens is closes =
-    let inside = drop (place + 1) line in
-    let n = end - (place + 1) in
-    let s = take n inside in
-    let rest = drop (end + 1) line in
-    let passed : prefix_len is_plain inside ≡ n = omega arith in
-    let long : length s ≡ n = length-take-le n inside (omega (arith, prefix_len-le-length is_plain inside)) in
-    let are_plain : PlainBetween s 0 (length s) =
-    λ k p q. ap is_plain (get_or-take n inside k 0 (omega arith)) ∙ prefix_len_passes is_plain inside k 0 (omega arith) in
-    let same : escape s ≡ s = escape_on_plain true s are_plain in
-    let behind : place + 1 + n ≡ end = omega arith in
-    let tail : drop n inside ≡ 34 ∷ rest = drop-drop n (place + 1) line ∙ ap (λ k. drop k line) behind ∙ closes in
-    let escaped : inside ≡ escape s ++ 34 ∷ rest = sym (take-append-drop n inside) ∙ ap (λ l. s ++ l) tail ∙ ap (λ l. l ++ 34 ∷ rest) (sym same) in
-    ap (lex between) opens ∙ lex-text inside s rest (ap (content plain) escaped ∙ content-escape s rest) (ap (lex in_string) escaped ∙ lex-escape s rest)
-
--- the same, where a space may stand in front of them
-pub text_behind : (line : List ℕ) (place start end : ℕ) → IsSignThen line place 34 start → end ≡ start + prefix_len is_plain (drop start line)
-    → drop end line ≡ 34 ∷ drop (end + 1) line → IsTextThen (drop place line) (take (end - start) (drop start line)) (drop (end + 1) line)
-text_behind line place start end opens is closes =
-    let behind : start - 1 + 1 ≡ start = omega (arith, opens.behind) in
-    let stands : drop (start - 1) line ≡ 34 ∷ drop (start - 1 + 1) line = opens.stands ∙ ap (λ k. 34 ∷ drop k line) (sym behind) in
-    let inside : end ≡ start - 1 + 1 + prefix_len is_plain (drop (start - 1 + 1) line) = is ∙ ap (λ k. k + prefix_len is_plain (drop k line)) (sym behind) in
-    let found = subst (λ k. IsTextThen (drop (start - 1) line) (take (end - k) (drop k line)) (drop (end + 1) line)) behind (text_in_quotes line (start - 1) end stands inside closes) in
-    opens.same ∙ ap (lex between) (sym opens.stands) ∙ found
-
 -- the byte that stands at a place
 pub byte_there : (line : List ℕ) (place byte : ℕ) → drop place line ≡ byte ∷ drop (place + 1) line → get_or line place 0 ≡ byte
 byte_there line place byte stands =
     let at_place : place + 0 ≡ place = omega arith in
     ap (λ k. get_or line k 0) (sym at_place) ∙ sym (get_or-drop place line 0 0) ∙ ap (λ l. get_or l 0 0) stands
 
--- between quotes a text with escapes is what its inside says
-pub text_inside : (line : List ℕ) (place start : ℕ) (found : Option (Bor (List ℕ) × ℕ)) → IsSignThen line place 34 start → IfSome found (λ f. IsInsideThen (drop start line) f.0.now (drop f.1 line))
-    → IfSome found (λ f. IsTextThen (drop place line) f.0.now (drop f.1 line))
-text_inside line place start None opens inside = tt
-text_inside line place start (Some f) opens inside = opens.same ∙ lex-text (drop start line) f.0.now (drop f.1 line) inside.said inside.passed
+-- behind its quote a text is what its inside says
+pub text_inside : (line : List ℕ) (place start : ℕ) (found rest : List ℕ) → IsSignThen line place 34 start → IsInsideThen (drop start line) found rest → IsTextThen (drop place line) found rest
+text_inside line place start found rest opens inside = opens.same ∙ lex-text (drop start line) found rest inside.said inside.passed
 
 -- a sign is a letter of its own, behind which a text may be cut
 pub sign_is_boundary : (line : List ℕ) (place sign next : ℕ) → sign < 128 → IsUtf8 line → IsSignThen line place sign next → IsCharBoundary line next
@@ -276,43 +250,66 @@ module _
     (text name behind_name behind_value rest : List ℕ) (value : Scalar)
     (key : IsKeyThen text name behind_name) (found : IsScalarThen behind_name value behind_value)
   where
-    pub comma_follows : lex between behind_value ≡ lex between (44 ∷ rest) → ends_word behind_value ≡ true
+    comma_follows : lex between behind_value ≡ lex between (44 ∷ rest) → ends_word behind_value ≡ true
         → (p : Place) → may_begin p ≡ true → punctuate p (lex between text) ≡ Token.key name ∷ found.token ∷ punctuate after_comma (lex between rest)
     comma_follows follows ended p may =
         let lexed = found.lexed ended ∙ ap (λ l. token found.token ∷ l) (follows ∙ lex-comma rest) in
         key p may ∙ ap (λ l. Token.key name ∷ l) (ap (punctuate fresh) lexed ∙ scalar_comma found.token (lex between rest) found.scalar)
 
-    pub end_follows : lex between behind_value ≡ lex between (125 ∷ rest) → ends_word behind_value ≡ true
+    end_follows : lex between behind_value ≡ lex between (125 ∷ rest) → ends_word behind_value ≡ true
         → (p : Place) → may_begin p ≡ true → punctuate p (lex between text) ≡ Token.key name ∷ found.token ∷ Token.end_object ∷ punctuate after_value (lex between rest)
     end_follows follows ended p may =
         let lexed = found.lexed ended ∙ ap (λ l. token found.token ∷ l) (follows ∙ lex-end rest) in
         key p may ∙ ap (λ l. Token.key name ∷ l) (ap (punctuate fresh) lexed ∙ scalar_end found.token (lex between rest) found.scalar)
 
--- a member and what follows it
-after_member : (first : List Token) (found : List FlatMember) (line : List ℕ) (place : ℕ) (m : PlainMember)
-    → ((p : Place) × (may_begin p ≡ true) × IsBegun first found (punctuate p (lex between (drop place line)))) → IsMemberThen line place m → length found < 8
-    → IsBegun first (found ++ m.member ∷ []) (behind_member m.is_last (drop m.next line))
-after_member first found line place m so_far is room =
-    let rest = behind_member m.is_last (drop m.next line) in
-    begun_after first found m.member (Token.key m.member.name.now ∷ is.token ∷ rest) (is.token ∷ rest) rest (subst (IsBegun first found) (is.tokens so_far.0 so_far.1) so_far.2) refl (is.reads _)
-    (λ more. ap (λ b. b && more rest) is.scalar) (omega arith) room
+-- a name, a colon and a scalar are a member
+pub member_there : (line : List ℕ) (found : List FlatMember) (m : FlatMember) (place start behind_name value behind : ℕ) → IsAmid line found place → IsSignThen line place 34 start
+    → IsInsideThen (drop start line) m.name.now (drop behind_name line) → IsSignThen line behind_name 58 value → IsScalarThen (drop value line) m.value (drop behind line)
+    → IsMemberThen line found m behind
+member_there line found m place start behind_name value behind so_far quote name there scalar =
+    let text = text_inside line place start m.name.now (drop behind_name line) quote name in
+    (place, drop value line, so_far, key_is (drop place line) m.name.now (drop behind_name line) (drop value line) text there.same, scalar)
 
--- a comma behind a member: there is more
-pub next_member : (first : List Token) (found all : List FlatMember) (line : List ℕ) (place : ℕ) (m : PlainMember)
-    → ((p : Place) × (may_begin p ≡ true) × IsBegun first found (punctuate p (lex between (drop place line)))) → IsMemberThen line place m → length found < 8
-    → all ≡ found ++ m.member ∷ [] → m.is_last ≡ false → IsBegun first all (punctuate after_comma (lex between (drop m.next line)))
-next_member first found all line place m so_far is room pushed more =
-    let after = after_member first found line place m so_far is room in
-    subst (λ x. IsBegun first x (punctuate after_comma (lex between (drop m.next line)))) (sym pushed) (subst (λ b. IsBegun first (found ++ m.member ∷ []) (behind_member b (drop m.next line))) more after)
+-- a member is put behind the others
+after_member : (first : List Token) (found all : List FlatMember) (line : List ℕ) (place : ℕ) (m : FlatMember) (t : Token) (rest : List Token)
+    → ((p : Place) × (may_begin p ≡ true) × IsBegun first found (punctuate p (lex between (drop place line))))
+    → ((p : Place) → may_begin p ≡ true → punctuate p (lex between (drop place line)) ≡ Token.key m.name.now ∷ t ∷ rest)
+    → is_scalar t ≡ true → ((ts : List Token) → ReadsScalar m.value (t ∷ ts) ts) → length found < 8 → all ≡ found ++ m ∷ [] → IsBegun first all rest
+after_member first found all line place m t rest so_far tokens scalar reads room pushed =
+    subst (λ x. IsBegun first x rest) (sym pushed) (
+    begun_after first found m (Token.key m.name.now ∷ t ∷ rest) (t ∷ rest) rest (subst (IsBegun first found) (tokens so_far.0 so_far.1) so_far.2) refl (reads rest)
+    (λ more. ap (λ b. b && more rest) scalar) (omega arith) room
+    )
 
--- the bracket behind a member, and the end of the text: that is all
-pub last_member : (first : List Token) (found all : List FlatMember) (line : List ℕ) (place : ℕ) (m : PlainMember)
-    → ((p : Place) × (may_begin p ≡ true) × IsBegun first found (punctuate p (lex between (drop place line)))) → IsMemberThen line place m → length found < 8
-    → all ≡ found ++ m.member ∷ [] → m.is_last ≡ true → (drop m.next line) ≡ [] → ReadsMembers all first [] × (are_members 8 first ≡ true)
-last_member first found all line place m so_far is room pushed last ended =
-    let after = after_member first found line place m so_far is room in
-    let over : behind_member m.is_last (drop m.next line) ≡ Token.end_object ∷ [] = ap₂ behind_member last ended ∙ ap (λ l. Token.end_object ∷ l) no_tokens in
-    begun_over first all (subst (λ x. IsBegun first x (Token.end_object ∷ [])) (sym pushed) (subst (IsBegun first (found ++ m.member ∷ [])) over after))
+-- one more, by what follows it
+pub taken_by : (line : List ℕ) (found all : List FlatMember) (m : FlatMember) (behind : ℕ) (f : Follows) → IsMemberThen line found m behind → IsFollowing line behind f → length found < 8 → all ≡ found ++ m ∷ []
+    → IsTaken line found all f
+taken_by line found all m behind f (place, value, so_far, key, scalar) following room pushed = (size, omega (arith, size), goes_on f following)
+  where
+    first : List Token
+    first = punctuate fresh (lex between (drop 1 line))
+
+    size : length all ≡ length found + 1
+    size = ap length pushed ∙ length-append found (m ∷ [])
+
+    goes_on : (f : Follows) → IsFollowing line behind f → GoesOn line all f
+    goes_on (follows.Member name) (next, there, quote) =
+        let tokens = comma_follows (drop place line) m.name.now value (drop behind line) (drop next line) m.value key scalar there.same (there.word refl) in
+        (next, (after_comma, refl, after_member first found all line place m scalar.token _ so_far tokens scalar.scalar scalar.reads room pushed), quote)
+    goes_on (follows.End end) bracket = λ ended.
+        let tokens = end_follows (drop place line) m.name.now value (drop behind line) (drop end line) m.value key scalar bracket.same (bracket.word refl) in
+        let over = ap (λ l. Token.end_object ∷ punctuate after_value (lex between l)) ended ∙ ap (λ l. Token.end_object ∷ l) no_tokens in
+        begun_over first all (subst (IsBegun first all) over (after_member first found all line place m scalar.token _ so_far tokens scalar.scalar scalar.reads room pushed))
+
+-- where the line ends behind the bracket it is one object of these members
+pub whole_line : (line : List ℕ) (before found : List FlatMember) (f : Follows) (end : ℕ) → drop 0 line ≡ 123 ∷ drop 1 line → IsTaken line before found f → f ≡ follows.End end → end ≡ length line
+    → (is_flat (tokens line) ≡ true) × (read line ≡ Some (flat_data found))
+whole_line line before found f end opens taken closed ended =
+    let first = punctuate fresh (lex between (drop 1 line)) in
+    let goes_on = subst (GoesOn line found) closed taken.2 in
+    let all = goes_on (drop_all end line (omega (arith, ended))) in
+    let begins : tokens line ≡ Token.begin_object ∷ first = ap tokens opens ∙ tokens-open (drop 1 line) in
+    (ap is_flat begins ∙ all.1, read_flat line found first begins all.0)
 
 -- a quote begins the same token wherever one may begin
 text_or_fault : (p : Place) (o : Option (List ℕ)) (ls : List Lexeme) → may_begin p ≡ true → punctuate p (token (string_token o) ∷ ls) ≡ punctuate fresh (token (string_token o) ∷ ls)
@@ -344,11 +341,9 @@ read_to line found place next opens so_far name =
       boundary = IsCharBoundary-before_ascii line (next - 1) (omega (arith, name.behind, name.within)) (omega (arith, byte));
     }
 
--- what can be read by itself goes on where another member may begin
-pub amid_of : (line : List ℕ) (found : List FlatMember) (place : ℕ) → drop 0 line ≡ 123 ∷ drop 1 line → IsReadTo line found place → IsAmid line found place
-amid_of line found place opens front =
-    let same : front.first ≡ punctuate fresh (lex between (drop 1 line)) = ap (drop 1) (sym front.opens ∙ ap tokens opens ∙ tokens-open (drop 1 line)) in
-    (fresh, refl, subst (λ first. IsBegun first found (tokens (drop place line))) same front.begun)
+-- the same, by the place behind the quote of that name
+pub front_named : (line : List ℕ) (found : List FlatMember) (start : ℕ) → drop 0 line ≡ 123 ∷ drop 1 line → IsNamed line found start → (0 < start) × IsReadTo line found (start - 1)
+front_named line found start opens (place, so_far, quote) = (quote.behind, read_to line found place start opens so_far quote)
 
 -- ---- numbers
 
@@ -459,7 +454,3 @@ zero_in_front text rest is =
 pub zero_at : (line bytes : List ℕ) (place : ℕ) → bytes ≡ line → place < length bytes → get_or bytes place 0 ≡ 48 → IsNumberThen (drop place line) 0 (drop (place + 1) line)
 zero_at line bytes place same inside first =
     subst (λ t. IsNumberThen (drop place t) 0 (drop (place + 1) t)) same (zero_in_front (drop place bytes) (drop (place + 1) bytes) (drop_more bytes place 0 inside ∙ ap (λ b. b ∷ drop (place + 1) bytes) first))
-
--- nothing is left behind the last byte
-pub nothing_left : (line : List ℕ) (place : ℕ) → place ≡ length line → drop place line ≡ []
-nothing_left line place e = drop_all place line (omega (arith, e))

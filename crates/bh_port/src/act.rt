@@ -21,7 +21,7 @@ use bh_base::{GroupId, Reply, Step, Text};
 use bh_core::MOST_GROUPS;
 use bh_faults::Fault;
 use bh_lines::flat::FlatObject;
-use bh_lines::members::{Members, value_of};
+use bh_lines::members::{Members, value_if_json};
 use bh_lines::script_line::{ScriptLine, asked_at};
 use bh_props::{Settings, is_name};
 use bh_replies::Told;
@@ -103,7 +103,7 @@ pub(crate) fn other_act(
     if object.read_rest(front, line, scratch)? {
         return Ok(act_at(settings, groups, Members::Flat(&object), act));
     }
-    match value_of(alloc, line)? {
+    match value_if_json(alloc, scratch, line)? {
         Some(value) => Ok(act_at(settings, groups, Members::Tree(&value), act)),
         None => Ok(Err(Fault::Syntax)),
     }

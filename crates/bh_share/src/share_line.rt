@@ -9,7 +9,7 @@ use crate::directory::Directory;
 use bh_base::{GroupId, Op};
 use bh_faults::Fault;
 use bh_lines::flat::FlatObject;
-use bh_lines::members::{Members, value_of};
+use bh_lines::members::{Members, value_if_json};
 use bh_lines::step_line::{OpWord, command_of, if_short, op_at};
 use json::Scratch;
 use std::alloc::{AllocError, Global};
@@ -59,7 +59,7 @@ impl ShareLine {
         if object.read(line, scratch)? {
             return Ok(share_line_at(directory, Members::Flat(&object)));
         }
-        match value_of(alloc, line)? {
+        match value_if_json(alloc, scratch, line)? {
             Some(value) => Ok(share_line_at(directory, Members::Tree(&value))),
             None => Ok(Err(Fault::Syntax)),
         }

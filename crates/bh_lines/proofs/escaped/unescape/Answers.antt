@@ -2,13 +2,13 @@ use Rattle.std.proofs.Common.{◌≡◌, ◌++◌, take, refl, sym, ap, ◌∙�
 use Rattle.std.specs.Char.{encode_utf8}
 use Rattle.bh_lines.specs.Plain.{SaysTo}
 use Rattle.bh_lines.proofs.Escapes.{says_nothing, says_more, says_put, says_all}
-use Rattle.bh_lines.proofs.escaped.put_inside.Goals as goal
+use Rattle.bh_lines.proofs.escaped.unescape.Goals as goal
 
 pub loop-len-init : goal.loop-len-init
 loop-len-init c = (says_nothing c.args.line.now c.args.start, omega arith, omega arith, refl)
 
-pub returns-then-is_at-clause-inside : goal.returns-then-is_at-clause-inside
-returns-then-is_at-clause-inside c =
+pub returns-then-is_at-clause-text : goal.returns-then-is_at-clause-text
+returns-then-is_at-clause-text c =
     let line = c.args.line.now in
     let l = c.loop-len in
     let stop = c.plain_end-stop.result in

@@ -1,6 +1,6 @@
 use Rattle.std.proofs.Common.{◌≡◌, ◌-◌, ◌≤◌, length, take}
 use Rattle.bh_lines.specs.Plain.{SaysTo}
-use Rattle.bh_lines.proofs.escaped.put_inside.Given as goal
+use Rattle.bh_lines.proofs.escaped.unescape.Given as goal
 
 -- what is put is what the text says up to the place
 abbrev pub invariant-loop-len : goal.invariant-loop-len
