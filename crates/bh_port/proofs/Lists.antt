@@ -1,5 +1,5 @@
 -- Lists of which one item is new or changed, or that have one item for each of another list.
-use Rattle.std.proofs.Common.{◌≡◌, ◌+◌, ◌<◌, ℕ, All, map, zero, suc, List, [], ◌∷◌, ◌++◌, length, set, Some, None, refl, ◌∙◌, sym, ap, subst, arith, add-zero}
+use Rattle.std.proofs.Common.{◌≡◌, ◌+◌, ◌<◌, ℕ, All, map, zero, suc, List, [], ◌∷◌, ◌++◌, length, Some, None, refl, ◌∙◌, sym, ap, subst, arith, add-zero}
 use Rattle.std.proofs.lemmas.Option.{get_or_from_slice_get, slice_get_within}
 use Rattle.std.specs.Prelude.{option_map, slice_get}
 use Rattle.std.specs.List.{AllByRecursion}
@@ -37,11 +37,6 @@ each_push from f (y ∷ ys) x =
 pub all_push : {X : Type 0} (P : X → Type 0) (xs : List X) (x : X) → AllByRecursion P xs → P x → AllByRecursion P (xs ++ x ∷ [])
 all_push P [] x all here = (here, tt)
 all_push P (y ∷ ys) x all here = (all.0, all_push P ys x all.1 here)
-
-pub all_set : {X : Type 0} (P : X → Type 0) (xs : List X) (i : ℕ) (x : X) → AllByRecursion P xs → P x → AllByRecursion P (set xs i x)
-all_set P [] i x all here = tt
-all_set P (y ∷ ys) zero x all here = (here, all.1)
-all_set P (y ∷ ys) (suc i) x all here = (all.0, all_set P ys i x all.1 here)
 
 -- what holds of all holds of the one at a place
 pub all_at : {X : Type 0} (P : X → Type 0) (xs : List X) (i : ℕ) (x : X) → AllByRecursion P xs → slice_get xs i ≡ Some x → P x

@@ -1,19 +1,19 @@
 -- Groups by name and number, one of which is new or was retired.
-use Rattle.std.proofs.Common.{◌≡◌, ◌≢◌, ◌⊎◌, inl, inr, ◌+◌, ◌<◌, ◌≤◌, ℕ, zero, suc, Bool, true, false, cond, List, [], ◌∷◌, ◌++◌, length, set, Option, Some, None, refl, ◌∙◌, sym, ap, arith, add-zero}
+use Rattle.std.proofs.Common.{◌≡◌, ◌≢◌, ◌⊎◌, inl, inr, ◌+◌, ◌<◌, ◌≤◌, ℕ, zero, suc, true, false, cond, List, [], ◌∷◌, ◌++◌, length, set, Option, Some, None, refl, ◌∙◌, sym, ap, arith, add-zero}
 use Rattle.std.proofs.lemmas.List.{length-set}
 use Rattle.std.proofs.lemmas.Option.{slice_get_past}
-use Rattle.std.specs.Cmp.Lexicographic.{pointwise, bytes_decides}
-use Rattle.std.specs.HashMap.{HashMap, Updates, IsUnchanged}
-use Rattle.std.specs.List.{AllByRecursion}
+use Rattle.std.specs.HashMap.{HashMap, Updates}
 use Rattle.std.specs.Map.{lookup}
-use Rattle.std.specs.Prelude.{option_and_then, is_some, IsSome, nat_eq, slice_get, if◌then◌else◌}
+use Rattle.std.specs.String.{string_eq}
+use Rattle.std.proofs.lemmas.Map.Text.{hash_map_updates_text}
+use Rattle.std.specs.Prelude.{String, string_bytes, option_and_then, is_some, IsSome, slice_get, if◌then◌else◌}
 use Rattle.std.specs.Option.{option_map_or}
 use Rattle.std.specs.Str.{bytes_eq}
 use Rattle.bh_core.proofs.OneOfMany.{slice_get-set_other, slice_get-set_same}
 use Rattle.bh_port.specs.declared.groups.Entry.{Entry}
-use Rattle.bh_port.specs.Entries.{entry_at, if_there, last_named, new_entry, number_of, unless_retired, without}
+use Rattle.bh_port.specs.Entries.{entry_at, last_named, new_entry, unless_retired, without}
 use Rattle.bh_port.specs.Kept.{AreNumbered}
-use Rattle.bh_port.proofs.Lists.{all_push, all_set, all_at, push_before, push_here, push_past}
+use Rattle.bh_port.proofs.Lists.{push_before, push_here, push_past}
 
 -- ---- the number that was given last under a name
 
@@ -33,19 +33,6 @@ last_named-set name [] from found n e at = absurd cc
 last_named-set name (x ∷ es) from found zero e at =
     let same : e ≡ x = cc in ap (λ (k : Entry). last_named name es (from + 1) (if bytes_eq k.name name then Some from else found)) same
 last_named-set name (x ∷ es) from found (suc n) e at = last_named-set name es (from + 1) (if bytes_eq x.name name then Some from else found) n e at
-
-equal : (a b : List ℕ) → bytes_eq a b ≡ true → a ≡ b
-equal a b h = (bytes_decides a b).0 h
-
--- no group has a name that is longer than each
-last_named-long : (name : List ℕ) (es : List Entry) (from : ℕ) → 32 < length name → AllByRecursion (λ e. length e.name ≤ 32) es → last_named name es from None ≡ None
-last_named-long name [] from long short = refl
-last_named-long name (e ∷ es) from long short =
-    ap (λ b. last_named name es (from + 1) (if b then Some from else None)) (differs (bytes_eq e.name name) refl) ∙ last_named-long name es (from + 1) long short.1
-  where
-    differs : (b : Bool) → bytes_eq e.name name ≡ b → bytes_eq e.name name ≡ false
-    differs true is = absurd (let same : e.name ≡ name = equal e.name name is in let size = ap length same in omega (arith, size, long, short.0))
-    differs false is = is
 
 -- ---- the group of a number
 
@@ -105,38 +92,19 @@ entry-without_same es n = elim (read (slice_get es n)) [
 
 -- ---- the map from names to numbers
 
-module _ {S : Type 0} where
+module _ {Y S : Type 0} where
   -- no group yet
-  pub numbered-none : (m : HashMap (List ℕ) ℕ S) → m.entries ≡ [] → AreNumbered [] m
-  numbered-none m empty = record { last = λ name. ap (lookup (pointwise nat_eq name)) empty; short = tt }
-
-  -- another map with the same entries
-  pub numbered-same : (es : List Entry) (m n : HashMap (List ℕ) ℕ S) → IsUnchanged m n → AreNumbered es m → AreNumbered es n
-  numbered-same es m n same numbered = record { last = λ name. ap (lookup (pointwise nat_eq name)) same ∙ numbered.last name; short = numbered.short }
+  pub numbered-none : (m : HashMap (String Y) ℕ S) → m.entries ≡ [] → AreNumbered [] m
+  numbered-none m empty name = ap (lookup (λ k. bytes_eq name (string_bytes k))) empty
 
   -- one group more
-  pub numbered-push : (es : List Entry) (m n : HashMap (List ℕ) ℕ S) (name : List ℕ) (place : ℕ) → AreNumbered es m → Updates (pointwise nat_eq) m n name (Some (length es)) → length name ≤ 32 → AreNumbered (es ++ new_entry name place ∷ []) n
-  numbered-push es m n name place numbered updates short = record {
-    last = λ q. updates.0 q ∙ ap (cond (bytes_eq name q) (Some (length es))) (numbered.last q) ∙ sym (last_named-push q es (new_entry name place) 0 None ∙ ap (λ k. if bytes_eq name q then Some k else last_named q es 0 None) (omega arith));
-    short = all_push (λ e. length e.name ≤ 32) es (new_entry name place) numbered.short short;
-  }
+  pub numbered-push : (es : List Entry) (m n : HashMap (String Y) ℕ S) (key : String Y) (name : List ℕ) (place : ℕ) → AreNumbered es m → Updates string_eq m n key (Some (length es)) → string_bytes key ≡ name
+      → AreNumbered (es ++ new_entry name place ∷ []) n
+  numbered-push es m n key name place numbered updates named q =
+      hash_map_updates_text (string_bytes key) m n (Some (length es)) updates q ∙ ap (cond (bytes_eq (string_bytes key) q) (Some (length es))) (numbered q)
+      ∙ ap (λ bs. cond (bytes_eq bs q) (Some (length es)) (last_named q es 0 None)) named
+      ∙ sym (last_named-push q es (new_entry name place) 0 None ∙ ap (λ k. if bytes_eq name q then Some k else last_named q es 0 None) (omega arith))
 
   -- one group fewer
-  pub numbered-without : (es : List Entry) (n : ℕ) (e : Entry) (m : HashMap (List ℕ) ℕ S) → slice_get es n ≡ Some e → AreNumbered es m → AreNumbered (set es n (record e { live = false })) m
-  numbered-without es n e m at numbered = record {
-    last = λ name. numbered.last name ∙ sym (last_named-set name es 0 None n e at);
-    short = all_set (λ k. length k.name ≤ 32) es n (record e { live = false }) numbered.short (all_at (λ k. length k.name ≤ 32) es n e numbered.short at);
-  }
-
--- ---- the number of a name
-
--- the map has none
-pub number-none : (es : List Entry) (name : List ℕ) → last_named name es 0 None ≡ None → number_of es name ≡ None
-number-none es name none = ap (option_and_then (if_there es)) none
-
-pub number-long : (es : List Entry) (name : List ℕ) → 32 < length name → AllByRecursion (λ e. length e.name ≤ 32) es → number_of es name ≡ None
-number-long es name long short = number-none es name (last_named-long name es 0 long short)
-
--- the map has one, whose group is there or not
-pub number-found : (es : List Entry) (name : List ℕ) (n : ℕ) (b : Bool) → last_named name es 0 None ≡ Some n → is_some (entry_at es n) ≡ b → number_of es name ≡ (if b then Some n else None)
-number-found es name n b found there = ap (option_and_then (if_there es)) found ∙ ap (λ t. if t then Some n else None) there
+  pub numbered-without : (es : List Entry) (n : ℕ) (e : Entry) (m : HashMap (String Y) ℕ S) → slice_get es n ≡ Some e → AreNumbered es m → AreNumbered (set es n (record e { live = false })) m
+  numbered-without es n e m at numbered name = numbered name ∙ sym (last_named-set name es 0 None n e at)

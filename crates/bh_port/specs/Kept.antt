@@ -1,17 +1,14 @@
 -- What holds of the groups of a run between lines.
-use Rattle.std.specs.Prelude.{◌≡◌, ◌≤◌, ℕ, List, length, nat_eq, None, Some, is_some}
-use Rattle.std.specs.Cmp.Lexicographic.{pointwise}
-use Rattle.std.specs.HashMap.{HashMap, get}
-use Rattle.std.specs.List.{AllByRecursion}
+use Rattle.std.specs.Prelude.{◌≡◌, ◌≤◌, ℕ, List, length, String, None, Some, is_some}
+use Rattle.std.specs.HashMap.{HashMap, get_by_text}
 use Rattle.bh_base.specs.Runs.{View}
 use Rattle.bh_core.specs.CoreView.{CoreView, view_at}
 use Rattle.bh_port.specs.declared.groups.Entry.{Entry}
 use Rattle.bh_port.specs.Entries.{entry_at, last_named}
 
--- the map has the number that was given last under each name, and no name is longer than a key of the map may be
-pub record AreNumbered {S : Type 0} (entries : List Entry) (numbers : HashMap (List ℕ) ℕ S) : Type 0 where
-  pub last : (name : List ℕ) → get (pointwise nat_eq) numbers name ≡ last_named name entries 0 None
-  pub short : AllByRecursion (λ e. length e.name ≤ 32) entries
+-- the map has the number that was given last under each name
+abbrev pub AreNumbered : {Y S : Type 0} → List Entry → HashMap (String Y) ℕ S → Type 0
+AreNumbered entries numbers = (name : List ℕ) → get_by_text numbers name ≡ last_named name entries 0 None
 
 -- the groups by name are those of the core, which can never run short of slots: a group has 4,096 at most, and there are
 -- 10,000 groups at most

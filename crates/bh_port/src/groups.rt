@@ -1,6 +1,6 @@
 //! The groups of a run by name and number: those of the settings, and those that lines registered.
 
-ghost use Rattle.std.specs.Prelude.{◌≡◌, ℕ, ◌<◌, ◌++◌, List, ◌∷◌, [], false, true, length, slice_get, is_some, option_copied, IfErr, IfOk, IfSome, IsSome, OnErr, OnOk, Some, vec_capacity, vec_len};
+ghost use Rattle.std.specs.Prelude.{◌≡◌, ℕ, ◌<◌, ◌++◌, List, ◌∷◌, [], false, true, length, slice_get, is_some, option_copied, IfErr, IfOk, IfSome, IsSome, OnErr, OnOk, Some, string_bytes, vec_capacity, vec_len};
 ghost use Rattle.std.specs.HashMap.{IsUnchanged, spare};
 ghost use Rattle.bh_base.specs.Props.{GroupProps};
 ghost use Rattle.bh_base.specs.Runs.{View, view};
@@ -42,7 +42,7 @@ pub struct Groups {
     /// The groups by their numbers, retired ones included.
     entries: Vec<Entry>,
     /// From each name to the number that was given last under it.
-    numbers: IndexMap<Text<32>, u64>,
+    numbers: IndexMap<String, u64>,
 }
 
 impl Model for Groups {
@@ -68,8 +68,9 @@ impl Groups {
         let mut entries = Vec::new(alloc);
         let mut numbers = IndexMap::new(alloc);
         for (place, name) in settings.groups.keys().enumerate() {
+            let key = String::from_str(alloc, name.as_str())?;
             make_room(&mut entries, &mut numbers)?;
-            list(&mut entries, &mut numbers, *name, place as u64);
+            list(&mut entries, &mut numbers, key, *name, place as u64);
         }
         Ok(Groups {
             core,
@@ -105,11 +106,7 @@ impl Groups {
         ensures number { result ≡ number_of self.now.entries name.now }
         ensures there { IfSome result (λ number. IsSome (entry_at self.now.entries number)) }
     {
-        let numbers = &self.numbers;
-        let Ok(key) = Text::new(name) else {
-            return None;
-        };
-        let number = *numbers.get(&key)?;
+        let number = *self.numbers.get(name)?;
         if self.entry(GroupId(number)).is_some() {
             Some(number)
         } else {
@@ -166,9 +163,10 @@ impl Groups {
         let Some((_name, props)) = settings.groups.get_index(like as usize) else {
             unreachable!()
         };
+        let key = String::from_str(*self.entries.allocator(), name.as_str())?;
         make_room(&mut self.entries, &mut self.numbers)?;
         match self.core.register(props, step_limit(settings.audit_steps)) {
-            Ok(_group) => list(&mut self.entries, &mut self.numbers, name, like),
+            Ok(_group) => list(&mut self.entries, &mut self.numbers, key, name, like),
             Err(RegisterError::Memory) => return Err(AllocError),
             Err(RegisterError::TooManyGroups) => unreachable!(),
             Err(RegisterError::TooManySlots) => unreachable!(),
@@ -197,7 +195,7 @@ impl Groups {
 /// Makes room for one group more.
 fn make_room(
     entries: &mut Vec<Entry>,
-    numbers: &mut IndexMap<Text<32>, u64>,
+    numbers: &mut IndexMap<String, u64>,
 ) -> Result<(), AllocError>
     ensures entries { entries.new.items ≡ entries.old.items }
     ensures numbers { IsUnchanged numbers.old numbers.new }
@@ -208,17 +206,22 @@ fn make_room(
     numbers.reserve(1)
 }
 
-/// Puts a group behind the others, within the room that is there: this takes no memory and cannot fail.
-fn list(entries: &mut Vec<Entry>, numbers: &mut IndexMap<Text<32>, u64>, name: Text<32>, like: u64)
+/// Puts a group behind the others, within the room that is there, and its name as a key: this takes no memory and cannot fail.
+fn list(
+    entries: &mut Vec<Entry>,
+    numbers: &mut IndexMap<String, u64>,
+    key: String,
+    name: Text<32>,
+    like: u64,
+)
     requires numbered { AreNumbered entries.old.items numbers.old }
     requires place { vec_len entries.old < vec_capacity entries.old }
     requires key { 0 < spare numbers.old }
+    requires name { string_bytes key ≡ name }
     ensures entries { entries.new.items ≡ entries.old.items ++ new_entry name like ∷ [] }
     ensures numbered { AreNumbered entries.new.items numbers.new }
 {
-    // The length of a name is known where it is looked at.
-    prove!(name.as_str().len() <= 32);
-    let _before = numbers.insert(name, entries.len() as u64).unwrap();
+    let _before = numbers.insert(key, entries.len() as u64).unwrap();
     entries.push_reserved(Entry {
         name,
         like,
