@@ -270,8 +270,9 @@ fn assert_nested<R: Abort + AllocGlobal>(rt: &R, depth: usize, output: &str) {
 
 #[test]
 fn brackets_nest_so_deep(rt: HostRuntime) {
-    assert_nested(&rt, 100, "{\"error\":\"field\"}\n");
-    assert_nested(&rt, 200, SYNTAX);
+    assert_nested(&rt, 127, "{\"error\":\"field\"}\n");
+    assert_nested(&rt, 128, SYNTAX);
+    assert_nested(&rt, 500, SYNTAX);
 }
 
 #[test]
