@@ -28,7 +28,7 @@ pub fn value_of(alloc: Global, line: &str) -> Result<Option<Value>, AllocError>
 }
 
 /// The same of a line that may well be no JSON: its tokens are looked at first, and no tree is begun where they are no value,
-/// which takes a twentieth of the time.
+/// which takes an eighth of the time.
 pub fn value_if_json(
     alloc: Global,
     scratch: &mut Scratch,

@@ -6,6 +6,7 @@ pub mod FoundFrom  -- where the further commands of each group stand in their li
 -- The groups of a run, and what they show:
 pub mod Opening  -- groups that are opened one after the other
 pub mod Keeping  -- the groups by name are those of the core, whatever is done
+pub mod Noting  -- the numbers that are noted for names, where one group more is noted or one was retired
 pub mod Showing  -- what the groups show at the beginning of a run, and after one act more
 -- The text of a script, and a run that writes it:
 pub mod TextLaws  -- the text of a script, by its first line

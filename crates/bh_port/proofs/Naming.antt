@@ -1,5 +1,5 @@
 -- Groups by name and number, one of which is new or was retired.
-use Rattle.std.proofs.Common.{◌≡◌, ◌≢◌, ◌⊎◌, inl, inr, ◌+◌, ◌<◌, ◌≤◌, ℕ, zero, suc, true, false, cond, List, [], ◌∷◌, ◌++◌, length, set, Option, Some, None, refl, ◌∙◌, sym, ap, arith, add-zero}
+use Rattle.std.proofs.Common.{◌≡◌, ◌≢◌, ◌⊎◌, inl, inr, ◌+◌, ◌<◌, ◌≤◌, ℕ, zero, suc, Bool, true, false, cond, List, [], ◌∷◌, ◌++◌, length, set, Option, Some, None, refl, ◌∙◌, sym, ap, arith, add-zero}
 use Rattle.std.proofs.lemmas.List.{length-set}
 use Rattle.std.proofs.lemmas.Option.{slice_get_past}
 use Rattle.std.specs.HashMap.{HashMap, Updates}
@@ -14,6 +14,10 @@ use Rattle.bh_port.specs.declared.groups.Entry.{Entry}
 use Rattle.bh_port.specs.Entries.{entry_at, last_named, new_entry, unless_retired, without}
 use Rattle.bh_port.specs.Kept.{AreNumbered}
 use Rattle.bh_port.proofs.Lists.{push_before, push_here, push_past}
+
+not_true : (b : Bool) → (b ≡ true → ⊥) → b ≡ false
+not_true true h = absurd (h refl)
+not_true false h = refl
 
 -- ---- the number that was given last under a name
 
@@ -34,9 +38,29 @@ last_named-set name (x ∷ es) from found zero e at =
     let same : e ≡ x = cc in ap (λ (k : Entry). last_named name es (from + 1) (if bytes_eq k.name name then Some from else found)) same
 last_named-set name (x ∷ es) from found (suc n) e at = last_named-set name es (from + 1) (if bytes_eq x.name name then Some from else found) n e at
 
+-- no group has the name
+last_named-none : (name : List ℕ) (es : List Entry) (from : ℕ) (found : Option ℕ) → ((n : ℕ) (e : Entry) → slice_get es n ≡ Some e → bytes_eq e.name name ≡ true → ⊥)
+    → last_named name es from found ≡ found
+last_named-none name [] from found none = refl
+last_named-none name (x ∷ es) from found none =
+    let differs : bytes_eq x.name name ≡ false = not_true (bytes_eq x.name name) (none 0 x refl) in
+    last_named-none name es (from + 1) (if bytes_eq x.name name then Some from else found) (λ n e. none (suc n) e) ∙ ap (λ b. if b then Some from else found) differs
+
+-- the group of the highest number that has the name is the last
+pub last_named_is : (name : List ℕ) (es : List Entry) (from : ℕ) (found : Option ℕ) (m : ℕ) (e : Entry) → slice_get es m ≡ Some e → bytes_eq e.name name ≡ true
+    → ((n : ℕ) (d : Entry) → slice_get es n ≡ Some d → bytes_eq d.name name ≡ true → n ≤ m) → last_named name es from found ≡ Some (from + m)
+last_named_is name [] from found m e at named highest = absurd cc
+last_named_is name (x ∷ es) from found zero e at named highest =
+    let same : e ≡ x = cc in
+    last_named-none name es (from + 1) (if bytes_eq x.name name then Some from else found) (λ n d there has. let over = highest (suc n) d there has in omega (arith, over))
+    ∙ ap (λ b. if b then Some from else found) (ap (λ (k : Entry). bytes_eq k.name name) (sym same) ∙ named) ∙ ap Some (sym (add-zero from))
+last_named_is name (x ∷ es) from found (suc m) e at named highest =
+    let same : (from + 1) + m ≡ from + suc m = omega arith in
+    last_named_is name es (from + 1) (if bytes_eq x.name name then Some from else found) m e at named (λ n d there has. let below = highest (suc n) d there has in omega (arith, below)) ∙ ap Some same
+
 -- ---- the group of a number
 
-within : (es : List Entry) (n : ℕ) → (n < length es) ⊎ (length es ≤ n)
+pub within : (es : List Entry) (n : ℕ) → (n < length es) ⊎ (length es ≤ n)
 within es n = cases n (length es)
   where
     cases : (m k : ℕ) → (m < k) ⊎ (k ≤ m)

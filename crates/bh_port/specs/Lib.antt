@@ -3,6 +3,7 @@ pub mod Entries
 pub mod Course
 pub mod Text
 pub mod Kept
+pub mod Latest
 pub mod Script
 pub mod Ahead
 pub mod CommandPlaces

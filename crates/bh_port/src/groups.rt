@@ -10,10 +10,12 @@ ghost use Rattle.bh_core.specs.Looks.{is_in_use};
 ghost use Rattle.bh_core.specs.Step.{IsStep};
 ghost use Rattle.bh_props.specs.Shown.{settings_view};
 ghost use Rattle.bh_port.specs.Course.{new_course, step_limit};
-ghost use Rattle.bh_port.specs.Entries.{entry_at, new_entry, number_of, without};
+ghost use Rattle.bh_port.specs.Entries.{entry_at, last_named, new_entry, number_of, without};
 ghost use Rattle.bh_port.specs.Kept.{AreNumbered};
+ghost use Rattle.bh_port.specs.Latest.{AreLatest};
 ghost use Rattle.bh_port.specs.Script.{GroupsShow};
 
+use crate::latest::LatestNumbers;
 use crate::script::{open, step_limit};
 use bh_base::{GroupId, Moment, Op, Reply, Step, Text};
 use bh_core::{Core, RegisterError, RetireError};
@@ -43,17 +45,21 @@ pub struct Groups {
     entries: Vec<Entry>,
     /// From each name to the number that was given last under it.
     numbers: IndexMap<String, u64>,
+    /// The numbers of most names, without a look into the map.
+    latest: LatestNumbers,
 }
 
 impl Model for Groups {
     ghost use Rattle.bh_port.specs.GroupsView.{GroupsView};
     ghost use Rattle.bh_port.specs.Kept.{AreNumbered, AreOf};
+    ghost use Rattle.bh_port.specs.Latest.{AreLatest};
 
     ghost Value = { GroupsView };
 
     ghost view = { λ groups. record { entries = groups.entries.items; core = groups.core } };
 
-    ghost invariant = { λ groups. AreNumbered groups.entries.items groups.numbers × AreOf groups.core groups.entries.items };
+    ghost invariant = { λ groups. AreNumbered groups.entries.items groups.numbers × AreOf groups.core groups.entries.items
+        × AreLatest groups.entries.items groups.latest };
 }
 
 impl Groups {
@@ -67,15 +73,24 @@ impl Groups {
         let core = open(alloc, settings)?;
         let mut entries = Vec::new(alloc);
         let mut numbers = IndexMap::new(alloc);
+        let mut latest = LatestNumbers::new(alloc)?;
         for (place, name) in settings.groups.keys().enumerate() {
             let key = String::from_str(alloc, name.as_str())?;
             make_room(&mut entries, &mut numbers)?;
-            list(&mut entries, &mut numbers, key, *name, place as u64);
+            list(
+                &mut entries,
+                &mut numbers,
+                &mut latest,
+                key,
+                *name,
+                place as u64,
+            );
         }
         Ok(Groups {
             core,
             entries,
             numbers,
+            latest,
         })
     }
 
@@ -106,8 +121,28 @@ impl Groups {
         ensures number { result ≡ number_of self.now.entries name.now }
         ensures there { IfSome result (λ number. IsSome (entry_at self.now.entries number)) }
     {
-        let number = *self.numbers.get(name)?;
+        let number = match self.latest_number(name) {
+            Some(number) => number,
+            None => *self.numbers.get(name)?,
+        };
         if self.entry(GroupId(number)).is_some() {
+            Some(number)
+        } else {
+            None
+        }
+    }
+
+    /// The number that was given last under the name, where it is the one that was noted last at the name's place.
+    #[inline(always)]
+    fn latest_number(&self, name: &str) -> Option<u64>
+        ensures { IfSome result (λ number. last_named name.now self.now.entries 0 None ≡ Some number) }
+    {
+        let number = self.latest.number(name)?;
+        if number >= self.entries.len() as u64 {
+            return None;
+        }
+        let entry = &self.entries[number as usize];
+        if entry.name.as_str() == name {
             Some(number)
         } else {
             None
@@ -166,7 +201,14 @@ impl Groups {
         let key = String::from_str(*self.entries.allocator(), name.as_str())?;
         make_room(&mut self.entries, &mut self.numbers)?;
         match self.core.register(props, step_limit(settings.audit_steps)) {
-            Ok(_group) => list(&mut self.entries, &mut self.numbers, key, name, like),
+            Ok(_group) => list(
+                &mut self.entries,
+                &mut self.numbers,
+                &mut self.latest,
+                key,
+                name,
+                like,
+            ),
             Err(RegisterError::Memory) => return Err(AllocError),
             Err(RegisterError::TooManyGroups) => unreachable!(),
             Err(RegisterError::TooManySlots) => unreachable!(),
@@ -210,18 +252,23 @@ fn make_room(
 fn list(
     entries: &mut Vec<Entry>,
     numbers: &mut IndexMap<String, u64>,
+    latest: &mut LatestNumbers,
     key: String,
     name: Text<32>,
     like: u64,
 )
     requires numbered { AreNumbered entries.old.items numbers.old }
+    requires latest { AreLatest entries.old.items latest.old }
     requires place { vec_len entries.old < vec_capacity entries.old }
     requires key { 0 < spare numbers.old }
     requires name { string_bytes key ≡ name }
     ensures entries { entries.new.items ≡ entries.old.items ++ new_entry name like ∷ [] }
     ensures numbered { AreNumbered entries.new.items numbers.new }
+    ensures latest { AreLatest entries.new.items latest.new }
 {
-    let _before = numbers.insert(key, entries.len() as u64).unwrap();
+    let number = entries.len() as u64;
+    latest.note(name.as_str(), number);
+    let _before = numbers.insert(key, number).unwrap();
     entries.push_reserved(Entry {
         name,
         like,

@@ -6,6 +6,7 @@ pub mod act;
 mod ahead;
 pub mod commands;
 pub mod groups;
+mod latest;
 mod places;
 pub mod reader;
 mod run;

@@ -1,4 +1,4 @@
-use Rattle.std.proofs.Common.{rules, arith, refl, ap, ◌∙◌, Result, Ok, IfErr, ◌≡◌, inr, Err}
+use Rattle.std.proofs.Common.{rules, arith, refl, ap, ◌∙◌, Result, Ok, IfErr, ◌≡◌, inl, inr, Err}
 use Rattle.std.proofs.lemmas.Result.{err_from_is_err_and}
 use Rattle.bh_lines.specs.declared.port_error.PortError.TheVariants.{Read, Write, Line, Memory}
 use Rattle.bh_lines.specs.declared.port_error.PortError.{PortError}
@@ -82,6 +82,18 @@ returns-in_err-fill-clause-answered g c = λ same.
     let now = progress-lines _ _ _ _ _ _ _ c.write_answers.new.self.groups _ _ c.loop.invariant.progress c.in_ok-write_answers.ensures.answered in
     let kept = c.in_err-fill.ensures.kept (ap Err (error-is _ _ _ _ p.1 p.2 same)) in
     inr (progress-failed _ _ _ _ _ _ _ _ now kept.0 c.in_ok-write_answers.ensures.none_left)
+
+-- an error that is passed on is the one that was answered
+passed-on : {T : Type 0} (r : Result (Unit {0}) PortError) (f : Result T PortError) (x e k : PortError) → r ≡ Err x → x ≡ e → f ≡ Err e → f ≡ Err k → r ≡ Err k
+passed-on r f x e k made is was same = (let one : e ≡ k = cc in made ∙ ap Err (is ∙ one))
+
+pub returns-in_err-fill-clause-not_failed : goal.returns-in_err-fill-clause-not_failed
+returns-in_err-fill-clause-not_failed g c =
+    let p = err_from_is_err_and c.from_residual-in_err-fill.result c.from_residual-in_err-fill.ensures.1 in
+    elim c.in_err-fill.ensures.not_failed [
+      | inl failed ↦ inl (passed-on _ _ _ _ _ p.1 p.2 refl failed)
+      | inr none ↦ inr (none ∙ c.loop.invariant.none_failed)
+    ]
 
 pub loop-init : goal.loop-init
 loop-init g c = record {

@@ -8,9 +8,11 @@ use Rattle.bh_port.specs.declared.groups.Entry.{Entry}
 use Rattle.bh_port.specs.Course.{listed_entries, opened_core}
 use Rattle.bh_port.specs.Entries.{new_entry}
 use Rattle.bh_port.specs.Kept.{AreNumbered, AreOf}
+use Rattle.bh_port.specs.Latest.{AreLatest}
 use Rattle.bh_port.proofs.Keeping.{of_listed}
 use Rattle.bh_port.proofs.Lists.{all_weaker, each-map, every_of}
 use Rattle.bh_port.proofs.Naming.{numbered-none}
+use Rattle.bh_port.proofs.Noting.{latest-none}
 use Rattle.bh_port.proofs.Showing.{agrees-opened}
 use Rattle.bh_port.proofs.groups.Groups.open.Goals as goal
 
@@ -22,6 +24,7 @@ pub loop-place-init : goal.loop-place-init
 loop-place-init c =
     let names = c.enumerate-place-items.ensures.source ∙ c.keys.ensures.rest in record {
       numbered = subst (λ es. AreNumbered es c.new-numbers.result) (sym c.new-entries.ensures.items) (numbered-none c.new-numbers.result c.new-numbers.ensures.empty);
+      latest = subst (λ es. AreLatest es c.in_ok-latest.latest) (sym c.new-entries.ensures.items) (latest-none c.in_ok-latest.latest);
       listed =
           ap (λ es. es ++ left c.into_iter-place-iterator.result) c.new-entries.ensures.items
           ∙ ap left c.into_iter-place-iterator.ensures.into_iter_gives
@@ -37,7 +40,7 @@ invariant_of-result c =
     let all : c.loop-place.entries.items ≡ listed_entries service =
     sym (append-nil c.loop-place.entries.items) ∙ sym (ap (λ ns. c.loop-place.entries.items ++ each_from c.loop-place.place-iterator.count (λ place name. new_entry name place) ns) iter) ∙ c.loop-place.invariant.listed in
     let few = all_weaker (λ group. IsInRange group.1) (λ group. group.1.slots ≤ 4096) service.groups (λ group in_range. in_range.few_slots) (every_of (λ group. IsInRange group.1) service.groups c.args.settings.now.in_range) in
-    (c.loop-place.invariant.numbered, subst (λ k. AreOf k c.loop-place.entries.items) (sym c.in_ok-core.ensures.opened) (subst (AreOf (opened_core service)) (sym all) (of_listed service few)))
+    (c.loop-place.invariant.numbered, subst (λ k. AreOf k c.loop-place.entries.items) (sym c.in_ok-core.ensures.opened) (subst (AreOf (opened_core service)) (sym all) (of_listed service few)), c.loop-place.invariant.latest)
 
 pub returns-clause-agrees : goal.returns-clause-agrees
 returns-clause-agrees c =

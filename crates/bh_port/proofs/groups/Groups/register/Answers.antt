@@ -15,6 +15,7 @@ invariant_of-self-in-Ok c =
       c.list.ensures.numbered,
       subst (AreOf c.register.new.self) (sym (c.list.ensures.entries ∙ ap (λ es. es ++ new_entry c.args.name c.args.like ∷ []) c.make_room.ensures.entries))
           (of_opened c.self.inside.core c.register.new.self c.self.inside.entries.items c.args.name c.args.like c.in-Some.props.now c.step_limit.result few c.in-Ok.ensures.added c.self.invariant.1),
+      c.list.ensures.latest,
     )
 
 pub unreachable-requires-in-Err-TooManySlots : goal.unreachable-requires-in-Err-TooManySlots

@@ -9,6 +9,7 @@ use Rattle.bh_port.specs.GroupsView.{GroupsView}
 use Rattle.bh_port.specs.Kept.{AreOf}
 use Rattle.bh_port.proofs.Keeping.{of_retired, read}
 use Rattle.bh_port.proofs.Naming.{entry_within, numbered-without, without_is}
+use Rattle.bh_port.proofs.Noting.{latest-without}
 use Rattle.bh_port.proofs.groups.Groups.retire.Goals as goal
 
 pub invariant_of-self : goal.invariant_of-self
@@ -20,6 +21,7 @@ invariant_of-self c =
     let (v, shown, is) = c.in-Ok.ensures.ended in (
       numbered-without es n c.index_mut.result.now c.self.inside.numbers at c.self.invariant.0,
       subst (AreOf c.retire.new.self) (without_is es n c.index_mut.result.now at) (of_retired c.self.inside.core c.retire.new.self es n v shown is c.self.invariant.1),
+      latest-without es n c.index_mut.result.now c.self.inside.latest at c.self.invariant.2,
     )
 
 not_true : (b : Bool) → (b ≡ true → ⊥) → b ≡ false
