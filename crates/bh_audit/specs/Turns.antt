@@ -126,11 +126,13 @@ IsProgress moments audited step serial progress.Refused r old new freed = IsMade
 IsProgress moments audited step serial progress.Stepped r old new freed = IsMade audited step r old new freed × (is_refusal r ≡ false) × CallerWaits serial new
 IsProgress moments audited step serial progress.Collected r old new freed = IsMadeAndCollected moments audited step serial r old new freed
 
--- an Expire of the pass's group was made, at a moment that is named, and so many tickets timed out; or nothing was done
+-- an Expire of the pass's group was made, at a moment that is named, and so many tickets timed out; or nothing was done, and
+-- at a moment that is named none was due
 abbrev pub IsExpired : (ℕ → Type 0) → Bool → Option ℕ → Held → Held → Freed → Type 0
 IsExpired moments audited (Some number) old new freed =
     (0 < number) × ((now : ℕ) × moments now × IsMade audited (step_at old.pass.group now op.Expire) (replies.Expired number) old new freed)
-IsExpired moments audited None old new freed = IsUnchanged old new
+IsExpired moments audited None old new freed =
+    IsUnchanged old new × ((now : ℕ) × moments now × (is_due old.book.groups old.pass.group now ≡ false))
 
 -- a group was registered, as the book does; or it was refused, and nothing has changed
 pub record IsRegistration (props : GroupProps) (step_limit : ℕ) (answer : Result GroupId RegisterError) (old new : Held) : Type 0 where
