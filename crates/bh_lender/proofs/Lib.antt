@@ -1,5 +1,4 @@
 pub mod Settled  -- one holder more has collected
 pub mod Returned  -- one lease more was given back
-pub mod Expiring  -- an Expire of a group with a due ticket
 pub mod Logging  -- what a log has of the steps that were made
 pub mod Accounting  -- what the account has of the steps that were made

@@ -1,9 +1,17 @@
--- One holder more has collected.
+-- What a holder that has collected does, and that one holder more has.
 use Rattle.std.proofs.Common.{◌≡◌, ◌<◌, ℕ, false, List, [], ◌∷◌, ◌++◌, length, remove, slice_index_or, refl, ap, arith, subst, ◌∙◌}
+use Rattle.bh_base.specs.declared.reply.Cause.{Cause}
+use Rattle.bh_base.specs.declared.reply.Reply.{Reply}
+use Rattle.bh_base.specs.declared.reply.Reply.TheVariants as replies
 use Rattle.bh_lender.specs.declared.lender.Left.{Left}
 use Rattle.bh_lender.specs.Recorded.{RecordedView}
 use Rattle.bh_lender.specs.Steps.{AreSteps, Made}
-use Rattle.bh_lender.specs.Settling.{IsCollected, Settles, is_waiting}
+use Rattle.bh_lender.specs.Settling.{IsBehindCollect, IsCollected, Settles, is_waiting}
+
+-- told anything but to run the fallback, a holder does no more
+pub does_no_more : (now : ℕ) (holder : Left) (r : Reply) → ((cause : Cause) → r ≡ replies.RunFallback cause → ⊥) → IsBehindCollect now holder r []
+does_no_more now holder (replies.RunFallback cause) other = absurd (other cause refl)
+does_no_more now holder _ other = refl
 
 -- behind those that have collected one more has, at a place of those that are left
 pub one_more : (now : ℕ) (old : RecordedView) (left : List Left) (chunks : List (List Made)) (mid : RecordedView) (left' : List Left) (place : ℕ) (holder : Left) (made : List Made) (new : RecordedView)

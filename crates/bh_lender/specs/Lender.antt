@@ -7,6 +7,7 @@ use Rattle.bh_base.specs.declared.step.GroupId.{GroupId}
 use Rattle.bh_base.specs.declared.step.Op.{Op}
 use Rattle.bh_base.specs.declared.step.Op.TheVariants as op
 use Rattle.bh_base.specs.declared.step.Step.{Step}
+use Rattle.bh_audit.specs.Calls.{is_due}
 use Rattle.bh_lease.specs.declared.lease.Lease.{Lease}
 use Rattle.bh_lease.specs.declared.lease.Part.{Part}
 use Rattle.bh_lease.specs.declared.lease.Part.TheVariants as part
@@ -57,7 +58,7 @@ pub record IsGivenBack (now : ℕ) (leases : List Lease) (old new : LenderView) 
   -- each holder is left behind those that were left, and whoever of these need not wait has collected
   pub settles : Settles now after_fallbacks (old.left ++ map left_of (filter (has part.Holder) leases)) chunks new.recorded new.left
 
--- an Expire was made where a ticket of the group was due, by which so many timed out; or nothing was done
+-- an Expire was made where a ticket of the group was due, by which so many timed out; or none was due, and nothing was done
 abbrev pub IsExpired : GroupId → ℕ → Option ℕ → LenderView → LenderView → Type 0
 IsExpired group now (Some number) old new = (0 < number) × DoesStep (step_at group now op.Expire) (replies.Expired number) old new
-IsExpired group now None old new = new ≡ old
+IsExpired group now None old new = (new ≡ old) × (is_due old.recorded.groups group now ≡ false)

@@ -1,7 +1,6 @@
 -- The holders that are left with the service, and what is done for them.
-use Rattle.std.specs.Prelude.{◌≡◌, ◌⊎◌, ◌<◌, ℕ, Bool, true, false, List, [], ◌∷◌, length, slice_index_or, remove, Option, None, Some}
+use Rattle.std.specs.Prelude.{◌≡◌, ◌<◌, ℕ, Bool, true, false, List, [], ◌∷◌, length, slice_index_or, remove, Option, None, Some}
 use Rattle.std.specs.List.{AllByRecursion}
-use Rattle.bh_base.specs.declared.reply.Cause.{Cause}
 use Rattle.bh_base.specs.declared.reply.Reply.{Reply}
 use Rattle.bh_base.specs.declared.reply.Reply.TheVariants as replies
 use Rattle.bh_base.specs.declared.step.FallbackEnd.TheVariants as fallback
@@ -27,15 +26,19 @@ is_waiting groups holder = would_wait (view_at groups holder.group.0) holder.ser
 abbrev pub AreWaiting : CoreView → List Left → Type 0
 AreWaiting groups left = AllByRecursion (λ (holder : Left). is_waiting groups holder ≡ true) left
 
--- the steps by which a holder that is gone has collected: one Collect; where that told it to run the fallback, this counts
--- as missing, and it has collected again
+-- what a holder that is gone does behind a Collect, by its reply: told to run the fallback, it has none, so this counts as
+-- missing, and it collects again; told anything else, it does no more
+abbrev pub IsBehindCollect : ℕ → Left → Reply → List Made → Type 0
+IsBehindCollect now holder (replies.RunFallback cause) made =
+    (r : Reply) × (r' : Reply) × (made ≡
+    (step_at holder.group now (op.FallbackDone holder.serial fallback.Missing), r)
+    ∷ (step_at holder.group now (op.Collect holder.serial), r') ∷ [])
+IsBehindCollect now holder _ made = made ≡ []
+
+-- the steps by which a holder that is gone has collected: a Collect, and what its reply asks for
 abbrev pub IsCollected : ℕ → Left → List Made → Type 0
 IsCollected now holder made =
-    ((r : Reply) × (made ≡ (step_at holder.group now (op.Collect holder.serial), r) ∷ []))
-    ⊎ ((c : Cause) × (r : Reply) × (r' : Reply) × (made ≡
-    (step_at holder.group now (op.Collect holder.serial), replies.RunFallback c)
-    ∷ (step_at holder.group now (op.FallbackDone holder.serial fallback.Missing), r)
-    ∷ (step_at holder.group now (op.Collect holder.serial), r') ∷ []))
+    (r : Reply) × (others : List Made) × (made ≡ (step_at holder.group now (op.Collect holder.serial), r) ∷ others) × IsBehindCollect now holder r others
 
 -- one after another of the holders that are left need not wait, has collected by these steps, and is left no more
 abbrev pub Settles : ℕ → RecordedView → List Left → List (List Made) → RecordedView → List Left → Type 0

@@ -5,8 +5,9 @@ ghost use Rattle.bh_base.specs.Runs.{View};
 ghost use Rattle.bh_base.specs.Seen.{view_reply};
 ghost use Rattle.bh_base.specs.declared.step.Op.TheVariants as op;
 ghost use Rattle.bh_core.specs.CoreView.{view_at};
-ghost use Rattle.bh_core.specs.Looks.{expires_some, is_pending};
+ghost use Rattle.bh_core.specs.Looks.{is_pending};
 ghost use Rattle.bh_audit.specs.Books.{IsAudited};
+ghost use Rattle.bh_audit.specs.Calls.{is_due};
 ghost use Rattle.bh_lender.specs.Recorded.{IsMade, book_of, log_or, recorded_of, with_log_of};
 
 use crate::step_log::StepLog;
@@ -98,8 +99,7 @@ impl Recorded {
 
     /// Whether a ticket of the group is due, as `Core::due` says.
     pub fn due(&self, group: GroupId, now: Moment) -> bool
-        ensures known { (v : View) → view_at self.now.groups group.0 ≡ Some v → result ≡ expires_some (view_reply v op.Expire now) }
-        ensures unknown { view_at self.now.groups group.0 ≡ None → result ≡ false }
+        ensures { result ≡ is_due self.now.groups group now }
     {
         self.book.core().due(group, now)
     }
