@@ -20,7 +20,7 @@ totals() {
         $1 == "summary:" { print $at["Ir"], $at["ILmr"] + $at["DLmr"] + $at["DLmw"] }' "$1"
 }
 
-# Counts a run of a workload in one checkout: `WORDS.WHICH` gets the two numbers, and `WHICH.out` the output.
+# Counts a run of a workload in one checkout: `KIND.WHICH` gets the two numbers, and `WHICH.out` the output.
 count() {
     local which=$1 kind=$2
     shift 2
@@ -30,15 +30,15 @@ count() {
     totals "$work/$kind.$which.counts" >"$work/$kind.$which"
 }
 
-# The same in both, at the same time.
+# The same in both, at the same time. The kind says which of the counts of the workload these are.
 count_both() {
-    local kind=$1 first
-    shift
+    local name=$1 kind=$2 first
+    shift 2
     count old "$kind" "$@" &
     first=$!
     count new "$kind" "$@"
     wait "$first"
-    same_output "$kind"
+    same_output "$name"
 }
 
 # Whether a checkout knows the words: one that does not takes them for `small`.
@@ -57,11 +57,11 @@ count_workload() {
     shift
     echo "0 0" | tee "$work/input.old" >"$work/input.new"
     if knows_parts old "$@" && knows_parts new "$@"; then
-        count_both input "$@" input
-        count_both job "$@" quarter
+        count_both "$name" input "$@" input
+        count_both "$name" job "$@" quarter
     else
         unparted+=("$name")
-        count_both job "$@"
+        count_both "$name" job "$@"
     fi
     paste -d ' ' "$work"/{job,input}.old "$work"/{job,input}.new | awk -v NAME="$name" -v MOST=$MOST '{
         old = $1 - $3; new = $5 - $7; missed = $2 - $4; misses = $6 - $8
