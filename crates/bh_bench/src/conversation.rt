@@ -73,16 +73,22 @@ pub(crate) fn run<R: Wait + rt::Clock>(
         asked: Cell::new(0),
     };
     let mut control = ServiceControl::new(rt, alloc, &shared, &names, &echo, &clock);
-    let mut talk = Talk {
-        chance: Chance::new(seed),
-        plan,
-        made: 0,
-        piece: Vec::new(alloc),
-        given: 0,
-    };
+    let mut talk = Talk::new(alloc, plan, seed);
     let mut reader = WatchedReader::new(&mut talk);
     let mut writer = WatchedWriter::new(digest);
     converse(alloc, &mut reader, &mut writer, &mut control).ok()
+}
+
+/// Makes the lines of the plan, and says none.
+pub(crate) fn make_input(alloc: Global, plan: Plan, seed: u64, digest: &mut Digest) -> Option<()> {
+    let text = settings_text(alloc, plan.groups).ok()?;
+    digest.number(text.len() as u64);
+    let mut talk = Talk::new(alloc, plan, seed);
+    for _ in 0..(plan.lines / PIECE).saturating_add(1) {
+        talk.refill().ok()?;
+        digest.number(talk.piece.len() as u64);
+    }
+    Some(())
 }
 
 /// The service of the groups of the settings.
@@ -120,6 +126,16 @@ struct Talk {
 }
 
 impl Talk {
+    fn new(alloc: Global, plan: Plan, seed: u64) -> Talk {
+        Talk {
+            chance: Chance::new(seed),
+            plan,
+            made: 0,
+            piece: Vec::new(alloc),
+            given: 0,
+        }
+    }
+
     /// Makes further lines, unless all are made.
     fn refill(&mut self) -> Result<(), AllocError> {
         self.piece.clear();

@@ -18,6 +18,14 @@ pub(crate) fn run(alloc: Global, plan: Plan, seed: u64, digest: &mut Digest) -> 
     script(alloc, &mut reader, &mut writer, &settings).ok()
 }
 
+/// Makes the lines of the plan, and answers none.
+pub(crate) fn make_input(alloc: Global, plan: Plan, seed: u64, digest: &mut Digest) -> Option<()> {
+    let text = settings_text(alloc, plan.groups).ok()?;
+    digest.number(text.len() as u64);
+    let mut traffic = Traffic::new(alloc, plan, seed).ok()?;
+    traffic.make_all(digest).ok()
+}
+
 /// The settings of so many groups. Of four, one has a further command, and in one the callers run their requests.
 fn settings_text(alloc: Global, groups: u64) -> Result<Vec<u8>, AllocError> {
     let mut text = Vec::new(alloc);

@@ -56,19 +56,32 @@ enum Kind {
     Refused,
 }
 
-/// Reads and shows so many files of each kind, each of so many groups. None where memory is refused.
-pub(crate) fn run(
-    alloc: Global,
-    files: u64,
-    groups: u64,
-    seed: u64,
-    digest: &mut Digest,
-) -> Option<()> {
+/// So many files of each kind, each of so many groups.
+#[derive(Clone, Copy)]
+pub struct Plan {
+    pub files: u64,
+    pub groups: u64,
+}
+
+/// Reads and shows the files of the plan. None where memory is refused.
+pub(crate) fn run(alloc: Global, plan: Plan, seed: u64, digest: &mut Digest) -> Option<()> {
     let mut chance = Chance::new(seed);
-    for _ in 0..files {
+    for _ in 0..plan.files {
         for kind in [Kind::Groups, Kind::Commands, Kind::Refused] {
-            let text = text_of(alloc, kind, groups, &mut chance).ok()?;
+            let text = text_of(alloc, kind, plan.groups, &mut chance).ok()?;
             check(alloc, text.as_slice(), digest)?;
+        }
+    }
+    Some(())
+}
+
+/// Makes the same files, and adds how long they are.
+pub(crate) fn make_input(alloc: Global, plan: Plan, seed: u64, digest: &mut Digest) -> Option<()> {
+    let mut chance = Chance::new(seed);
+    for _ in 0..plan.files {
+        for kind in [Kind::Groups, Kind::Commands, Kind::Refused] {
+            let text = text_of(alloc, kind, plan.groups, &mut chance).ok()?;
+            digest.number(text.len() as u64);
         }
     }
     Some(())

@@ -2,6 +2,7 @@
 
 use crate::chance::Chance;
 use crate::client::{Act, Client, is_cached};
+use crate::digest::Digest;
 use crate::writing::{put, put_number, put_numbered};
 use std::alloc::{AllocError, Global};
 use std::io;
@@ -93,6 +94,15 @@ impl Traffic {
             }
             self.made += 1;
             self.put_line()?;
+        }
+        Ok(())
+    }
+
+    /// Makes all lines, and adds how long they are.
+    pub(crate) fn make_all(&mut self, digest: &mut Digest) -> Result<(), AllocError> {
+        for _ in 0..(self.plan.lines / PIECE).saturating_add(1) {
+            self.refill()?;
+            digest.number(self.piece.len() as u64);
         }
         Ok(())
     }
