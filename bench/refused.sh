@@ -58,12 +58,12 @@ is_right() {
     [ "$1" -eq "$2" ] && cmp -s "$work/out" "$work/right" && cmp -s "$work/errors" "$work/right_errors"
 }
 
-# Each allocation of a command line in turn: the name, the right status, the input, and the arguments. A list of the
-# arguments that is refused its room at once is made all the same, by asking again, and settings are shown all the same
-# where a list of their further commands is refused. Guesses at the slots of tickets are needed for no answer.
+# Each allocation of a command line in turn: the name, the right status, how many refusals it passes over, the input, and
+# the arguments. The list of the arguments is such a one, as it is made all the same by asking again; and so are the list of
+# the further commands of a group, and the one that it lies in, as settings are shown all the same without them.
 each_allocation() {
-    local name=$1 right_status=$2 input=$3 status nth again=0
-    shift 3
+    local name=$1 right_status=$2 passed_over=$3 input=$4 status nth again=0
+    shift 4
     status=0
     "$program" "$@" <"$input" >"$work/right" 2>"$work/right_errors" || status=$?
     [ "$status" -eq "$right_status" ] || wrong "$name: status $status with all memory"
@@ -78,7 +78,8 @@ each_allocation() {
         fi
     done
     is_right "$status" "$right_status" || wrong "$name: nothing refused: status $status, $(errors)"
-    echo "$name: $((nth - 1)) allocations, $again asked for again"
+    [ "$again" -eq "$passed_over" ] || wrong "$name: $again refusals are passed over, and not $passed_over"
+    echo "$name: $((nth - 1)) allocations, $again passed over"
 }
 
 # Waits until the service listens or has ended, two seconds at most.
@@ -98,9 +99,10 @@ talk() {
     exec 3>&-
 }
 
-# Each allocation of a service with one connection: it ends as it should, or it serves.
+# Each allocation of a service with one connection: it ends as it should, or it serves. One refusal is passed over, that of
+# the list of the arguments.
 each_allocation_of_serve() {
-    local status nth service ends=""
+    local status nth service ends="" served=0
     printf 'listening %s\n' "$port" >"$work/right"
     for ((nth = 1; ; nth++)); do
         rm -f "$work/out"
@@ -116,9 +118,11 @@ each_allocation_of_serve() {
         *) wrong "serve: allocation $nth: status $status, $(errors)" ;;
         esac
         [ -e "$work/refused" ] || break
+        [ "$status,$(errors)" != "0," ] || served=$((served + 1))
         ends+="$status,$(errors)"$'\n'
     done
-    echo "serve: $((nth - 1)) allocations"
+    [ "$served" -eq 1 ] || wrong "serve: $served refusals are passed over, and not 1"
+    echo "serve: $((nth - 1)) allocations, $served passed over"
     printf '%s' "$ends" | sort | uniq -c
 }
 
@@ -126,6 +130,7 @@ cat >"$work/settings.toml" <<'END'
 service.groups = ["a", "b"]
 service.auditSteps = 1000
 service.slots.b = 16
+service.command.late.group = "b"
 hystrix.command.default.execution.isolation.thread.timeoutInMilliseconds = 500
 hystrix.command.b.execution.isolation.strategy = "SEMAPHORE"
 hystrix.threadpool.a.coreSize = 2
@@ -148,12 +153,12 @@ for tests in "${built[@]}"; do
         limited 0 "$tests" "$test" </dev/null || wrong "$test: $(errors)"
     done
 done
-each_allocation run 0 "$work/script" run "$work/settings.toml"
-each_allocation check 0 /dev/null check "$work/settings.toml"
-each_allocation --help 0 /dev/null --help
-each_allocation "run --help" 0 /dev/null run --help
-each_allocation "no argument" 2 /dev/null
-each_allocation "a wrong argument" 2 /dev/null serve "$work/settings.toml" --port 0
-each_allocation "no file" 3 /dev/null run "$work/none.toml"
+each_allocation run 0 1 "$work/script" run "$work/settings.toml"
+each_allocation check 0 3 /dev/null check "$work/settings.toml"
+each_allocation --help 0 1 /dev/null --help
+each_allocation "run --help" 0 1 /dev/null run --help
+each_allocation "no argument" 2 1 /dev/null
+each_allocation "a wrong argument" 2 1 /dev/null serve "$work/settings.toml" --port 0
+each_allocation "no file" 3 1 /dev/null run "$work/none.toml"
 each_allocation_of_serve
 [ "$failures" -eq 0 ] || { echo "$failures ends were wrong" >&2; exit 1; }

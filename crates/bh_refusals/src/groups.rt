@@ -1,12 +1,13 @@
 //! Settings, and the groups of a core.
 
-use crate::refusing::{assert_told, assert_true_want, give_up};
+use crate::refusing::{assert_told, give_up};
 use crate::worked::{SLOTS, assert_new, props_of_two, two_groups};
 use bh_base::{CommandProps, GroupId};
-use bh_core::{Act, Core, Outcome, RegisterError};
+use bh_core::{Act, Core, Outcome, RegisterError, RetireError};
 use bh_props::{SettingsError, read};
 use bh_scripts::refusing::{MANY, none_refused, refuse};
 use bh_scripts::worked::{replies, steps};
+use std::alloc::AllocError;
 use std::process::Abort;
 
 /// Each section and each kind of value comes in it.
@@ -39,22 +40,28 @@ fn settings_are_read_or_not(rt: HostRuntime) {
     give_up(&rt);
 }
 
-/// One group has a further command, and one has none. Where there is no room for lists of the further commands, the
-/// lines are written without, so that such a refusal is passed over.
+/// The further commands of the example are gathered in a list of the one group that has some, which lies in another.
+const LISTS: usize = 2;
+
+/// Where there is no room for a list of the further commands, the lines are written without, so that the refusal of each is
+/// passed over. No other is.
 #[test]
 fn settings_are_shown_or_not(rt: HostRuntime) {
     let settings = read(rt.alloc(), EXAMPLE).expect(&rt, "settings");
     let right = settings.to_string(rt.alloc()).expect(&rt, "memory");
+    let mut passed_over: usize = 0;
     for nth in 1..MANY {
         refuse(rt.alloc(), nth);
         let told = settings.to_string(rt.alloc());
         let none_refused = none_refused(rt.alloc(), nth);
-        match told {
-            Ok(shown) => assert_eq!(rt; shown.as_str(), right.as_str()),
-            Err(_) => assert!(rt; !none_refused, "allocation {nth}"),
-        }
-        if none_refused {
-            return;
+        if let Ok(shown) = told {
+            assert_eq!(rt; shown.as_str(), right.as_str());
+            if none_refused {
+                return assert!(rt; nth == 1 || passed_over == LISTS, "{passed_over}");
+            }
+            passed_over = passed_over.saturating_add(1);
+        } else {
+            assert!(rt; !none_refused, "allocation {nth}");
         }
     }
     give_up(&rt);
@@ -80,13 +87,9 @@ fn a_group_of_two_commands_is_registered_or_not(rt: HostRuntime) {
         let mut core = two_groups(&rt, 100);
         refuse(rt.alloc(), nth);
         let told = core.register(&third, 100);
-        let none_refused = assert_true_want(&rt, nth, told.is_ok());
+        assert_told(&rt, nth, told.is_ok());
         if told.is_ok() {
-            assert_third(&rt, &core, told, third.commands.as_slice());
-            if none_refused {
-                return;
-            }
-            continue;
+            return assert_third(&rt, &core, told, third.commands.as_slice());
         }
         assert_eq!(rt; told, Err(RegisterError::Memory));
         assert_new(&rt, &mut core);
@@ -96,27 +99,48 @@ fn a_group_of_two_commands_is_registered_or_not(rt: HostRuntime) {
     give_up(&rt);
 }
 
-/// Memory is refused for the outcomes, and then nothing has changed, or in the registration, which is an outcome of its
-/// own.
+/// What a registration and the retirement of the new group are told.
+const MADE: [Outcome; 2] = [Outcome::Registered(GroupId(2)), Outcome::Retired];
+
+/// What they are told where the registration is refused its memory: the act behind it is made all the same.
+const REFUSED: [Outcome; 2] = [
+    Outcome::NotRegistered(RegisterError::Memory),
+    Outcome::NotRetired(RetireError::NoGroup),
+];
+
+fn are_told(told: &Result<Vec<Outcome>, AllocError>, want: &[Outcome]) -> bool {
+    match told {
+        Ok(outcomes) => outcomes.as_slice() == want,
+        Err(_) => false,
+    }
+}
+
+/// The first allocation is the room for the outcomes: where it is refused no act is made.
 #[test]
-fn all_acts_are_made_or_none(rt: HostRuntime) {
+fn acts_are_made_or_refused(rt: HostRuntime) {
     let kinds = [props_of_two(&rt)];
-    let acts = [Act::Register {
-        place: 0,
-        step_limit: 100,
-    }];
+    let acts = [
+        Act::Register {
+            place: 0,
+            step_limit: 100,
+        },
+        Act::Retire(GroupId(2)),
+    ];
     for nth in 1..MANY {
         let mut core = two_groups(&rt, 100);
         refuse(rt.alloc(), nth);
         let told = core.run_acts(&kinds, &acts);
-        let told = told.map(|made| made.as_slice() == [Outcome::Registered(GroupId(2))].as_slice());
-        let none_refused = assert_true_want(&rt, nth, told == Ok(true));
-        if none_refused {
+        let are_made = are_told(&told, &MADE);
+        assert_told(&rt, nth, are_made);
+        if are_made {
             return;
         }
-        if told != Ok(true) {
-            assert_new(&rt, &mut core);
-        }
+        assert_eq!(rt; told.is_err(), nth == 1, "allocation {nth}");
+        assert!(rt;
+            told.is_err() || are_told(&told, &REFUSED),
+            "allocation {nth}"
+        );
+        assert_new(&rt, &mut core);
     }
     give_up(&rt);
 }

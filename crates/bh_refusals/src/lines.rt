@@ -3,7 +3,7 @@
 ghost use Rattle.std.specs.Prelude.{◌≡◌, []};
 ghost use Rattle.bh_lines.specs.Names.{command_number, is_own_name};
 
-use crate::refusing::{assert_told, assert_true_want, give_up};
+use crate::refusing::{assert_told, give_up};
 use bh_base::{Answer, CallError, GroupId, Reply, Request, Text};
 use bh_control::{Control, Conversation};
 use bh_cut::cut_groups;
@@ -77,13 +77,9 @@ fn a_script_is_answered_whole_or_in_part(rt: HostRuntime) {
         let (told, written) = run(rt.alloc(), nth, &settings, asked.as_bytes()).expect(
             &rt, "memory",
         );
-        let none_refused = assert_true_want(&rt, nth, told.is_ok());
+        assert_told(&rt, nth, told.is_ok());
         if told.is_ok() {
-            assert_eq!(rt; written.as_slice(), want.as_bytes());
-            if none_refused {
-                return;
-            }
-            continue;
+            return assert_eq!(rt; written.as_slice(), want.as_bytes());
         }
         assert_eq!(rt; told, Err(PortError::Memory));
         assert!(rt; is_front(&written, want.as_str()), "allocation {nth}");
@@ -115,13 +111,9 @@ fn a_cut_is_written_whole_or_in_part(rt: HostRuntime) {
         .unwrap_or(("", ""));
     for nth in 1..MANY {
         let (told, written) = cut(rt.alloc(), nth, asked.as_bytes()).expect(&rt, "memory");
-        let none_refused = assert_true_want(&rt, nth, told.is_ok());
+        assert_told(&rt, nth, told.is_ok());
         if told.is_ok() {
-            assert_eq!(rt; written.as_slice(), want.as_bytes());
-            if none_refused {
-                return;
-            }
-            continue;
+            return assert_eq!(rt; written.as_slice(), want.as_bytes());
         }
         assert_eq!(rt; told, Err(PortError::Memory));
         assert!(rt; is_front(&written, want), "allocation {nth}");

@@ -9,15 +9,6 @@ pub(crate) fn assert_told<R: Abort + AllocGlobal>(rt: &R, nth: usize, success: b
     assert_eq!(rt; success, none_refused(rt.alloc(), nth), "allocation {nth}");
 }
 
-/// Asserts that a call whose nth allocation was to be refused told want of memory only where an allocation was refused in
-/// it, and answers whether none was: a refusal may be passed over where no answer needs what was asked for, as guesses at
-/// the slots of tickets.
-pub(crate) fn assert_true_want<R: Abort + AllocGlobal>(rt: &R, nth: usize, success: bool) -> bool {
-    let none_refused = none_refused(rt.alloc(), nth);
-    assert!(rt; success || !none_refused, "allocation {nth}");
-    none_refused
-}
-
 /// Ends a test whose call did not succeed in that many turns.
 pub(crate) fn give_up(rt: &impl Abort) {
     assert!(rt; false, "no success with {MANY} allocations");

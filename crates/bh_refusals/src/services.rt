@@ -2,7 +2,7 @@
 
 ghost use Rattle.std.specs.Prelude.{◌≡◌, ◌≤◌, length};
 
-use crate::refusing::{assert_told, assert_true_want, give_up};
+use crate::refusing::{assert_told, give_up};
 use crate::worked::{SLOTS, assert_new, props_of_two, two_groups};
 use bh_audit::{AuditError, AuditReport, Book, Clock, Pass, PassError, Shared};
 use bh_base::{Answer, Cause, FallbackEnd, GroupId, Moment, Reply, RunEnd, Text};
@@ -61,7 +61,7 @@ fn a_group_of_a_book_is_registered_or_not(rt: HostRuntime) {
         let mut book = book(&rt);
         refuse(rt.alloc(), nth);
         let told = book.register(rt.alloc(), &third, 100);
-        let none_refused = assert_true_want(&rt, nth, told.is_ok());
+        assert_told(&rt, nth, told.is_ok());
         if told.is_err() {
             assert_eq!(rt; told, Err(RegisterError::Memory));
             let again = book.register(rt.alloc(), &third, 100);
@@ -70,7 +70,7 @@ fn a_group_of_a_book_is_registered_or_not(rt: HostRuntime) {
             assert_eq!(rt; told, Ok(GroupId(2)));
         }
         assert_new_book(&rt, book);
-        if none_refused {
+        if told.is_ok() {
             return;
         }
     }
@@ -120,7 +120,7 @@ fn a_group_of_a_service_is_registered_or_not(rt: HostRuntime) {
         let shared = service(&rt);
         refuse(rt.alloc(), nth);
         let told = shared.register(&rt, rt.alloc(), &third, 100);
-        let none_refused = assert_true_want(&rt, nth, told.is_ok());
+        assert_told(&rt, nth, told.is_ok());
         if told.is_err() {
             assert_eq!(rt; told, Err(RegisterError::Memory));
             let again = shared.register(&rt, rt.alloc(), &third, 100);
@@ -129,7 +129,7 @@ fn a_group_of_a_service_is_registered_or_not(rt: HostRuntime) {
             assert_eq!(rt; told, Ok(GroupId(2)));
         }
         assert_of_three(&rt, shared);
-        if none_refused {
+        if told.is_ok() {
             return;
         }
     }
