@@ -63,19 +63,22 @@ fn assert_three_slots(rt: &impl Abort, arena: &Arena<u8, 2>)
     }
 }
 
+/// More lists than there is room for from before.
+const LISTS: usize = 100;
+
 #[test]
 fn lists_are_added_or_not(rt: HostRuntime) {
     for nth in 1..MANY {
         let mut arena = three_slots(&rt);
         refuse(rt.alloc(), nth);
-        let added = arena.add_lists(1, 2);
+        let added = arena.add_lists(1, LISTS);
         assert_told(&rt, nth, added.is_ok());
         if let Ok(first) = added {
             assert_eq!(rt; first, 1);
             return;
         }
         assert_three_slots(&rt, &arena);
-        assert_eq!(rt; arena.add_lists(1, 2).ok(), Some(1));
+        assert_eq!(rt; arena.add_lists(1, LISTS).ok(), Some(1));
     }
     give_up(&rt);
 }
