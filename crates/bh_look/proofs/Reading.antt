@@ -1,15 +1,16 @@
 -- A run that is watched, from the reader's first byte to its last.
-use Rattle.std.proofs.Common.{◌≡◌, ℕ, List, [], ◌++◌, Option, Some, None, Result, Err, IfSome, refl, sym, ◌∙◌, subst, ap, append-nil, append_assoc}
-use Rattle.std.specs.Io.KnownBytes.{Consumes, IsAtEnd}
+use Rattle.std.proofs.Common.{◌≡◌, ℕ, false, List, [], ◌++◌, Option, Some, None, Result, Ok, Err, IfErr, IfSome, refl, sym, ◌∙◌, subst, ap, append-nil, append_assoc}
+use Rattle.std.specs.Io.KnownBytes.{Consumes, IsAtEnd, Keeps}
 use Rattle.bh_lines.specs.declared.port_error.PortError.{PortError}
 use Rattle.bh_lines.specs.declared.port_error.PortError.TheVariants.{Read, Write, Line, Memory}
-use Rattle.bh_lines.specs.Lines.{cut, stops}
+use Rattle.bh_lines.specs.Lines.{cut, has_line, stops}
+use Rattle.bh_lines.specs.Taken.{IsMemoryOrLine}
 use Rattle.bh_port.specs.Course.{Course}
 use Rattle.bh_port.specs.GroupsView.{GroupsView}
 use Rattle.bh_port.specs.Script.{IsMemoryOrRead}
 use Rattle.bh_props.specs.SettingsView.{SettingsView}
 use Rattle.bh_look.specs.Scripts.{course_after, tally_of}
-use Rattle.bh_look.specs.Watched.{IsWatched, Lanes, TakenUpTo, WatchOutcome, tally_at}
+use Rattle.bh_look.specs.Watched.{HasWatched, IsWatched, Lanes, TakenUpTo, WatchOutcome, tally_at}
 use Rattle.bh_look.proofs.Taking.{outcome-after, taken-none, taken-then}
 
 -- what was taken of `all` while `left` and the buffer are left of it
@@ -104,3 +105,33 @@ nothing-said service before (Some all) l0 l1 Line kind = absurd kind
 nothing-said service before (Some all) l0 l1 Memory kind = tt
 nothing-said service before (Some all) l0 l1 Read kind = tt
 nothing-said service before (Some all) l0 l1 Write kind = tt
+
+-- the reader fails, and all lines that had ended were taken
+pub progress-failed : (service : SettingsView) (before : Course) (all now next : Option (List ℕ)) (groups : GroupsView) (l0 l1 : Lanes) (buffer : List ℕ)
+    → Progress service before all now groups l0 l1 buffer → Keeps now next → has_line buffer ≡ false → HasWatched all next service before groups l0 l1
+progress-failed service before None now next groups l0 l1 buffer p same none = tt
+progress-failed service before (Some all) None next groups l0 l1 buffer p same none = absurd p
+progress-failed service before (Some all) (Some left) None groups l0 l1 buffer p same none = absurd same
+progress-failed service before (Some all) (Some left) (Some rest) groups l0 l1 buffer p same none =
+    record { read = p.read; rest = buffer; input_is = p.all_is ∙ ap (λ ys. p.read ++ ys) (sym same); taken = p.taken; no_line = none }
+
+-- ---- which error is answered
+
+-- what a line or want of memory ends is ended by no read
+pub not-read : (r : Result (Unit {0}) PortError) → IfErr r IsMemoryOrLine → ¬ (r ≡ Err Read)
+not-read (Ok x) kind same = cc
+not-read (Err Line) kind same = let k : Line ≡ Read = cc in cc
+not-read (Err Memory) kind same = let k : Memory ≡ Read = cc in cc
+not-read (Err Read) kind same = kind
+not-read (Err Write) kind same = kind
+
+-- so where its error is passed on
+pub passed-not-read : (r : Result (Unit {0}) PortError) (e : PortError) → r ≡ Err e → IsMemoryOrLine e → ¬ (r ≡ Err Read)
+passed-not-read r e is kind same = not-read (Err e) kind (sym is ∙ same)
+
+-- an error that is passed on is the one that was answered
+pub error-is : (r : Result (Unit {0}) PortError) (x e k : PortError) → r ≡ Err x → x ≡ e → r ≡ Err k → e ≡ k
+error-is r x e k made is same = cc
+
+pub passed-on : {T : Type 0} (r : Result (Unit {0}) PortError) (f : Result T PortError) (x e k : PortError) → r ≡ Err x → x ≡ e → f ≡ Err e → f ≡ Err k → r ≡ Err k
+passed-on r f x e k made is was same = (let one : e ≡ k = cc in made ∙ ap Err (is ∙ one))

@@ -1,12 +1,12 @@
 -- What is kept of a script while its lines come.
-use Rattle.std.specs.Prelude.{◌≡◌, ℕ, true, false, List, ◌++◌, length, Some, Result, Ok, Err, Vec, option_and_then, slice_get}
+use Rattle.std.specs.Prelude.{◌≡◌, ℕ, true, false, List, ◌++◌, length, Option, Some, None, Result, Ok, Err, Vec, option_and_then, slice_get}
 use Rattle.std.specs.Option.{option_map_or}
 use Rattle.std.specs.declared.alloc.Global.{Global}
 use Rattle.bh_base.specs.Commands.{command_count}
 use Rattle.bh_base.specs.Props.{GroupProps}
 use Rattle.bh_lines.specs.declared.port_error.PortError.{PortError}
 use Rattle.bh_lines.specs.declared.port_error.PortError.TheVariants.{Read, Write, Line, Memory}
-use Rattle.bh_lines.specs.Lines.{Cut, cut, stops}
+use Rattle.bh_lines.specs.Lines.{Cut, cut, has_line, stops}
 use Rattle.bh_port.specs.declared.groups.Entry.{Entry}
 use Rattle.bh_port.specs.Course.{Course, line_act}
 use Rattle.bh_port.specs.GroupsView.{GroupsView}
@@ -57,6 +57,21 @@ pub record TakenUpTo (service : SettingsView) (before : Course) (groups : Groups
   pub tallies : (group command : ℕ) (more : List ℕ) → tally_of service before (cut (old ++ more)) group command (tally_at l0 group command)
       ≡ tally_of service later (cut (new ++ more)) group command (tally_at l1 group command)
   pub stops_is : (more : List ℕ) → stops (cut (old ++ more)) ≡ stops (cut (new ++ more))
+
+-- Every line that had ended in what was read of `input` was taken: `left` was not read, and `rest` is of a line that had not
+-- ended.
+pub record IsWatchedRead (input left : List ℕ) (service : SettingsView) (before : Course) (groups : GroupsView) (l0 l1 : Lanes) : Type 0 where
+  pub read : List ℕ
+  pub rest : List ℕ
+  pub input_is : input ≡ read ++ left
+  pub taken : TakenUpTo service before groups l0 l1 read rest
+  pub no_line : has_line rest ≡ false
+
+-- the same of a reader that had these bytes left, if they are known, and has those left now
+abbrev pub HasWatched : Option (List ℕ) → Option (List ℕ) → SettingsView → Course → GroupsView → Lanes → Lanes → Type 0
+HasWatched None left service before groups l0 l1 = Unit {0}
+HasWatched (Some input) None service before groups l0 l1 = ⊥
+HasWatched (Some input) (Some left) service before groups l0 l1 = IsWatchedRead input left service before groups l0 l1
 
 -- what is kept once all lines of the bytes were taken that are cut so
 abbrev pub AllTallies : SettingsView → Course → Cut → Lanes → Lanes → Type 0
