@@ -102,6 +102,25 @@ class Case(unittest.TestCase):
             self.assertLess(time.monotonic(), end, "it does not come to hold")
             time.sleep(0.002)
 
+    def occupier(self, service: bulkhead.CommandService, name: str) -> Callable[[], contextlib.AbstractContextManager[None]]:
+        """What keeps both threads of a group busy by a further command of it, as long as its `with` block lasts."""
+        gates = [Gate()]
+        call = service.command(name)(lambda: gates[-1]())
+
+        @contextlib.contextmanager
+        def occupied() -> Iterator[None]:
+            gates.append(Gate())
+            futures = [call.queue(), call.queue()]
+            gates[-1].wait(2)
+            try:
+                yield
+            finally:
+                gates[-1].open()
+                for future in futures:
+                    future.result(5)
+
+        return occupied
+
     def assert_idle(self, service: bulkhead.CommandService) -> None:
         """No ticket is left, in Python and in the core."""
         self.until(lambda: not service.runs())

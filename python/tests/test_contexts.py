@@ -115,37 +115,27 @@ class Contexts(Case):
             raise ValueError
 
         call = service.command("pool", key=lambda number: 1, fallback=lambda number, *, cause: number)(fail)
-        with service.context():
+        with service.context(), self.occupier(service, "more")():
             futures = [call.queue(number) for number in (7, 8, 9)]
-            gate.wait()
             self.assertTrue(futures[0].cancel())
             gate.open()
-            self.assertEqual([future.result(5) for future in futures[1:]], [7, 7])
+        self.assertEqual([future.result(5) for future in futures[1:]], [7, 7])
         self.assert_idle(service)
 
     def test_holders_that_are_gone_run_no_fallback(self) -> None:
-        service, gate, ran = self.open(), Gate(), []
-
-        def fail() -> None:
-            gate()
-            raise ValueError
-
-        call = service.command("pool", key=lambda: 1, fallback=lambda *, cause: ran.append(1) or "later")(fail)
+        service, ran = self.open('service.command.held.group = "pool"\n' + SETTINGS), []
+        occupied = self.occupier(service, "held")
+        call = service.command("pool", key=lambda: 1, fallback=lambda *, cause: ran.append(1) or "later")(lambda: 1 // 0)
         with service.context():
-            futures = [call.queue() for _ in range(3)]
-            gate.wait()
-            self.assertTrue(futures[0].cancel())
-            self.assertTrue(futures[1].cancel())
-            gate.open()
-            self.assertEqual(futures[2].result(5), "later")
-            alone = Gate()
+            with occupied():
+                futures = [call.queue() for _ in range(2)]
+                self.assertTrue(futures[0].cancel())
+            self.assertEqual(futures[1].result(5), "later")
         self.assertEqual(ran, [1])
-        more = service.command("more", key=lambda: 1, fallback=lambda *, cause: ran.append(2))(lambda: alone() or 1 // 0)
+        more = service.command("more", key=lambda: 1, fallback=lambda *, cause: ran.append(2))(lambda: 1 // 0)
         with service.context():
-            future = more.queue()
-            alone.wait()
-            self.assertTrue(future.cancel())
-            alone.open()
+            with occupied():
+                self.assertTrue(more.queue().cancel())
             self.until(lambda: service.metrics("more").fallback_missing == 1)
         self.assertEqual(ran, [1])
         self.assert_idle(service)

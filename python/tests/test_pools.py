@@ -185,6 +185,45 @@ class Pools(Case):
         gate.open()
         self.assert_idle(service)
 
+    def test_a_future_whose_function_runs_is_running_and_cannot_be_cancelled(self) -> None:
+        service, gate = self.open(), Gate()
+        future = service.command("pool")(gate).queue(7)
+        gate.wait()
+        self.assertEqual((future.running(), future.cancel(), future.cancelled()), (True, False, False))
+        gate.open()
+        self.assertEqual(future.result(5), 7)
+        self.assert_idle(service)
+
+    def test_a_future_that_shares_a_run_which_goes_on_is_running_too(self) -> None:
+        service, gate = self.open(), Gate()
+        call = service.command("pool", key=lambda value: value)(gate)
+        with service.context():
+            first = call.queue(7)
+            gate.wait()
+            second = call.queue(7)
+            self.assertEqual((second.running(), second.cancel()), (True, False))
+            gate.open()
+            self.assertEqual((first.result(5), second.result(5), call.queue(7).result(5)), (7, 7, 7))
+        self.assert_idle(service)
+
+    def test_a_future_whose_fallback_runs_cannot_be_cancelled(self) -> None:
+        service, gate = self.open(), Gate()
+        future = service.command("pool", fallback=lambda *, cause: gate(7))(lambda: 1 // 0).queue()
+        gate.wait()
+        self.assertFalse(future.cancel())
+        gate.open()
+        self.assertEqual(future.result(5), 7)
+
+    def test_whoever_waits_for_a_cancelled_future_is_told(self) -> None:
+        service, gate = self.open(), Gate()
+        call = service.command("pool")(gate)
+        held = [call.queue(), call.queue()]
+        gate.wait(2)
+        cancelled = call.queue()
+        self.assertTrue(cancelled.cancel())
+        gate.open()
+        self.assertEqual(wait([*held, cancelled], timeout=5).not_done, set())
+
     def test_a_cancelled_future_is_not_run(self) -> None:
         service, gate, ran = self.open(), Gate(), []
         call = service.command("pool")(gate)

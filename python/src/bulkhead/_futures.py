@@ -2,6 +2,7 @@
 
 from __future__ import annotations
 
+import threading
 from concurrent.futures import Future, InvalidStateError
 from typing import TYPE_CHECKING, Any
 
@@ -16,14 +17,23 @@ if TYPE_CHECKING:
 class FutureHolder(Holder):
     """A future that is answered by the thread which ends the ticket, or by a helper of the group."""
 
-    _has_notified = False
+    # whether a coroutine that awaited it was cancelled, which the future of a run that goes on cannot be
+    is_unwanted = False
 
     def __init__(self, turns: Core) -> None:
         self._turns = turns
         self.future: Future[Any] = Future()
+        self._beginning, self._has_begun = threading.RLock(), False
 
     def is_gone(self) -> bool:
-        return self.has_left or self.future.cancelled()
+        return self.has_left or self.is_unwanted or self.future.cancelled()
+
+    def begin(self) -> None:
+        """From now on it is running, and cannot be cancelled; where it was before, whoever waits is told so."""
+        with self._beginning:
+            if not self._has_begun:
+                self._has_begun = True
+                self.future.set_running_or_notify_cancel()
 
     def tell(self, by_timer: bool) -> None:
         run = self.run
@@ -37,20 +47,20 @@ class FutureHolder(Holder):
     def resolve(self) -> None:
         """Hands the answer to the future. May be called again where it was interrupted."""
         future = self.future
+        self.begin()
         try:
             if self.outcome in (words.VALUE, words.FALLBACK_VALUE):
                 future.set_result(self.value)
             else:
                 future.set_exception(self.exception())
-        except InvalidStateError:  # it was cancelled, or has its answer
-            if future.cancelled() and not self._has_notified:
-                self._has_notified = True
-                future.set_running_or_notify_cancel()
+        except InvalidStateError:
+            pass  # it was cancelled, or has its answer
 
     def _fall_back(self) -> None:
         """Runs the fallback in the variables of the ticket's first caller; that turn tells the future again."""
         turns, run = self._turns, self.run
         assert run is not None, "a fallback is of a ticket"
+        self.begin()
         try:
             variables = run.variables.copy() if run.variables is not None else None
             ended = variables.run(turns.run_fallback, run) if variables else turns.run_fallback(run)

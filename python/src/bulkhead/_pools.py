@@ -110,6 +110,9 @@ def _run(run: Run) -> End:
     waiting = run.waiting
     if waiting and waiting[0].is_gone() and not run.is_cached and all([holder.is_gone() for holder in waiting]):
         return words.FAIL_BAD_REQUEST, None, None
+    run.has_begun = True  # whoever joins from now on looks at it
+    for holder in run.waiting:
+        holder.begin()
     assert run.variables is not None, "a run of a worker"
     ended: End = run.variables.run(run.perform)
     return ended

@@ -59,7 +59,7 @@ class Run:
     # what stands in the class need not be set for each run; what a usual call reads is set, as that is read sooner
     ticket = started = cause = 0
     state, due = LIVE, inf
-    is_queued = False
+    is_queued = has_begun = False
     waiting = NOBODY
     value: Any = None
     error: Optional[BaseException] = None
@@ -149,6 +149,9 @@ class Holder:
 
     def wait_ready(self) -> None:
         """Called under the lock, before it may be told."""
+
+    def begin(self) -> None:
+        """The function, or the fallback, begins to run. May be called again."""
 
     def tell(self, by_timer: bool) -> None:
         """Lets whoever waits go on. May be called twice."""

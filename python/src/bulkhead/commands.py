@@ -130,7 +130,24 @@ class Command(_CoreDeclared, Generic[P, R]):
         return answer
 
     def queue(self, *args: P.args, **kwargs: P.kwargs) -> Future[R]:
-        """Queues the command, which has to run under THREAD: a future of what a call would give or raise."""
+        """Queues the command, which has to run under THREAD: a future of what a call would give or raise.
+
+        It can be cancelled until its function begins to run.
+        """
+        return self._queued(args, kwargs).future
+
+    async def run(self, *args: P.args, **kwargs: P.kwargs) -> R:
+        """The same for a coroutine: awaits what a call would give. Where it is cancelled nobody waits for the run."""
+        holder = self._queued(args, kwargs)
+        try:
+            value: R = await asyncio.wrap_future(holder.future)
+        except asyncio.CancelledError:
+            holder.is_unwanted = True
+            raise
+        return value
+
+    def _queued(self, args: tuple[Any, ...], kwargs: dict[str, Any]) -> FutureHolder:
+        """A call that was submitted, as a future."""
         if not self._is_pooled:
             raise not_queued(self.name)
         run = self._run(args, kwargs)
@@ -145,14 +162,12 @@ class Command(_CoreDeclared, Generic[P, R]):
                 holder.resolve()
             elif holder.outcome == UNTOLD and holder.run is not run:
                 self._refuse_own(holder)
+            if holder.run is not None and holder.run.has_begun:
+                holder.begin()
         except BaseException as error:
             self._leave(holder, error)
             raise
-        return holder.future
-
-    async def run(self, *args: P.args, **kwargs: P.kwargs) -> R:
-        """The same for a coroutine: awaits what a call would give. To cancel it is to cancel the future."""
-        return await asyncio.wrap_future(self.queue(*args, **kwargs))
+        return holder
 
     def _refuse_own(self, holder: Holder) -> None:
         """Raises where the caller, who shares the answer of another call, would wait for a run of its own thread."""
