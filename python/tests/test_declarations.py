@@ -2,6 +2,7 @@
 
 from __future__ import annotations
 
+import asyncio
 import json
 import subprocess
 import sys
@@ -10,6 +11,8 @@ import time
 
 import bulkhead
 from support import SETTINGS, Case, Gate
+
+OTHER = '[hystrix.command.other]\nexecution.isolation.strategy = "SEMAPHORE"\n'
 
 
 class Declarations(Case):
@@ -59,6 +62,47 @@ class Declarations(Case):
 
         with self.assertRaises(bulkhead.Refused):
             self.open().command("pool", fallback=fallback)(lambda: 1)
+
+    def test_of_a_command_of_a_command_both_decide_the_outer_one_first(self) -> None:
+        service = self.open()
+
+        @service.command("permits", fallback=lambda order, *, cause: f"{cause}, by {cause.__cause__!r}")
+        @service.command("pool")
+        def charge(order: int) -> str:
+            """Charges an order."""
+            return f"{threading.current_thread().name} {1 // order}"
+
+        self.assertEqual((charge.name, charge.__name__, charge.__doc__), ("permits", "charge", "Charges an order."))
+        self.assertEqual(charge(1), "bulkhead-pool-worker 1")
+        self.assertIn("Failed('pool: failure", charge(0))
+        counts = {name: (told.success, told.failure) for name, told in service.metrics().items()}
+        self.assertEqual(counts, {"permits": (1, 1), "pool": (1, 1), "more": (0, 0)})
+
+    def test_a_command_of_a_method_may_be_one_of_a_command(self) -> None:
+        service = self.open()
+
+        class Shop:
+            @service.command("permits")
+            @service.command("pool")
+            def price(self, item: int) -> int:
+                return 2 * item
+
+        self.assertEqual(Shop().price(7), 14)
+        self.assertEqual([service.metrics(name).success for name in ("permits", "pool")], [1, 1])
+
+    def test_a_command_of_an_awaited_command_is_awaited_too(self) -> None:
+        service = self.open("service.command.other.group = \"permits\"\n" + SETTINGS + OTHER)
+
+        @service.command("other")
+        @service.command("permits")
+        async def look_up(item: int) -> int:
+            await asyncio.sleep(0)
+            return 2 * item
+
+        self.assertEqual(asyncio.run(look_up(7)), 14)
+        self.assertEqual([service.metrics(name).success for name in ("permits", "other")], [1, 1])
+        with self.assertRaises(bulkhead.Refused):
+            service.command("pool", fallback=look_up)(lambda: 1)
 
     def test_every_error_of_a_call_is_a_command_error_and_an_error(self) -> None:
         names = "ShortCircuited PoolRejected SemaphoreRejected TimedOut Failed GroupFull Worn Stopped Interrupted"

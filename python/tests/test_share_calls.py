@@ -50,6 +50,14 @@ class Calls(ShareCase):
         self.assertEqual(self.fake.lines[1][1], {"op": "metrics", "group": "catalog", "command": "report"})
         self.assertEqual(self.fake.lines[3][1], {"op": "submit", "group": "catalog", "command": "report", "arg": ""})
 
+    def test_of_a_command_of_a_command_both_decide_the_outer_one_first(self) -> None:
+        client = self.client()
+        outer = client.command("catalog")(client.command("report")(lambda item: [item]))
+        self.assertEqual((outer.name, outer("lamp")), ("catalog", ["lamp"]))
+        submits = [line.get("command") for _, line in self.fake.lines if line["op"] == "submit"]
+        self.assertEqual(submits, [None, "report"])
+        self.assert_settled()
+
     def test_a_failure_names_its_cause(self) -> None:
         reason = Own("down")
 

@@ -18,10 +18,17 @@ class Declared:
     """A command that was made of a function."""
 
     def __init__(self, body: Body) -> None:
+        # of a command below it nothing but its name and its text is taken over: both decide, this one first
+        attributes = () if isinstance(body.function, Declared) else functools.WRAPPER_UPDATES
+        functools.update_wrapper(self, body.function, updated=attributes)
         self._body = body
         # the instance, where it is the command of a method that was bound
         self._bound: tuple[Any, ...] = ()
-        functools.update_wrapper(self, body.function)
+
+    @property
+    def is_awaited(self) -> bool:
+        """Whether it is the command of a coroutine function."""
+        return self._body.is_awaited
 
     @property
     def name(self) -> str:
@@ -39,10 +46,15 @@ class Declared:
 
 def is_coroutine_command(name: str, function: Callable[..., Any], fallback: Optional[Callable[..., Any]]) -> bool:
     """Whether the command of a function is awaited. `Refused` where its fallback alone would be."""
-    is_coroutine = _coroutines.is_coroutine_function(function)
-    if not is_coroutine and _coroutines.is_coroutine_function(fallback):
+    is_coroutine = _is_awaited(function)
+    if not is_coroutine and _is_awaited(fallback):
         raise Refused(f"the fallback of {name} is a coroutine function, and the function is none")
     return is_coroutine
+
+
+def _is_awaited(function: object) -> bool:
+    """Whether a call of a function, or of another command, is awaited."""
+    return function.is_awaited if isinstance(function, Declared) else _coroutines.is_coroutine_function(function)
 
 
 def not_queued(name: str) -> Refused:
