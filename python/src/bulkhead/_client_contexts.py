@@ -22,6 +22,9 @@ _NUMBERS = 1 << 64
 class _Direct:
     """In the place of turns: what a context does at its end is done at once."""
 
+    def __init__(self) -> None:
+        self.owed: list[RequestContext] = []
+
     def turn(self, begin: Callable[..., Any], *arguments: Any) -> Any:
         return begin(*arguments)
 

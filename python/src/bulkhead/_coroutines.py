@@ -172,6 +172,7 @@ async def execute(
             await holder.wait()
     except BaseException as error:
         carried = run.task
+        turns.owed += (holder,)  # where the stack has no room for the call below
         leave(holder, error)
         if carried is not None:
             carried.cancel_unless_wanted()

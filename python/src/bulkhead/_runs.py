@@ -150,6 +150,10 @@ class Holder:
     def wait_ready(self) -> None:
         """Called under the lock, before it may be told."""
 
+    def give_back(self, turns: Core) -> None:
+        """What it owes is done, where that was not possible before."""
+        turns.leave(self)
+
     def begin(self) -> None:
         """The function, or the fallback, begins to run. May be called again."""
 

@@ -19,6 +19,7 @@ from ._groups import Group, Place
 from ._recording import Act
 from ._runs import Caller, Run
 from ._transitions import Transition
+from ._unraisable import tell_unraisable
 from .errors import BadStep, Reentered, Stopped
 
 if TYPE_CHECKING:
@@ -42,6 +43,12 @@ class Told(Protocol):
     def tell(self, by_timer: bool) -> None: ...
 
 
+class Owed(Protocol):
+    """Something that could not be done where it came up, as too deep in the stack or in the midst of a turn."""
+
+    def give_back(self, turns: Any) -> None: ...
+
+
 class Work(Protocol):
     """Something that steps have still to be made for in the same turn."""
 
@@ -55,6 +62,16 @@ T = TypeVar("T")
 
 # of no turn: nobody is ever put into it
 _NOBODY: list[Told] = []
+
+
+class _Unfinished:
+    """Has the next turn look at what a turn left half done."""
+
+    def give_back(self, turns: Turns) -> None:
+        """All was done before it."""
+
+
+_UNFINISHED = (_Unfinished(),)
 
 
 def _spread(begin: Callable[..., T], arguments: tuple[Any, ...], _: None) -> T:
@@ -87,6 +104,9 @@ class Turns:
         self.told: list[Told] = _NOBODY
         self.unit: Optional[Unit] = None
         self.todo: list[Work] = []
+        # what the next turn does first; `+=` of a tuple adds to it, which is no call and so never too deep in the stack
+        self.owed: list[Owed] = []
+        self._untold: list[Told] = []
         self._is_noted = True
         self.kind_at = _KIND_AT
         self.is_open, self._has_acted = True, False
@@ -123,10 +143,13 @@ class Turns:
                     raise Reentered("a command was called in the midst of a turn, as by a finalizer or a signal handler")
                 self.told, self._moment = told, None
                 try:
+                    if self.owed:
+                        self._catch_up()
                     result = begin(one, other, more)
                     if self.todo:
                         self.settle()
                 except BaseException:
+                    self.owed += _UNFINISHED
                     self._mend()
                     raise
                 finally:
@@ -139,9 +162,14 @@ class Turns:
                     try:
                         _tell_each(told, by_timer)
                         break
+                    except RecursionError as error:
+                        stopped = error
+                        break
                     except BaseException as error:
                         stopped = error
                 if stopped is not None:
+                    self._untold += told
+                    self.owed += _UNFINISHED
                     raise stopped
 
     def work_done(self) -> None:
@@ -154,8 +182,29 @@ class Turns:
         while todo:
             todo[-1].go_on(self)
 
+    def _catch_up(self) -> None:
+        """Does what was owed. Where it is too deep in the stack for it here too, this turn fails, and the next one does it."""
+        self._mend()
+        if self.unit is not None or self.todo:
+            raise RecursionError("what an earlier turn left half done is too deep here")
+        self.told += self._untold
+        self._untold.clear()
+        owed = self.owed
+        while owed:
+            try:
+                owed[0].give_back(self)
+                self.settle()
+            except RecursionError:
+                raise
+            except Exception as error:
+                tell_unraisable(error, owed[0])
+            del owed[0]
+
     def _mend(self) -> None:
-        """Brings to its end what an exception left half done. Another exception in the midst of it does not stop it."""
+        """Brings to its end what an exception left half done. Another exception in the midst of it does not stop it.
+
+        What is too deep in the stack is left to the next turn.
+        """
         for _ in AGAIN:
             try:
                 unit = self.unit
@@ -166,6 +215,8 @@ class Turns:
                     done(one, other, more)
                 self.unit = None
                 self.settle()
+                return
+            except RecursionError:
                 return
             except BaseException:
                 continue

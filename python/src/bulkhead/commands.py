@@ -14,7 +14,7 @@ from . import _coroutines, _words as words
 from ._declared import Declared, not_queued
 from ._futures import FutureHolder
 from ._groups import Place
-from ._runs import UNTOLD, Body, Caller, Holder, Run, Waiter
+from ._runs import STILL_OPEN, UNTOLD, Body, Caller, Holder, Run, Waiter
 from .contexts import checked_key
 from .errors import BadRequest, Reentered, Refused
 
@@ -124,7 +124,9 @@ class Command(_CoreDeclared, Generic[P, R]):
                 run = holder.run
                 turn(self._turns.end_fallback, run, self._turns.run_fallback(run), holder)
         except BaseException as error:
-            self._leave(holder, error)
+            if holder.outcome in STILL_OPEN:
+                self._turns.owed += (holder,)  # where the stack has no room for the call below
+                self._leave(holder, error)
             raise
         answer: R = holder.answer()
         return answer
@@ -165,7 +167,9 @@ class Command(_CoreDeclared, Generic[P, R]):
             if holder.run is not None and holder.run.has_begun:
                 holder.begin()
         except BaseException as error:
-            self._leave(holder, error)
+            if holder.outcome in STILL_OPEN:
+                self._turns.owed += (holder,)  # where the stack has no room for the call below
+                self._leave(holder, error)
             raise
         return holder
 

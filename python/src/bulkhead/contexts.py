@@ -10,7 +10,7 @@ from typing import TYPE_CHECKING, Any, Optional
 
 from . import _library, _words as words
 from ._turns import AGAIN
-from .errors import BadKey, Error
+from .errors import BadKey, Error, Reentered
 
 if TYPE_CHECKING:
     from ._core import Core
@@ -58,12 +58,16 @@ class RequestContext(IOBase):
         finally:
             for _ in AGAIN:
                 try:
-                    if self.is_open:
-                        self._turns.turn(self._close)
                     if self._current.get() is self:
                         self._current.set(before)
+                    if self.is_open:
+                        self._turns.turn(self._close)
+                    break
+                except Reentered:  # as in a finalizer within a turn
+                    self._turns.owed += (self,)
                     break
                 except Exception:
+                    self._turns.owed += (self,)
                     raise
                 except BaseException as stopped:
                     interrupt = stopped
@@ -78,6 +82,11 @@ class RequestContext(IOBase):
         turns = self._turns
         turns.todo += (self,)
         self.is_open = False
+
+    def give_back(self, turns: Core) -> None:
+        """Ends the context, where that was not possible before."""
+        if self.is_open:
+            self._close()
 
     def go_on(self, turns: Core) -> None:
         """Ends the context in the next of its groups."""
