@@ -15,6 +15,7 @@ import unittest
 import warnings
 from collections.abc import Callable, Iterator
 from pathlib import Path
+from types import SimpleNamespace
 from typing import Any, Optional
 
 import bulkhead
@@ -94,6 +95,13 @@ class Case(unittest.TestCase):
         finally:
             logger.setLevel(level)
             sys.unraisablehook = hook
+
+    def hooked(self) -> list[Any]:
+        """What is told to `sys.unraisablehook` until the test ends."""
+        told: list[Any] = []
+        self.addCleanup(setattr, sys, "unraisablehook", sys.unraisablehook)
+        sys.unraisablehook = lambda one: told.append(SimpleNamespace(exc_type=one.exc_type, object=repr(one.object)))
+        return told
 
     def until(self, holds: Callable[[], object], seconds: float = 5) -> None:
         """Waits until something holds that another thread brings about."""

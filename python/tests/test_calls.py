@@ -5,6 +5,7 @@ from __future__ import annotations
 import threading
 from concurrent.futures import Future
 from typing import Any
+from unittest import mock
 
 import bulkhead
 from support import SETTINGS, Case, Gate
@@ -187,6 +188,7 @@ class Calls(Case):
         hand.now, is_down = 5600, False
         self.assertEqual(call(), 1)
         self.assertEqual(service.metrics("permits").circuit, "closed")
+        self.until(lambda: len(changes) == 3)
         steps = [("closed", "open"), ("open", "half-open"), ("half-open", "closed")]
         self.assertEqual(changes, [("permits", *step) for step in steps])
 
@@ -201,22 +203,59 @@ class Calls(Case):
         call()
         hand.now = 600
         call()
+        self.until(lambda: seen)
         self.assertEqual(seen, [("open", 7)])
         self.assert_idle(service)
 
-    def test_what_on_transition_raises_disturbs_no_call(self) -> None:
-        def refuse(*_: str) -> None:
-            raise Own
-
+    def changing(self, call: Any) -> Any:
+        """A service whose circuit of `permits` opens with its first failure, and what has it fail, or succeed."""
         service, hand = self.by_hand(
-            SETTINGS + "\n[hystrix.command.permits.circuitBreaker]\nrequestVolumeThreshold = 1\n", on_transition=refuse
+            SETTINGS + "\n[hystrix.command.permits.circuitBreaker]\nrequestVolumeThreshold = 1\n", on_transition=call
         )
-        call = service.command("permits")(lambda: 1 // 0)
-        with self.assertRaises(bulkhead.Failed):
-            call()
-        hand.now = 600
-        with self.assertLogs("bulkhead", "ERROR"), self.assertRaises(bulkhead.ShortCircuited):
-            call()
+        is_down = True
+        function = service.command("permits", fallback=lambda *, cause: type(cause).__name__)(lambda: 1 // (not is_down))
+
+        def made(down: bool, now: int) -> Any:
+            nonlocal is_down
+            is_down, hand.now = down, now
+            return function()
+
+        return service, made
+
+    def test_what_on_transition_raises_is_told_and_disturbs_no_call(self) -> None:
+        told: list[Any] = []
+
+        def refuse(*change: str) -> None:
+            told.append(change)
+            raise SystemExit
+
+        hooked = self.hooked()
+        _, made = self.changing(refuse)
+        self.assertEqual([made(True, 0), made(True, 600), made(False, 5600)], ["Failed", "ShortCircuited", 1])
+        self.until(lambda: len(hooked) == 3)
+        self.assertEqual([change[2] for change in told], ["open", "half-open", "closed"])
+        self.assertEqual({one.exc_type for one in hooked}, {SystemExit})
+
+    def test_no_call_waits_for_on_transition(self) -> None:
+        gate, told = Gate(), []
+        service, made = self.changing(lambda *change: (gate(), told.append(change)))
+        self.assertEqual([made(True, 0), made(True, 600), made(False, 5600)], ["Failed", "ShortCircuited", 1])
+        self.assertEqual((service.metrics("permits").circuit, told), ("closed", []))
+        gate.open()
+        self.until(lambda: len(told) == 3)
+        self.assertEqual([change[2] for change in told], ["open", "half-open", "closed"])
+
+    def test_changes_for_which_there_is_no_room_are_counted(self) -> None:
+        gate = Gate()
+        service, made = self.changing(lambda *change: gate())
+        with mock.patch("bulkhead._transitions.ROOM", 1):
+            made(True, 0)
+            made(True, 600)
+            gate.wait()
+            made(False, 5600)
+        self.assertEqual(service.dropped_transitions, 1)
+        self.assertIn("\nbulkhead_dropped_transitions_total 1\n", service.prometheus())
+        gate.open()
 
     def test_a_command_reads_as_its_function(self) -> None:
         service = self.open()

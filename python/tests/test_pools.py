@@ -20,6 +20,14 @@ metrics.healthSnapshot.intervalInMilliseconds = 0
 """
 
 
+LONG = SETTINGS + "[hystrix.command.default]\nexecution.isolation.thread.timeoutInMilliseconds = 60000\n"
+
+
+def no_threads() -> Any:
+    """Within it no thread can be started."""
+    return mock.patch.object(threading.Thread, "start", side_effect=RuntimeError("can't start new thread"))
+
+
 def name_of_thread(*_: Any, **__: Any) -> str:
     return threading.current_thread().name
 
@@ -71,6 +79,107 @@ class Pools(Case):
             futures = [call.queue(number) for number in range(3)]
             self.assertEqual([future.result(5) for future in futures], [0, 1, 2])
         self.assertEqual(len(self.workers("pool")), 1)
+        self.assert_idle(service)
+
+    def test_a_worker_that_could_not_be_started_is_tried_again_by_the_timer(self) -> None:
+        service, gate = self.open(LONG), Gate()
+        call = service.command("pool")(gate)
+        call.queue(1)
+        gate.wait()
+        with no_threads() as refused:
+            call.queue(2)
+            self.until(lambda: refused.call_count > 2)
+        gate.wait()
+        gate.open()
+        self.assertEqual(len(self.workers("pool")), 2)
+        self.assert_idle(service)
+
+    def test_a_timeout_for_which_no_thread_can_be_started_is_answered_and_the_timer_goes_on(self) -> None:
+        service, gate = self.open(SHORT), Gate()
+        call = service.command("pool", fallback=lambda *, cause: type(cause).__name__)(gate)
+        other = service.command("more", fallback=lambda *, cause: type(cause).__name__)(gate)
+        futures = [call.queue()]
+        gate.wait()
+        with no_threads():
+            self.assertEqual(futures[0].result(5), "TimedOut")
+            self.assertEqual(other(), "TimedOut")
+            self.assertIn(call.queue().result(5), ("TimedOut", "ShortCircuited"))
+        gate.open()
+        self.assert_idle(service)
+
+    def test_a_thread_of_a_pool_that_can_start_no_helper_goes_on(self) -> None:
+        service = self.open()
+        call = service.command("pool", fallback=lambda *, cause: "later")(lambda: 1 // 0)
+        self.assertEqual(call.queue().result(5), "later")
+        with no_threads():
+            self.assertEqual([call.queue().result(5) for _ in range(3)], ["later"] * 3)
+        self.assertEqual(len(self.workers("pool")), service.turns.groups["pool"].threads)
+        self.assert_idle(service)
+
+    def test_a_helper_that_can_be_started_again_does_what_was_left(self) -> None:
+        service, gate = self.open(), Gate()
+        call = service.command("pool", fallback=lambda *, cause: gate(name_of_thread()))(lambda: 1 // 0)
+        call.queue()
+        gate.wait()
+        with no_threads():
+            stuck = call.queue()  # the spare thread is at it
+            gate.wait()
+            left = call.queue()
+            self.until(lambda: service.turns.groups["pool"].helpers._left)
+        service.command("more", fallback=lambda *, cause: 7)(lambda: 1 // 0).queue().result(5)
+        gate.wait()
+        gate.open()
+        self.assertEqual({stuck.result(5), left.result(5)}, {"bulkhead-pool-helper"})
+        self.assert_idle(service)
+
+    def test_what_a_callback_of_a_future_raises_ends_no_thread(self) -> None:
+        def leave(_: Future[Any]) -> None:
+            raise SystemExit
+
+        hooked, gate = self.hooked(), Gate()
+        service = self.open()
+        call = service.command("pool")(gate)
+        call.queue(1).add_done_callback(leave)
+        gate.open()
+        self.until(lambda: hooked)
+        self.assertEqual([call.queue(number).result(5) for number in range(3)], [0, 1, 2])
+        self.assertEqual(len(self.workers("pool")), service.turns.groups["pool"].threads)
+        self.assert_idle(service)
+
+    def test_a_turn_that_raises_ends_no_worker_and_is_made_again(self) -> None:
+        hooked, service, gate = self.hooked(), self.open(LONG), Gate()
+        future = service.command("pool")(gate).queue(1)
+        gate.wait()
+        with mock.patch.object(service.turns, "end", side_effect=MemoryError):
+            gate.open()
+            self.until(lambda: hooked)
+        self.assertEqual(future.result(5), 1)
+        self.assert_idle(service)
+
+    def test_a_turn_that_raises_does_not_end_the_timer(self) -> None:
+        hooked, service, gate = self.hooked(), self.open(SHORT), Gate()
+        with mock.patch.object(service.turns, "next_due", side_effect=MemoryError):
+            future = service.command("pool")(gate).queue(1)
+            self.until(lambda: hooked)
+        self.assertIsInstance(future.exception(5), bulkhead.TimedOut)
+        gate.open()
+        self.assert_idle(service)
+
+    def test_a_fallback_whose_end_cannot_be_told_is_told_by_the_next_turn(self) -> None:
+        hooked, service = self.hooked(), self.open(LONG)
+        future = service.command("pool", fallback=lambda *, cause: 7)(lambda: 1 // 0).queue
+        turn_of = service.turns.turn_of
+
+        def failing(begin: Any, *rest: Any) -> Any:
+            if begin == service.turns.end_fallback:
+                raise MemoryError
+            return turn_of(begin, *rest)
+
+        with mock.patch.object(service.turns, "turn_of", failing):
+            told = future()
+            self.until(lambda: hooked)
+        self.assertEqual(service.command("more")(lambda: 1)(), 1)
+        self.assertEqual(told.result(5), 7)
         self.assert_idle(service)
 
     def test_a_worker_that_is_woken_for_nothing_sleeps_again(self) -> None:
@@ -179,9 +288,8 @@ class Pools(Case):
         with self.assertRaises(bulkhead.TimedOut):
             call(False)
         self.until(lambda: len(told) == 3)
-        main, own = "MainThread", "bulkhead-pool-transition"
-        changes = [("closed", "open", main), ("open", "half-open", main), ("half-open", "open", own)]
-        self.assertEqual(told, [("pool", *change) for change in changes])
+        changes = [("closed", "open"), ("open", "half-open"), ("half-open", "open")]
+        self.assertEqual(told, [("pool", *change, "bulkhead-transitions") for change in changes])
         gate.open()
         self.assert_idle(service)
 

@@ -78,7 +78,7 @@ class Answers(Submits):
             run.state = FALLBACK_DUE if operation == _FAIL else ANSWERED
             run.value, run.error = value, error
         if changes:
-            place.circuit.state, place.circuit.test, told_of = changes
+            place.circuit.state, place.circuit.test, self.changes, told_of = changes
             self.told += told_of
         if row is not None:
             row[bucket] += 1

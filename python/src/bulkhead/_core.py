@@ -13,6 +13,7 @@ from ._groups import Group, Place
 from ._pools import Worker
 from ._runs import FALLBACK_DUE, LIVE, RETIRED, STOPPED, Run
 from ._timer import Timer
+from ._transitions import Teller
 from .errors import NoSuchGroup, Stopped, Worn
 
 if TYPE_CHECKING:
@@ -33,10 +34,24 @@ class Core(Answers):
         self.loops: dict[AbstractEventLoop, dict[Union[Awaiter, Carried], None]] = {}
         # the moment of the latest step when the timer looked last
         self._looked_at = -1
+        # the groups for which a worker could not be started, which the timer tries again
+        self.short: set[Group] = set()
 
     def new_worker(self, group: Group) -> Worker:
         """A worker of the group, whose thread starts when it is told."""
         return Worker(self, group)
+
+    def start_teller(self, call: Callable[[str, str, str], object]) -> None:
+        """Has changes of circuit breakers told from now on."""
+        teller = Teller(self, call)
+        teller.start()
+        self.teller = teller
+
+    def fall_short(self, group: Group) -> None:
+        if group not in self.short:
+            self.short.add(group)
+            if self.alarm is not None:
+                self.say(self.alarm)
 
     # -- time
 
@@ -66,13 +81,20 @@ class Core(Answers):
                 self.told += (run.task,)
             changes = self.circuit_changes(place, place.circuit.ended(run.ticket, False))
             if changes:
-                place.circuit.state, place.circuit.test, told_of = changes
+                place.circuit.state, place.circuit.test, self.changes, told_of = changes
                 self.told += told_of
             if run.state == LIVE:
                 run.state, group.queued = FALLBACK_DUE, group.queued - run.is_queued
                 place.counters.timeouts += 1
         self.todo += late
         self.unit = None
+
+    def hire_again(self) -> None:
+        """Starts workers that could not be started before, where work waits for them."""
+        self.short = {group for group in self.short if group.queued and group.threads < group.core_size}
+        for group in self.short:
+            for _ in range(min(group.queued, group.core_size - group.threads)):
+                self.hire(group)
 
     def expire_all(self) -> int:
         """Times out what is due in all groups, and tells how many tickets those were."""
@@ -134,8 +156,9 @@ class Core(Answers):
             for group in [*self.groups.values()]:
                 self.end_group(group, STOPPED)
             self.is_open = False
-            if self.alarm is not None:
-                self.say(self.alarm)
+            for thread in (self.alarm, self.teller):
+                if thread is not None:
+                    self.say(thread)
             self._opened.close()
 
     def locks(self) -> list[Any]:

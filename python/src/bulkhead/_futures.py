@@ -4,11 +4,10 @@ from __future__ import annotations
 
 import threading
 from concurrent.futures import Future, InvalidStateError
-from typing import TYPE_CHECKING, Any
+from typing import TYPE_CHECKING, Any, Optional
 
 from . import _words as words
-from ._pools import help_out
-from ._runs import Holder
+from ._runs import FallbackEnd, Holder
 
 if TYPE_CHECKING:
     from ._core import Core
@@ -19,6 +18,8 @@ class FutureHolder(Holder):
 
     # whether a coroutine that awaited it was cancelled, which the future of a run that goes on cannot be
     is_unwanted = False
+    # how its fallback ended, where that may have to be told by another turn
+    _fell_back: Optional[FallbackEnd] = None
 
     def __init__(self, turns: Core) -> None:
         self._turns = turns
@@ -27,6 +28,12 @@ class FutureHolder(Holder):
 
     def is_gone(self) -> bool:
         return self.has_left or self.is_unwanted or self.future.cancelled()
+
+    def give_back(self, turns: Core) -> None:
+        if self._fell_back is None or self.run is None:
+            super().give_back(turns)
+        elif self.outcome == words.RUN_FALLBACK:
+            turns.end_fallback(self.run, self._fell_back, self)
 
     def begin(self) -> None:
         """From now on it is running, and cannot be cancelled; where it was before, whoever waits is told so."""
@@ -40,7 +47,7 @@ class FutureHolder(Holder):
         if self.has_left:
             return
         if run is not None and (by_timer or self.outcome == words.RUN_FALLBACK):
-            help_out(run.group, self._fall_back if self.outcome == words.RUN_FALLBACK else self.resolve)
+            run.group.helpers.help_out(self._fall_back if self.outcome == words.RUN_FALLBACK else self.resolve)
         elif not self.is_open():
             self.resolve()
 
@@ -66,6 +73,11 @@ class FutureHolder(Holder):
             ended = variables.run(turns.run_fallback, run) if variables else turns.run_fallback(run)
         except BaseException:
             ended = words.FALLBACK_FAILURE, None
-        turns.turn_of(turns.end_fallback, run, ended, self)
+        self._fell_back = ended
+        try:
+            turns.turn_of(turns.end_fallback, run, ended, self)
+        except BaseException:
+            turns.owed += (self,)
+            raise
         if not self.is_open():
             self.resolve()

@@ -6,6 +6,7 @@ from math import inf
 from typing import TYPE_CHECKING
 
 from . import _words as words
+from ._helpers import Helpers
 from .metrics import Counters
 from .settings import CommandSettings, GroupSettings
 
@@ -66,6 +67,7 @@ class Group:
         self.queued = self.threads = 0
         self.idle: list[Worker] = []
         self.workers: list[Worker] = []
+        self.helpers = Helpers(name)
         # why no step is handed in any more: 0, STOPPED, RETIRED or WORN
         self.over = 0
 

@@ -1,20 +1,23 @@
-"""The threads of a group: workers, which run functions, and helpers, which run what a timeout sets off."""
+"""The pool of a group: its workers, which run functions."""
 
 from __future__ import annotations
 
 import threading
-from collections.abc import Callable
 from typing import TYPE_CHECKING, Any, Optional
 
 from . import _library, _words as words
 from ._groups import Group
-from ._runs import End, Run, Waiter
+from ._helpers import NO_THREAD
+from ._runs import End, Run, Waiter, end_of
+from ._unraisable import tell_unraisable
 
 if TYPE_CHECKING:
     from ._core import Core
 
 _KIND_AT, _NUMBER_WORD = _library.KIND_AT, _library.NUMBER_WORD
 _START, _ASSIGNED = words.START, words.ASSIGNED
+# how long a worker pauses behind a turn that raised, in seconds
+_PAUSE = 0.01
 
 
 class Worker:
@@ -40,7 +43,7 @@ class Worker:
         thread = threading.Thread(target=self._work, name=f"bulkhead-{self._group.name}-worker", daemon=True)
         try:
             thread.start()
-        except RuntimeError:
+        except NO_THREAD:
             self._turns.turn(self._turns.dismiss, self, self._group)
 
     def _work(self) -> None:
@@ -50,10 +53,17 @@ class Worker:
         turn, ask, wait, thread = self._turns.turn_of, self._ask, self._wake.acquire, threading.get_ident()
         run = ended = None
         while not self._is_over:
-            run = turn(ask, run, ended, None)
+            try:
+                run = turn(ask, run, ended, None)
+            except BaseException as error:
+                # asked once more: what was ended is ended then, and what was given is given still
+                tell_unraisable(error, self._work)
+                wait(timeout=_PAUSE)
+                continue
             if run is None and self._is_idle:
                 wait()
-                run, self._given = self._given, None
+                run = self._given
+            self._given = None
             if run is not None:
                 if run.is_cached:
                     run.thread = thread
@@ -90,7 +100,6 @@ class Worker:
         if given is None:
             self._is_idle = True
             group.idle += (self,)
-        self._given = None
         return given
 
     def started(self, group: Group, *_: None) -> None:
@@ -106,18 +115,16 @@ class Worker:
 
 
 def _run(run: Run) -> End:
-    """Runs the function in the variables of its caller. What nobody waits for any more is not run."""
+    """Runs the function in the variables of its caller. What nobody waits for any more is not run. Raises nothing."""
     waiting = run.waiting
     if waiting and waiting[0].is_gone() and not run.is_cached and all([holder.is_gone() for holder in waiting]):
         return words.FAIL_BAD_REQUEST, None, None
     run.has_begun = True  # whoever joins from now on looks at it
-    for holder in run.waiting:
-        holder.begin()
-    assert run.variables is not None, "a run of a worker"
-    ended: End = run.variables.run(run.perform)
+    try:
+        for holder in run.waiting:
+            holder.begin()
+        assert run.variables is not None, "a run of a worker"
+        ended: End = run.variables.run(run.perform)
+    except BaseException as error:
+        return end_of(error), None, error
     return ended
-
-
-def help_out(group: Group, work: Callable[..., object], *arguments: object) -> None:
-    """Has a thread of its own do a thing for a group, as a fallback that the timer sets off."""
-    threading.Thread(target=work, args=arguments, name=f"bulkhead-{group.name}-helper", daemon=True).start()

@@ -102,7 +102,7 @@ class Submits(Turns):
         if context is not None:
             context.runs += (run,)
         if changes:
-            place.circuit.state, place.circuit.test, told_of = changes
+            place.circuit.state, place.circuit.test, self.changes, told_of = changes
             self.told += told_of
         if kind == _FALLBACK_DUE:
             run.state = FALLBACK_DUE
@@ -154,18 +154,28 @@ class Submits(Turns):
         self.unit = None
 
     def hire(self, group: Group) -> None:
-        """The first worker of a group, where it has none yet."""
-        if group.threads or group.over:
+        """One more worker of a group, where it may have more."""
+        if group.threads >= group.core_size or group.over:
             return
         worker = self.new_worker(group)
-        group.threads, group.workers, worker.is_new = 1, [worker], False
+        group.threads, group.workers, worker.is_new = group.threads + 1, [*group.workers, worker], False
         self.told += (worker,)
+
+    def hire_first(self, group: Group) -> None:
+        """The first worker of a group, where it has none yet."""
+        if not group.threads:
+            self.hire(group)
 
     def dismiss(self, worker: Worker, group: Group) -> None:
         """A worker whose thread could not be started is none."""
         if worker in group.workers:
             group.workers.remove(worker)
             group.threads -= 1
+            self.fall_short(group)
+
+    def fall_short(self, group: Group) -> None:
+        """A worker of the group could not be started."""
+        raise NotImplementedError
 
     def _free_worker(self, group: Group) -> Optional[Worker]:
         """A worker that sleeps, or a new one where there may be more."""

@@ -6,6 +6,7 @@ import threading
 from contextlib import suppress
 from typing import TYPE_CHECKING
 
+from ._unraisable import tell_unraisable
 from .errors import Stopped
 
 if TYPE_CHECKING:
@@ -13,6 +14,8 @@ if TYPE_CHECKING:
 
 # how long it sleeps at most, in seconds: a wake that was lost costs no more than this
 _LONGEST = 60.0
+# how long it pauses behind what it has to try again, in seconds
+_PAUSE = 0.01
 
 
 class Timer:
@@ -33,14 +36,25 @@ class Timer:
             self._wake.release()
 
     def _work(self) -> None:
+        while self._turns.is_open:
+            try:
+                self._look()
+            except BaseException as error:
+                tell_unraisable(error, self._work)
+                self._wake.acquire(timeout=_PAUSE)
+
+    def _look(self) -> None:
+        """Times out what is due, or sleeps until something is."""
         turns = self._turns
-        while turns.is_open:
-            ahead = turns.turn(self._ahead, by_timer=True)
-            if ahead > 0:
-                self._wake.acquire(timeout=min(ahead / 1000, _LONGEST))
-            else:
-                with suppress(Stopped):
-                    turns.turn(turns.expire_all, by_timer=True)
+        ahead = turns.turn(self._ahead, by_timer=True)
+        if ahead <= 0:
+            with suppress(Stopped):
+                turns.turn(turns.expire_all, by_timer=True)
+        elif turns.short:
+            self._wake.acquire(timeout=min(ahead / 1000, _PAUSE))
+            turns.turn(turns.hire_again, by_timer=True)
+        else:
+            self._wake.acquire(timeout=min(ahead / 1000, _LONGEST))
 
     def _ahead(self) -> float:
         """In how many milliseconds something is due first."""

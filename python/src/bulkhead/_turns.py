@@ -18,7 +18,7 @@ from . import _library
 from ._groups import Group, Place
 from ._recording import Act
 from ._runs import Caller, Run
-from ._transitions import Transition
+from ._transitions import Change, Changes, Teller, with_change
 from ._unraisable import tell_unraisable
 from .errors import BadStep, Reentered, Stopped
 
@@ -116,7 +116,8 @@ class Turns:
         # until when the timer sleeps, and how it is woken; where there is none it is never woken
         self.alarm_at: float = -inf
         self.alarm: Optional[Told] = None
-        self.on_transition: Optional[Callable[[str, str, str], object]] = None
+        # the changes of circuit breakers, and who tells them, if somebody asked for it
+        self.changes, self.teller = Changes(), None  # type: tuple[Changes, Optional[Teller]]
         # those that are there, by their names, and those that ever were, by their numbers
         self.groups: dict[str, Group] = {}
         self.every_group: list[Group] = []
@@ -317,6 +318,7 @@ class Turns:
             self.answer_all(run, why, is_last=False)
         for worker in group.workers:
             self.say(worker)
+        self.say(group.helpers)
 
     def answer_all(self, run: Run, why: int, is_last: bool = True) -> None:
         """Tells everybody who waits for a run why there is no answer."""
@@ -337,12 +339,17 @@ class Turns:
         return not all([isinstance(one, Caller) for one in self.told])
 
     def circuit_changes(self, place: Place, after: tuple[int, int]) -> Any:
-        """What changes of a circuit breaker: its state and test call afterwards, and who is told of that."""
+        """What changes of a circuit breaker: its state and test call afterwards, the changes to be told, and by whom."""
         circuit = place.circuit
         if not place.settings.circuit_moves or (circuit.state, circuit.test) == after:
             return None
         state, test = after
-        told: tuple[Told, ...] = ()
-        if circuit.state != state and self.on_transition is not None:
-            told = (Transition(self.on_transition, place.spelled, circuit.state, state),)
-        return state, test, told
+        if circuit.state == state or self.teller is None:
+            return state, test, self.changes, ()
+        return state, test, with_change(self.changes, place.spelled, circuit.state, state), (self.teller,)
+
+    def take_changes(self) -> tuple[Change, ...]:
+        """The changes that are to be told, which are kept no longer."""
+        with self._lock:
+            waiting, self.changes = self.changes.waiting, self.changes._replace(waiting=())
+        return waiting

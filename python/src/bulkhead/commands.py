@@ -187,9 +187,10 @@ class Command(_CoreDeclared, Generic[P, R]):
         return Waiter()
 
     def _hire(self) -> None:
-        """Starts the first worker of the group."""
+        """Starts the first threads of the group: a worker, and the spare helper."""
         turns, group = self._turns, self._body.group
-        turns.turn(turns.hire, group)
+        group.helpers.begin()
+        turns.turn(turns.hire_first, group)
         if not group.threads and not group.over:
             raise RuntimeError(f"no thread could be started for {group.name}")
 

@@ -37,11 +37,21 @@ def unreachable(counts: Iterable[tuple[Place, int]]) -> str:
     )
 
 
+def dropped_transitions(number: int) -> str:
+    """The text behind that of a service with `on_transition`: how many changes it was not told."""
+    return _family(
+        "bulkhead_dropped_transitions_total",
+        "counter",
+        "Changes of circuit breakers since the start of which on_transition was not told.",
+        [("", {}, number)],
+    )
+
+
 def _family(name: str, kind: str, about: str, samples: Iterable[Sample]) -> str:
     lines = [f"# HELP {name} {about}\n", f"# TYPE {name} {kind}\n"]
     for suffix, labels, value in samples:
         spelled = ",".join(f'{label}="{said}"' for label, said in labels.items())
-        lines.append(f"{name}{suffix}{{{spelled}}} {value}\n")
+        lines.append(f"{name}{suffix}{{{spelled}}} {value}\n" if labels else f"{name}{suffix} {value}\n")
     return "".join(lines)
 
 

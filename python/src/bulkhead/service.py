@@ -49,7 +49,7 @@ def open(  # noqa: A001: it is called as bulkhead.open
 
     `clock` gives the moments of a test, whole milliseconds from 0 on; then there is no timer, and `expire` times out what
     is due. `on_transition` is called with the name of a command and two of "closed", "open" and "half-open" where its
-    circuit breaker changes. Raises `Refused`, with the program's text, where the settings are refused, and an OSError
+    circuit breaker changes: in order, by a thread of its own, and what it raises is told to `sys.unraisablehook`. Raises `Refused`, with the program's text, where the settings are refused, and an OSError
     where the file cannot be read.
     """
     return CommandService(of_settings.read(settings, text), clock, on_transition)
@@ -66,7 +66,6 @@ class CommandService(Closing):
     ) -> None:
         self._settings, self._opened = settings, StepService(settings)
         self.turns = Core(self._opened, clock)
-        self.turns.on_transition = on_transition
         self._in_force = {group.name: group for group in of_settings.in_force(self._opened.check())}
         groups = [Group(number, group, name) for number, (name, group) in enumerate(self._in_force.items())]
         self.turns.every_group += groups
@@ -76,6 +75,9 @@ class CommandService(Closing):
         self._numbers = count(1)
         self.current: ContextVar[Optional[RequestContext]] = ContextVar("bulkhead_context", default=None)
         _ends.watch(self)
+        self._tells_transitions = on_transition is not None
+        if on_transition is not None:
+            self.turns.start_teller(on_transition)
         if clock is None:
             self.turns.start_timer()
 
@@ -212,7 +214,13 @@ class CommandService(Closing):
 
     def prometheus(self) -> str:
         """The metrics of all commands in Prometheus's text format."""
-        return prometheus.text(self.metrics(), [*self.turns.groups.values()])
+        dropped = prometheus.dropped_transitions(self.dropped_transitions) if self._tells_transitions else ""
+        return prometheus.text(self.metrics(), [*self.turns.groups.values()]) + dropped
+
+    @property
+    def dropped_transitions(self) -> int:
+        """How many changes of circuit breakers were not told: `on_transition` was slow, and a thousand waited."""
+        return self.turns.changes.dropped
 
     def expire(self) -> int:
         """Times out what is due, and tells how many calls that were. Without a clock of its own the timer does so."""
