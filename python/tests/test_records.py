@@ -5,8 +5,12 @@ from __future__ import annotations
 import json
 import os
 import threading
+from collections.abc import Callable
+from typing import Any
+from unittest import mock
 
 import bulkhead
+from bulkhead._recording import Record
 from support import SETTINGS, Case, needs_program, replayed
 
 
@@ -62,7 +66,7 @@ class Records(Case):
         call = service.command("permits")(lambda: 1)
         for _ in range(2_000):  # some 200 kilobytes, of which the pipe takes 64
             call()
-        self.until(record._writing.locked)
+        self.until(lambda: record._in_hand)
         self.assertEqual([call() for _ in range(100)], [1] * 100)
         self.assertTrue(record.is_whole)
         os.set_blocking(reader, True)
@@ -71,6 +75,49 @@ class Records(Case):
         service.close()
         drain.join()
         self.assertTrue(record.is_whole)
+
+    def stalled(self, **options: float) -> tuple[bulkhead.CommandService, Any, Callable[[], int]]:
+        """A service whose record's file takes nothing more, its record and a call."""
+        service, folder = self.open(), self.folder()
+        os.mkfifo(folder / "replies")
+        reader = os.open(folder / "replies", os.O_RDONLY | os.O_NONBLOCK)
+        self.addCleanup(os.close, reader)
+        record = service.record(folder / "record.jsonl", replies=folder / "replies", **options)
+        call = service.command("permits")(lambda: 1)
+        for _ in range(2_000):
+            call()
+        self.until(lambda: record._in_hand)
+        return service, record, call
+
+    def test_a_close_waits_for_a_file_that_stalls_until_its_time_is_over_and_tells_what_is_missing(self) -> None:
+        service, record, call = self.stalled(timeout=0.01)
+        with self.assertLogs("bulkhead", "WARNING") as told:
+            service.close()
+        self.assertFalse(record.is_whole)
+        self.assertIsInstance(record.error, TimeoutError)
+        self.assertGreater(record.unwritten, 1_000)
+        self.assertIn(f"{record.unwritten} steps were not written", told.output[0])
+        service.close()
+
+    def test_a_fork_does_not_wait_for_a_file_that_stalls(self) -> None:
+        service, record, call = self.stalled(timeout=0.01)
+        child = os.fork()
+        if not child:
+            os._exit(7 if record.is_whole or record.unwritten else 0)
+        self.assertEqual(os.waitpid(child, 0)[1], 0)
+        with self.assertLogs("bulkhead", "WARNING"):
+            service.close()
+
+    def test_a_record_takes_no_step_beyond_its_bound(self) -> None:
+        service, record, call = self.stalled(timeout=0.01)
+        room = len(record.pending) + 100
+        with mock.patch.object(Record, "ROOM", room):
+            for _ in range(200):
+                call()
+            self.assertEqual(len(record.pending), room)
+        self.assertFalse(record.is_whole)
+        with self.assertLogs("bulkhead", "WARNING"):
+            service.close()
 
     def test_three_files_are_three(self) -> None:
         service, folder = self.open(), self.folder()

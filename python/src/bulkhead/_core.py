@@ -163,7 +163,7 @@ class Core(Answers):
 
     def locks(self) -> list[Any]:
         """What a fork waits for, in order."""
-        return [*(self.record.locks() if self.record is not None else ()), self._lock]
+        return [self._lock]
 
     def stop_in_child(self) -> None:
         """In a forked process: the service is its parent's alone, and everything here is `Stopped`."""

@@ -3,6 +3,7 @@
 from __future__ import annotations
 
 import json
+import logging
 import threading
 from pathlib import Path
 from typing import TYPE_CHECKING, Any, BinaryIO, NamedTuple, Optional, Union
@@ -15,6 +16,7 @@ if TYPE_CHECKING:
     from ._core import Core
     from ._groups import Group
 
+_log = logging.getLogger("bulkhead")
 _unpack_step, _unpack_reply = _library.STEP.unpack_from, _library.REPLY.unpack_from
 _KEY_AT, _COMMAND_AT = _library.KEY_AT, _library.COMMAND_AT
 _ENDS = {
@@ -48,12 +50,17 @@ Entry = Union[Step, Act]
 
 
 class Record:
-    """A record that is written. `is_whole` tells whether all that was to be written was."""
+    """A record, which a thread of its own writes. `is_whole` tells whether all that was to be written was.
+
+    Where it was not, `unwritten` is the number of steps that are missing, and `error` says why unless too many waited.
+    """
 
     # how often it is written, in seconds, and how many steps wait at most
     INTERVAL, ROOM = 0.1, 1_000_000
 
-    def __init__(self, path: Path, replies: Optional[Path], settings: bytes, turns: Core) -> None:
+    def __init__(
+        self, path: Path, replies: Optional[Path], settings: bytes, turns: Core, timeout: float = 5.0
+    ) -> None:
         self.path, self.replies, self.settings = path, replies, path.with_suffix(".toml")
         if self.settings in (path, replies) or path == replies:
             raise Error("a record, its replies and its settings are three files")
@@ -63,7 +70,10 @@ class Record:
         self.is_last = False
         self._turns = turns
         self._groups: dict[int, Group] = {}
-        self._writing, self._over = threading.Lock(), threading.Event()
+        self._timeout, self._over = timeout, threading.Event()
+        self._thread: Optional[threading.Thread] = None
+        # how many steps the thread is at, and how many are missing
+        self._in_hand = self._missing = 0
         self._files: list[BinaryIO] = []
         self.settings.write_bytes(settings)
         # unbuffered: what a forked child has of a buffer would be written twice
@@ -71,9 +81,16 @@ class Record:
         if replies is not None:
             self._files.append(replies.open("wb", buffering=0))
 
+    @property
+    def unwritten(self) -> int:
+        """How many steps are not written, or not yet."""
+        return self._missing + self._in_hand + len(self.pending)
+
     def start(self) -> None:
         """Starts the thread that writes."""
-        threading.Thread(target=self._work, name="bulkhead-record", daemon=True).start()
+        thread = threading.Thread(target=self._work, name="bulkhead-record", daemon=True)
+        thread.start()
+        self._thread = thread
 
     def entry(self, given: bytearray, reply: bytearray) -> Entry:
         """A step and its reply, under the lock."""
@@ -82,43 +99,59 @@ class Record:
         metrics = metrics_in(reply) if told[0] == words.METRICS_TOLD else None
         return Step(step, key, given[_COMMAND_AT], told, self.is_last, metrics)
 
+    def keep(self, entry: Entry) -> None:
+        """Keeps a step to be written, under the lock, unless there is no room for it or one before it is missing."""
+        if self.is_whole and len(self.pending) < self.ROOM:
+            self.pending += (entry,)
+        else:
+            self.is_whole = False
+            self._missing += 1
+
     def _work(self) -> None:
         while not self._over.wait(self.INTERVAL):
-            self.write()
+            self._write()
+        self._write()
+        self._close()
 
-    def write(self) -> None:
+    def _write(self) -> None:
         """Writes what was kept so far. A failure leaves the record not whole."""
-        with self._writing:
-            pending = self._turns.take_pending(self)
-            if not self.is_whole:
-                return
-            if len(pending) > self.ROOM:
-                self.is_whole = False
-                return
-            try:
+        pending = self._turns.take_pending(self)
+        self._in_hand = len(pending)
+        try:
+            if self.is_whole:
                 lines = [self._lines(entry) for entry in pending]
                 for at, file in enumerate(self._files):
                     _write_all(file, b"".join(line[at] for line in lines))
-            except Exception as error:
-                self.is_whole, self.error = False, error
+        except Exception as error:
+            self.error, self.is_whole = error, False
+        if not self.is_whole:
+            self._missing += len(pending)
+        self._in_hand = 0
+
+    def _close(self) -> None:
+        for file in self._files:
+            file.close()
+        self._files = []
 
     def finish(self) -> None:
-        """Writes the rest, and closes the files."""
+        """Has the rest written and the files closed, and waits for that until its time is over."""
+        if self._over.is_set():
+            return
         self._over.set()
-        self.write()
-        with self._writing:
-            for file in self._files:
-                file.close()
-            self._files = []
+        thread = self._thread
+        if thread is None:
+            self._close()
+            return
+        thread.join(self._timeout)
+        if thread.is_alive():
+            self.is_whole = False
+            self.error = TimeoutError(f"{self.path} took nothing more within {self._timeout:g} s")
+            _log.warning("%s: %d steps were not written", self.error, self.unwritten)
 
     def drop(self) -> None:
         """Of a forked process: what its parent writes it does not."""
-        self.is_whole, self.pending, self._files = False, [], []
+        self.is_whole, self.pending, self._in_hand, self._files = False, [], 0, []
         self._over.set()
-
-    def locks(self) -> list[Any]:
-        """What a fork waits for."""
-        return [self._writing]
 
     def _group(self, number: int) -> Group:
         if number not in self._groups:

@@ -300,7 +300,7 @@ class Turns:
         if record is not None:
             is_act = self.reply[_KIND_AT] == _ACT
             entry = Act(self._line, self.answer()) if is_act else record.entry(self.given, self.reply)
-            record.pending += (entry,)
+            record.keep(entry)
         self._is_noted = True
 
     def take_pending(self, record: Record) -> list[Entry]:

@@ -231,15 +231,20 @@ class CommandService(Closing):
     # -- records and the end
 
     def record(
-        self, path: Union[str, os.PathLike[str]], *, replies: Union[str, os.PathLike[str], None] = None
+        self,
+        path: Union[str, os.PathLike[str]],
+        *,
+        replies: Union[str, os.PathLike[str], None] = None,
+        timeout: float = 5.0,
     ) -> Record:
         """Writes each step from now on as a line of `bulkhead run`, and the settings beside it, as PATH with ".toml".
 
         `replies` is a path to which the replies are written, as `bulkhead run` would write them. It is called before the
-        first step; raises an `Error` after it. The record's `is_whole` tells whether all could be written.
+        first step; raises an `Error` after it. The record's `is_whole` tells whether all could be written. At the end of
+        the service it is waited for, `timeout` seconds at most.
         """
         self.turns.turn(self._begin_record, None)
-        record = Record(Path(path), Path(replies) if replies else None, self._settings, self.turns)
+        record = Record(Path(path), Path(replies) if replies else None, self._settings, self.turns, timeout)
         try:
             self.turns.turn(self._begin_record, record)
         except BaseException:
