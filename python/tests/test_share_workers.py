@@ -2,6 +2,10 @@
 
 from __future__ import annotations
 
+import os
+import signal
+import subprocess
+import sys
 import threading
 from typing import Any
 
@@ -9,6 +13,22 @@ import bulkhead
 from bulkhead._connection import Connection
 from share_support import ShareCase
 from support import Gate
+
+# a worker whose function forks a process that goes on, and is killed
+FORKS = """
+import os, signal, sys
+import bulkhead
+
+def function(arg):
+    child = os.fork()
+    if not child:
+        signal.alarm(30)
+        signal.pause()
+    print(child, flush=True)
+    os.kill(os.getpid(), signal.SIGKILL)
+
+bulkhead.work(sys.argv[1], "catalog", {"catalog": function})
+"""
 
 
 class Workers(ShareCase):
@@ -66,6 +86,19 @@ class Workers(ShareCase):
         ended = self.in_thread(self.worker(leave).run)
         self.assertEqual(self.asked("lamp"), {"reply": "bad-request"})
         self.assertIsInstance(ended(), KeyboardInterrupt)
+
+    def test_a_worker_that_is_killed_leaves_no_connection_to_a_child_that_its_function_forked(self) -> None:
+        begun = subprocess.Popen([sys.executable, "-c", FORKS, str(self.fake.path)], stdout=subprocess.PIPE, text=True)
+        assert begun.stdout is not None
+        self.asked("lamp")
+        child = int(begun.stdout.readline())
+        self.addCleanup(begun.stdout.close)
+        self.addCleanup(os.kill, child, signal.SIGKILL)
+        self.assertEqual(begun.wait(10), -signal.SIGKILL)
+        self.fake.until(lambda: self.fake.open_now() == 1)
+
+    def test_no_connection_is_inherited_by_a_program_that_is_executed(self) -> None:
+        self.assertFalse(os.get_inheritable(self.link._socket.fileno()))
 
     def test_a_worker_is_stopped_behind_its_run(self) -> None:
         gate = Gate()

@@ -6,13 +6,13 @@ import asyncio
 import json
 import os
 import socket
-import struct
 import threading
 import weakref
 from collections.abc import Callable
 from contextlib import suppress
 from typing import Any, Union
 
+from ._sockets import close_behind, opened
 from .errors import Error, Reentered
 
 # the path of a Unix socket, or a port of 127.0.0.1
@@ -25,8 +25,6 @@ _READ = 1 << 16
 # what `json.loads` goes by, which is shorter
 _read_json = json.JSONDecoder().raw_decode
 _PATH_LIMIT = 107
-# a span of time as the system reads it: seconds and microseconds
-_TIME = struct.Struct("@ll")
 # what the system says where a time is over
 _SLOW = (TimeoutError, BlockingIOError)
 
@@ -57,26 +55,6 @@ def checked_address(address: Address) -> Union[str, int]:
     return absolute if len(os.fsencode(absolute)) <= _PATH_LIMIT else path
 
 
-def _opened(address: Union[str, int], timeout: float) -> socket.socket:
-    made = socket.socket(socket.AF_INET if isinstance(address, int) else socket.AF_UNIX, socket.SOCK_STREAM)
-    try:
-        if isinstance(address, int):
-            made.settimeout(timeout)
-            made.setsockopt(socket.IPPROTO_TCP, socket.TCP_NODELAY, 1)
-            made.connect(("127.0.0.1", address))
-        else:
-            # the system lets nobody wait with a timeout of Python's where many connect at a time
-            seconds = int(timeout)
-            span = _TIME.pack(seconds, int((timeout - seconds) * 1e6) or 1)  # none at all would be without an end
-            made.setsockopt(socket.SOL_SOCKET, socket.SO_SNDTIMEO, span)
-            made.connect(address)
-            made.settimeout(timeout)
-    except BaseException:
-        made.close()
-        raise
-    return made
-
-
 class Connection:
     """A connection, whose lines are sent and answered under its lock.
 
@@ -86,7 +64,7 @@ class Connection:
 
     def __init__(self, address: Union[str, int], timeout: float) -> None:
         try:
-            self._socket = _opened(address, timeout)
+            self._socket = opened(address, timeout)
         except OSError as error:
             raise Lost(f"{address} cannot be reached: {error}", isinstance(error, _SLOW)) from error
         # one that is dropped is closed without a word
@@ -104,7 +82,7 @@ class Connection:
         last_words, self.last_words = self.last_words, b""
         if last_words:
             self._dropped.detach()
-            _close_behind(self._socket, last_words)
+            close_behind(self._socket, last_words)
             return
         with suppress(OSError):  # it is not connected any more
             self._socket.shutdown(socket.SHUT_RDWR)
@@ -191,46 +169,6 @@ class Connection:
         if ends_at < len(line) or not isinstance(answer, dict):
             raise ValueError(line)
         return answer
-
-
-# sockets of which the sending side is closed, until the service has closed the other one
-_closing: list[socket.socket] = []
-_CLOSING = 64
-
-
-def _close_behind(one: socket.socket, last_words: bytes) -> None:
-    """Has the service read all that was sent and last words. To close it at once could take unread lines from it."""
-    with suppress(OSError):
-        one.settimeout(0)
-        one.send(last_words)
-        one.shutdown(socket.SHUT_WR)
-        _closing.append(one)
-        close_ended()
-        return
-    one.close()
-
-
-def close_ended() -> None:
-    """Closes those whose service has ended them, and the first of very many."""
-    for one in [*_closing]:
-        try:
-            while one.recv(_READ):
-                pass
-        except BlockingIOError:
-            if len(_closing) <= _CLOSING:
-                continue
-        except OSError:
-            pass
-        with suppress(ValueError):  # another thread was sooner
-            _closing.remove(one)
-        one.close()
-
-
-def forget_closing() -> None:
-    """In a forked process: they are the parent's."""
-    for one in _closing:
-        one.close()
-    _closing.clear()
 
 
 def _set(future: asyncio.Future[None]) -> None:

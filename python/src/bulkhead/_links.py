@@ -16,7 +16,8 @@ from contextlib import contextmanager, suppress
 from typing import Optional, Union
 
 from . import _lines
-from ._connection import Answer, Connection, Lost, close_ended, forget_closing
+from ._connection import Answer, Connection, Lost
+from ._sockets import close_ended
 from .errors import Reentered, Stopped
 
 # how many connections of their own are kept for later calls
@@ -237,7 +238,6 @@ _every: weakref.WeakSet[Links] = weakref.WeakSet()
 
 
 def _after_fork_in_child() -> None:
-    forget_closing()
     for links in [*_every]:
         links.forget()
 
