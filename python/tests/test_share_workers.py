@@ -22,7 +22,7 @@ import bulkhead
 def function(arg):
     child = os.fork()
     if not child:
-        signal.alarm(30)
+        signal.alarm(60)
         signal.pause()
     print(child, flush=True)
     os.kill(os.getpid(), signal.SIGKILL)
@@ -90,11 +90,12 @@ class Workers(ShareCase):
     def test_a_worker_that_is_killed_leaves_no_connection_to_a_child_that_its_function_forked(self) -> None:
         begun = subprocess.Popen([sys.executable, "-c", FORKS, str(self.fake.path)], stdout=subprocess.PIPE, text=True)
         assert begun.stdout is not None
-        self.asked("lamp")
+        answer = self.in_thread(self.asked, "lamp")
         child = int(begun.stdout.readline())
         self.addCleanup(begun.stdout.close)
         self.addCleanup(os.kill, child, signal.SIGKILL)
         self.assertEqual(begun.wait(10), -signal.SIGKILL)
+        self.assertEqual(answer()["reply"], "error")
         self.fake.until(lambda: self.fake.open_now() == 1)
 
     def test_no_connection_is_inherited_by_a_program_that_is_executed(self) -> None:
