@@ -18,10 +18,11 @@ from typing import Optional, Union
 from . import _lines
 from ._connection import Answer, Connection, Lost
 from ._sockets import close_ended
+from ._upkeep import Upkeep
 from .errors import Reentered, Stopped
 
-# how many connections of their own are kept for later calls
-_KEPT = 4
+# how many connections of their own are kept for later calls, and for how many seconds
+_KEPT, KEPT_FOR = 4, 1.0
 # how many ends of request contexts are kept to be told later
 _OWED = 1000
 
@@ -106,7 +107,7 @@ class Links:
     def __init__(
         self, address: Union[str, int], timeout: float, clock: Callable[[], float] = time.monotonic
     ) -> None:
-        self._opening = address, timeout, clock
+        self._opening, self._clock = (address, timeout, clock), clock
         self.is_closed = False
         # the ends of request contexts that could not be told, in their order
         self._owed: dict[bytes, None] = {}
@@ -115,7 +116,9 @@ class Links:
 
     def _begin(self) -> None:
         self._shared: Optional[Connection] = None
-        self._free: list[Connection] = []
+        # those that are kept for later calls, and since when; the one that was used last is last
+        self._free: list[tuple[Connection, float]] = []
+        self._keeping = Upkeep("bulkhead-kept-connections", self.give_up_unused)
         # those that calls have for themselves now; one that a call does not give back is closed as it is dropped
         self._lent: weakref.WeakSet[Connection] = weakref.WeakSet()
         # the lock of what is counted of calls; a fork may leave an old one taken
@@ -162,7 +165,7 @@ class Links:
         """A connection for one call alone, where none need be opened for it."""
         with suppress(IndexError):
             while self.ready() is not None:
-                link = self._free.pop()
+                link, _ = self._free.pop()
                 if not link.is_lost:
                     self._lent.add(link)
                     return link
@@ -185,16 +188,29 @@ class Links:
         self._lent.discard(link)
         if link.is_lost:
             return
-        if len(self._free) < _KEPT and not self.is_closed:
-            self._free.append(link)
-        else:
+        if len(self._free) >= _KEPT or self.is_closed:
             link.close()
+            return
+        self._free.append((link, self._clock()))
+        if self.is_closed or not self._keeping.begin():
+            self.drop_free()
+
+    def give_up_unused(self) -> Optional[float]:
+        """Closes what was kept so long, and tells in how many seconds the next one is due, if one is kept."""
+        due = self._clock() - KEPT_FOR
+        for one in [*self._free]:
+            link, since = one
+            if since <= due:
+                with suppress(ValueError):  # a call was sooner
+                    self._free.remove(one)
+                    link.close()
+        return min((since - due for _, since in [*self._free]), default=None)
 
     def drop_free(self) -> None:
         """Closes what is kept for later calls: where one connection was lost, the others mostly are too."""
         while self._free:
             with suppress(IndexError):
-                self._free.pop().close()
+                self._free.pop()[0].close()
 
     def ask(self, *lines: bytes) -> list[Answer]:
         """Has lines answered over the shared connection; where that was lost meanwhile, once more over a new one."""
@@ -221,13 +237,14 @@ class Links:
     def close(self) -> None:
         """Closes all connections: the service takes back what they had."""
         self.is_closed = True
-        for link in (self._shared, *self._free, *self._lent):
+        for link in (self._shared, *self._lent):
             if link is not None:
                 link.close()
+        self.drop_free()
 
     def forget(self) -> None:
         """In a forked process: the connections are the parent's."""
-        for link in (self._shared, *self._free, *self._lent):
+        for link in (self._shared, *self._lent, *(link for link, _ in self._free)):
             if link is not None:
                 link.forget()
         self._owed = {}
