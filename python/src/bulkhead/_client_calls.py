@@ -12,7 +12,7 @@ from typing import Any, Optional
 
 from . import _lines, _words as words
 from ._client_bodies import ClientBody, Keyed
-from ._connection import Answer, Connection, Lost
+from ._connection import Answer, Connection, Look, Lost
 from ._runs import End, FallbackEnd, Holder, Run
 from .errors import (
     BadRequest,
@@ -35,6 +35,8 @@ _FALLBACK_ENDS = {
     words.FALLBACK_MISSING: "missing",
 }
 _PLACED = ("inline", "fallback-due", "joined", "queued")
+# in seconds: a service that is there may be so long
+_SHORTEST_LOOK = 0.05
 _ANSWERS = ("value", "fallback-value", "error", "bad-request")
 
 
@@ -199,8 +201,16 @@ class Call(Run):
         """Asks for the answer, where it has not come yet, and waits for it where another process is at it."""
         if not self.told:
             line = _lines.collect(self.body.group_name, self.ticket, self.is_alone)
-            self.told = self.linked().wait(line) if self.is_alone else self._ask(line)[0]
+            self.told = self.linked().wait(line, self.look_for_service()) if self.is_alone else self._ask(line)[0]
         self.take_answer()
+
+    def look_for_service(self) -> Look:
+        """How it is looked whether the service is there, so that a wait for one that is not ends by its time.
+
+        That is the client's `timeout=`, or that of the command where it is shorter; half of it is for the look.
+        """
+        links, limit = self.body.links, self.place.limit / 1000
+        return Look(max(min(links.timeout, limit) / 2, _SHORTEST_LOOK), links.look)
 
     def look(self) -> bool:
         """Whether there is an answer already."""

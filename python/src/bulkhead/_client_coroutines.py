@@ -144,7 +144,7 @@ async def _answered(call: Call, carried: Carried) -> None:
             await carried.run(coroutine)
     if call.is_alone and not call.told:
         line = _lines.collect(call.body.group_name, call.ticket, True)
-        call.told = await call.linked().wait_in_loop(line)
+        call.told = await call.linked().wait_in_loop(line, call.look_for_service())
     call.collect()
 
 

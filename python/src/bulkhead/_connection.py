@@ -10,7 +10,7 @@ import threading
 import weakref
 from collections.abc import Callable
 from contextlib import suppress
-from typing import Any, Union
+from typing import Any, NamedTuple, Optional, Union
 
 from ._sockets import close_behind, opened
 from .errors import Error, Reentered
@@ -55,6 +55,18 @@ def checked_address(address: Address) -> Union[str, int]:
     return absolute if len(os.fsencode(absolute)) <= _PATH_LIMIT else path
 
 
+class Look(NamedTuple):
+    """How it is found whether the service is there while an answer is waited for: a look each `period` seconds."""
+
+    period: float
+    # raises `Lost` where the service does not answer within that time
+    ask: Callable[[float], object]
+
+    def once(self) -> None:
+        """Looks."""
+        self.ask(self.period)
+
+
 class Connection:
     """A connection, whose lines are sent and answered under its lock.
 
@@ -71,7 +83,10 @@ class Connection:
         self._dropped = weakref.finalize(self, self._socket.close)
         self._dropped.atexit = False
         self._timeout, self._rest = timeout, bytearray()
+        # how long an answer may take at present
+        self._limit: Optional[float] = timeout
         self._lock, self._is_busy = threading.RLock(), False
+        self._is_in_loop = False
         self.is_lost = False
         # a line that is sent before it is closed, behind what was not answered yet
         self.last_words = b""
@@ -86,7 +101,8 @@ class Connection:
             return
         with suppress(OSError):  # it is not connected any more
             self._socket.shutdown(socket.SHUT_RDWR)
-        self._socket.close()
+        if not self._is_in_loop:  # a loop that reads it finds its end, and closes it
+            self._socket.close()
 
     def hang_up(self) -> None:
         """Says that no further line comes: the service then answers a line that waits."""
@@ -98,51 +114,61 @@ class Connection:
         self.is_lost = True
         self._socket.close()
 
-    def ask(self, *lines: bytes) -> list[Answer]:
-        """Sends lines that are answered at once, and gives their answers in their order."""
-        return self._exchange(lines, None)
+    def ask(self, *lines: bytes, limit: Optional[float] = None) -> list[Answer]:
+        """Sends lines that are answered at once, within `limit` seconds each, and gives their answers in their order."""
+        return self._exchange(lines, self._timeout if limit is None else limit, None)
 
-    def wait(self, line: bytes) -> Answer:
-        """Sends a line that is answered later, and waits for its answer without an end."""
-        return self._exchange((line,), self._without_end)[0]
+    def wait(self, line: bytes, look: Optional[Look] = None) -> Answer:
+        """Sends a line that is answered later, and waits for its answer: as long as `look` finds the service there.
 
-    async def wait_in_loop(self, line: bytes) -> Answer:
+        Without it the wait has no end.
+        """
+        return self._exchange((line,), None if look is None else look.period, look)[0]
+
+    async def wait_in_loop(self, line: bytes, look: Look) -> Answer:
         """The same for a coroutine. One that is cancelled loses the connection."""
-        loop = asyncio.get_running_loop()
-        is_there: asyncio.Future[None] = loop.create_future()
-        reader = self._socket.fileno()
+        self._is_in_loop = True
         try:
             self._send((line,))
-            if b"\n" not in self._rest:
-                loop.add_reader(reader, _set, is_there)
-                try:
-                    await is_there
-                finally:
-                    loop.remove_reader(reader)
+            while b"\n" not in self._rest and not await self._readable(look.period):
+                await asyncio.get_running_loop().run_in_executor(None, look.once)
             return self._answer()
         except BaseException as error:
-            self.close()
+            self.is_lost = True
             _raise_lost(error)
             raise
+        finally:
+            self._is_in_loop = False
+            if self.is_lost:
+                self.close()
 
-    def _without_end(self) -> None:
-        self._socket.settimeout(None)
+    async def _readable(self, longest: float) -> bool:
+        """Whether there is something to read within so many seconds."""
+        loop, reader = asyncio.get_running_loop(), self._socket.fileno()
+        is_there: asyncio.Future[None] = loop.create_future()
+        loop.add_reader(reader, _set, is_there)
+        try:
+            done, _ = await asyncio.wait({is_there}, timeout=longest)
+            return bool(done)
+        finally:
+            loop.remove_reader(reader)
 
-    def _exchange(self, lines: tuple[bytes, ...], before: Union[Callable[[], None], None]) -> list[Answer]:
+    def _exchange(
+        self, lines: tuple[bytes, ...], limit: Optional[float], look: Optional[Look]
+    ) -> list[Answer]:
         with self._lock:
             if self._is_busy:
                 raise Reentered("the connection is in the midst of another line of this thread, as by a signal handler")
             try:
                 self._is_busy = True
+                if limit != self._limit:
+                    self._socket.settimeout(limit)
+                    self._limit = limit
                 answers = []
                 for at in range(0, len(lines), _AT_ONCE):
                     some = lines[at : at + _AT_ONCE]
                     self._send(some)
-                    if before is not None:
-                        before()
-                    answers += [self._answer() for _ in some]
-                if before is not None:
-                    self._socket.settimeout(self._timeout)
+                    answers += [self._answer(look) for _ in some]
                 return answers
             except BaseException as error:
                 self.close()
@@ -156,10 +182,19 @@ class Connection:
             raise Lost("the connection was lost")
         self._socket.sendall(b"".join(lines))
 
-    def _answer(self) -> Answer:
+    def _received(self, look: Optional[Look]) -> bytes:
+        while True:
+            try:
+                return self._socket.recv(_READ)
+            except TimeoutError:
+                if look is None:
+                    raise
+                look.once()
+
+    def _answer(self, look: Optional[Look] = None) -> Answer:
         rest = self._rest
         while (end := rest.find(b"\n")) < 0:
-            some = self._socket.recv(_READ)
+            some = self._received(look)
             if not some:
                 raise Lost("the service closed the connection")
             rest += some

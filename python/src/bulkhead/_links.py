@@ -107,7 +107,7 @@ class Links:
     def __init__(
         self, address: Union[str, int], timeout: float, clock: Callable[[], float] = time.monotonic
     ) -> None:
-        self._opening, self._clock = (address, timeout, clock), clock
+        self._opening, self._clock, self.timeout = (address, timeout, clock), clock, timeout
         self.is_closed = False
         # the ends of request contexts that could not be told, in their order
         self._owed: dict[bytes, None] = {}
@@ -219,6 +219,10 @@ class Links:
         except Lost as lost:
             self.slowed(lost)
             return self.shared().ask(*lines)
+
+    def look(self, limit: float) -> None:
+        """Raises `Lost` where the service does not answer within so many seconds."""
+        self.shared().ask(_lines.GROUPS, limit=limit)
 
     def slowed(self, lost: Lost) -> None:
         """Raises the loss where the service is too slow, so that it is not asked again at once."""
