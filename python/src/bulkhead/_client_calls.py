@@ -146,9 +146,12 @@ class Call(Run):
             link.last_words = _lines.close(self.body.group_name, self.keyed[0].number)
         self.is_asked = True
         try:
-            answer = link.ask(line)[0]
+            answer = link.ask(line, passed=self.passed_over)[0]
         except Reentered:
             self.is_asked = False  # nothing was sent, and the line that goes on is not to be disturbed
+            raise
+        except Lost as lost:
+            self.is_asked = not lost.goes_on
             raise
         link.last_words = b""
         return answer
@@ -194,7 +197,7 @@ class Call(Run):
         """Tells the end of a run whose caller is answered by its timeout or has left, unless it was told."""
         if self.is_running:
             self.is_running = False
-            (done,) = self._ask(_lines.fail(self.body.group_name, self.ticket, ended[0] != words.FAIL))
+            (done,) = self._ask(_lines.fail(self.body.group_name, self.ticket, ended[0] != words.FAIL), is_last=False)
             self.body.count_end(ended[0], done.get("reply"), time.monotonic() - self.began)
 
     def collect(self) -> None:
@@ -214,7 +217,7 @@ class Call(Run):
 
     def look(self) -> bool:
         """Whether there is an answer already."""
-        (self.told,) = self._ask(_lines.collect(self.body.group_name, self.ticket))
+        (self.told,) = self._ask(_lines.collect(self.body.group_name, self.ticket), is_last=False)
         if self.told.get("reply") == "pending":
             self.told = {}
             return False
@@ -334,11 +337,13 @@ class Call(Run):
             return
         try:
             self._give_back(link)
-        except Exception:
+        except Lost as lost:
+            if not lost.goes_on:
+                link.close()
+        except BaseException as error:
             link.close()
-        except BaseException:
-            link.close()
-            raise
+            if not isinstance(error, Exception):
+                raise
 
     def _give_back(self, link: Connection) -> None:
         group, ticket = self.body.group_name, self.ticket
@@ -346,17 +351,29 @@ class Call(Run):
             link.close()  # what it was told is not known
             return
         # a line that was done already makes no step, so what may have been told just now is told once more
-        if self.is_running:
-            link.ask(_lines.fail(group, ticket, True))
-            self.is_running = False
-        if self.is_held:
-            missing, collect = _lines.fallback(group, ticket, "missing"), _lines.collect(group, ticket)
-            _, told = link.ask(missing, collect)
-            if told.get("reply") == "run-fallback":
-                _, told = link.ask(missing, collect)
-            if told.get("reply") == "pending" and self.is_alone:
-                link.close()
-            self.is_held = False
+        fail: tuple[bytes, ...] = (_lines.fail(group, ticket, True),) if self.is_running else ()
+        self.is_running = False
+        if not self.is_held:
+            if fail:
+                self._ask(*fail)
+            return
+        missing, collect = _lines.fallback(group, ticket, "missing"), _lines.collect(group, ticket)
+        told = self._ask(*fail, missing, collect)[-1]
+        if told.get("reply") == "run-fallback":
+            told = self._ask(missing, collect)[-1]
+        if told.get("reply") == "pending" and self.is_alone:
+            link.close()
+        self.is_held = False
+
+    def passed_over(self, answer: Answer) -> tuple[bytes, ...]:
+        """What gives back what a line got whose answer came too late: lines, whose answers are passed over too."""
+        group, self.ticket = self.body.group_name, answer.get("ticket", self.ticket)
+        reply, collect = answer.get("reply"), _lines.collect(group, self.ticket)
+        if reply == "inline":
+            return _lines.fail(group, self.ticket, True), collect
+        if reply == "run-fallback":
+            return _lines.fallback(group, self.ticket, "missing"), collect
+        return (collect,) if reply == "fallback-due" else ()
 
     def release(self) -> None:
         """Gives a connection back that it had for itself, and lets its thread and tasks go."""
@@ -375,8 +392,14 @@ class Call(Run):
             raise Lost("the connection was lost")
         return self.link
 
-    def _ask(self, *lines: bytes) -> list[Answer]:
-        return self.linked().ask(*lines)
+    def _ask(self, *lines: bytes, is_last: bool = True) -> list[Answer]:
+        """Has lines answered, the last ones of the call but for what they are answered."""
+        try:
+            return self.linked().ask(*lines, passed=self.passed_over, is_owed=True)
+        except Lost as lost:
+            if lost.goes_on and is_last:  # they are still done, and what comes of them is given back
+                self.is_running = self.is_held = self.is_in_fallback = False
+            raise
 
 
 class Asked(Call):

@@ -4,12 +4,12 @@ from __future__ import annotations
 
 import secrets
 from collections.abc import Callable
+from contextlib import suppress
 from contextvars import ContextVar
 from hashlib import blake2b
 from typing import TYPE_CHECKING, Any, Optional
 
 from . import _lines
-from ._connection import Lost
 from .contexts import RequestContext
 from .errors import Error, Stopped
 
@@ -56,12 +56,8 @@ class ClientContext(RequestContext):
     def end_in(self, group: str) -> None:
         """Has the answers of a group cached no longer."""
         line = _lines.close(group, self.number)
-        try:
-            self._links.ask(line)
-        except Lost:
-            self._links.owe(line)
-        except Stopped:
-            pass  # the client is closed, and tells nothing any more
+        with suppress(Stopped):  # the client is closed, and tells nothing any more
+            self._links.end_context(line)
 
 
 def key_name(key: tuple[type, object]) -> str:

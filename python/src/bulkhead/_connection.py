@@ -18,9 +18,11 @@ from .errors import Error, Reentered
 # the path of a Unix socket, or a port of 127.0.0.1
 Address = Union[str, "os.PathLike[str]", int]
 Answer = dict[str, Any]
+# what is made of an answer that came too late: the lines that give back what it gives
+Passed = Callable[[Answer], tuple[bytes, ...]]
 
 # how many lines are sent before their answers are read, so that neither side waits for room with both
-_AT_ONCE = 64
+AT_ONCE = 64
 _READ = 1 << 16
 # what `json.loads` goes by, which is shorter
 _read_json = json.JSONDecoder().raw_decode
@@ -33,12 +35,13 @@ class Lost(Exception):
     """A connection cannot be opened, or is of no use any more: what was sent may have been done or not.
 
     `is_slow` tells that the service is there and did not answer in time, so that to ask it again at once would be in vain;
-    `has_paused` that nothing is tried for a time because of it.
+    `goes_on` that the connection is none the worse: what the lines get that were sent is given back, and so are lines that
+    have to be; `has_paused` that nothing is tried for a time because of it.
     """
 
-    def __init__(self, why: str, is_slow: bool = False) -> None:
+    def __init__(self, why: str, is_slow: bool = False, goes_on: bool = False) -> None:
         super().__init__(why)
-        self.is_slow, self.has_paused = is_slow, False
+        self.is_slow, self.goes_on, self.has_paused = is_slow, goes_on, False
 
 
 def checked_address(address: Address) -> Union[str, int]:
@@ -53,6 +56,11 @@ def checked_address(address: Address) -> Union[str, int]:
     absolute = os.path.abspath(path)
     # a path that is too long is refused by the system, so one that fits as it was given is left so
     return absolute if len(os.fsencode(absolute)) <= _PATH_LIMIT else path
+
+
+def nothing_more(_: Answer) -> tuple[bytes, ...]:
+    """What came too late gives nothing that has to be given back."""
+    return ()
 
 
 class Look(NamedTuple):
@@ -114,8 +122,17 @@ class Connection:
         self.is_lost = True
         self._socket.close()
 
-    def ask(self, *lines: bytes, limit: Optional[float] = None) -> list[Answer]:
-        """Sends lines that are answered at once, within `limit` seconds each, and gives their answers in their order."""
+    def ask(
+        self,
+        *lines: bytes,
+        limit: Optional[float] = None,
+        passed: Passed = nothing_more,
+        is_owed: bool = False,
+    ) -> list[Answer]:
+        """Sends lines that are answered at once, within `limit` seconds each, and gives their answers in their order.
+
+        Where the connection outlives answers that are late, they are told to `passed`, and lines that are owed are sent later.
+        """
         return self._exchange(lines, self._timeout if limit is None else limit, None)
 
     def wait(self, line: bytes, look: Optional[Look] = None) -> Answer:
@@ -135,7 +152,7 @@ class Connection:
             return self._answer()
         except BaseException as error:
             self.is_lost = True
-            _raise_lost(error)
+            raise_lost(error)
             raise
         finally:
             self._is_in_loop = False
@@ -153,29 +170,30 @@ class Connection:
         finally:
             loop.remove_reader(reader)
 
-    def _exchange(
-        self, lines: tuple[bytes, ...], limit: Optional[float], look: Optional[Look]
-    ) -> list[Answer]:
+    def _exchange(self, lines: tuple[bytes, ...], limit: Optional[float], look: Optional[Look]) -> list[Answer]:
         with self._lock:
             if self._is_busy:
                 raise Reentered("the connection is in the midst of another line of this thread, as by a signal handler")
             try:
                 self._is_busy = True
-                if limit != self._limit:
-                    self._socket.settimeout(limit)
-                    self._limit = limit
+                self._set_limit(limit)
                 answers = []
-                for at in range(0, len(lines), _AT_ONCE):
-                    some = lines[at : at + _AT_ONCE]
+                for at in range(0, len(lines), AT_ONCE):
+                    some = lines[at : at + AT_ONCE]
                     self._send(some)
                     answers += [self._answer(look) for _ in some]
                 return answers
             except BaseException as error:
                 self.close()
-                _raise_lost(error)
+                raise_lost(error)
                 raise
             finally:
                 self._is_busy = False
+
+    def _set_limit(self, limit: Optional[float]) -> None:
+        if limit != self._limit:
+            self._socket.settimeout(limit)
+            self._limit = limit
 
     def _send(self, lines: tuple[bytes, ...]) -> None:
         if self.is_lost:
@@ -211,7 +229,7 @@ def _set(future: asyncio.Future[None]) -> None:
         future.set_result(None)
 
 
-def _raise_lost(error: BaseException) -> None:
+def raise_lost(error: BaseException) -> None:
     """Raises `Lost` for what broke an exchange off, unless it is one or an interrupt, which is to pass through."""
     if isinstance(error, OSError):
         raise Lost(f"the connection failed: {error or type(error).__name__}", isinstance(error, _SLOW)) from error

@@ -13,13 +13,16 @@ import time
 import weakref
 from collections.abc import Callable, Iterator
 from contextlib import contextmanager, suppress
-from typing import Optional, Union
+from typing import Generic, Optional, TypeVar, Union
 
 from . import _lines
 from ._connection import Answer, Connection, Lost
+from ._shared_connection import SharedConnection
 from ._sockets import close_ended
 from ._upkeep import Upkeep
 from .errors import Reentered, Stopped
+
+C = TypeVar("C", bound=Connection)
 
 # how many connections of their own are kept for later calls, and for how many seconds
 _KEPT, KEPT_FOR = 4, 1.0
@@ -50,13 +53,13 @@ class Pause:
         return not self.length or self._clock() >= self._until
 
 
-class Opener:
-    """Opens connections, and where it fails lets a growing time pass before it tries again."""
+class Opener(Generic[C]):
+    """Opens connections of a kind, and where it fails lets a growing time pass before it tries again."""
 
     def __init__(
-        self, address: Union[str, int], timeout: float, clock: Callable[[], float] = time.monotonic
+        self, kind: type[C], address: Union[str, int], timeout: float, clock: Callable[[], float] = time.monotonic
     ) -> None:
-        self._address, self._timeout = address, timeout
+        self._kind, self._address, self._timeout = kind, address, timeout
         self.pause = Pause(clock)
         self._trying, self._is_trying = threading.RLock(), False
         self._why = ""
@@ -77,17 +80,27 @@ class Opener:
         finally:
             self._trying.release()
 
-    def open(self) -> tuple[Connection, list[str]]:
+    def look_over(self) -> None:
+        """Raises `Lost` where a pause goes on for a connection that is late."""
+        if not self.pause.is_over():
+            lost = Lost(f"{self._why}; it is asked again after {self.pause.length:g} s", is_slow=True)
+            lost.has_paused = True
+            raise lost
+
+    def open(self) -> tuple[C, list[str]]:
         """A connection that has answered by the names of the groups, and these. Raises `Lost`."""
         if not self.pause.is_over():
             raise Lost(f"{self._why}; it is tried again after {self.pause.length:g} s")
         close_ended()
         try:
-            made = Connection(self._address, self._timeout)
-            names = made.ask(_lines.GROUPS)[0].get("groups")
-            if not isinstance(names, list):
+            made = self._kind(self._address, self._timeout)
+            try:
+                names = made.ask(_lines.GROUPS)[0].get("groups")
+                if not isinstance(names, list):
+                    raise Lost(f"what answers at {self._address} is no service of bulkhead")
+            except BaseException:
                 made.close()
-                raise Lost(f"what answers at {self._address} is no service of bulkhead")
+                raise
         except Lost as lost:
             self.failed(lost)
             raise
@@ -115,7 +128,7 @@ class Links:
         _every.add(self)
 
     def _begin(self) -> None:
-        self._shared: Optional[Connection] = None
+        self._shared: Optional[SharedConnection] = None
         # those that are kept for later calls, and since when; the one that was used last is last
         self._free: list[tuple[Connection, float]] = []
         self._keeping = Upkeep("bulkhead-kept-connections", self.give_up_unused)
@@ -123,16 +136,20 @@ class Links:
         self._lent: weakref.WeakSet[Connection] = weakref.WeakSet()
         # the lock of what is counted of calls; a fork may leave an old one taken
         self.counting = threading.RLock()
-        self._opener, self._own_opener = Opener(*self._opening), Opener(*self._opening)
+        self._opener, self._own_opener = Opener(SharedConnection, *self._opening), Opener(Connection, *self._opening)
         self.names: list[str] = []
 
-    def shared(self) -> Connection:
+    def shared(self) -> SharedConnection:
         """The connection that calls share, which is opened where there is none. Raises `Lost`, and `Stopped` at the end."""
-        link = self._shared
-        if link is not None and not link.is_lost:
+        link = self._opened()
+        if link is not None:
+            if link.is_late:
+                self._opener.look_over()
+            elif self._opener.pause.length:
+                self._opener.pause.answered()
             return link
         with self._opener.trying():
-            link = self.ready()
+            link = self._opened()
             if link is None:
                 self._look_open()
                 link, self.names = self._opener.open()
@@ -156,10 +173,14 @@ class Links:
                 self._owed = owed | self._owed
                 raise
 
-    def ready(self) -> Optional[Connection]:
-        """The connection that calls share, where it need not be opened."""
+    def _opened(self) -> Optional[SharedConnection]:
         link = self._shared
         return None if link is None or link.is_lost else link
+
+    def ready(self) -> Optional[SharedConnection]:
+        """The connection that calls share, where it need not be opened, and no answer is late."""
+        link = self._opened()
+        return None if link is None or link.is_late else link
 
     def take_ready(self) -> Optional[Connection]:
         """A connection for one call alone, where none need be opened for it."""
@@ -212,13 +233,31 @@ class Links:
             with suppress(IndexError):
                 self._free.pop()[0].close()
 
-    def ask(self, *lines: bytes) -> list[Answer]:
+    def ask(self, *lines: bytes, is_owed: bool = False) -> list[Answer]:
         """Has lines answered over the shared connection; where that was lost meanwhile, once more over a new one."""
         try:
-            return self.shared().ask(*lines)
+            return self.shared().ask(*lines, is_owed=is_owed)
         except Lost as lost:
             self.slowed(lost)
-            return self.shared().ask(*lines)
+            return self.shared().ask(*lines, is_owed=is_owed)
+
+    def end_context(self, line: bytes) -> None:
+        """Has the end of a request context told, now or as soon as that can be. Raises `Stopped`."""
+        link = self._opened()
+        if link is not None and link.is_late:
+            link.owe((line,))
+            return
+        try:
+            self.ask(line, is_owed=True)
+        except Reentered:  # as in a finalizer in the midst of a line
+            link = self._opened()
+            if link is None:
+                self.owe(line)
+            else:
+                link.owe((line,))
+        except Lost as lost:
+            if not lost.goes_on:
+                self.owe(line)
 
     def look(self, limit: float) -> None:
         """Raises `Lost` where the service does not answer within so many seconds."""

@@ -63,7 +63,7 @@ class Worker:
 
     def run(self) -> None:
         """Works until `stop` is called, as `work` does until the process ends."""
-        opener = Opener(self._address, self._timeout)
+        opener = Opener(Connection, self._address, self._timeout)
         while not self._is_stopped:
             try:
                 link, names = opener.open()
