@@ -45,6 +45,7 @@ metrics.healthSnapshot.intervalInMilliseconds = 0
 execution.isolation.strategy = "SEMAPHORE"
 execution.isolation.thread.timeoutInMilliseconds = 200
 """
+LONG = "execution.isolation.thread.timeoutInMilliseconds = 60000\n"
 
 
 @cache
@@ -125,6 +126,34 @@ class Program(Case):
                 call()
         self.assertEqual(clients[3].metrics("catalog").circuit, "open")
         self.assert_free(clients[0])
+
+    def test_a_pause_of_the_service_fails_no_run(self) -> None:
+        self.settings.write_text(SETTINGS.replace("[hystrix.command.catalog]\n", "[hystrix.command.catalog]\n" + LONG))
+        service, gate = self.start(), Gate()
+        client = self.client(settings=self.settings, timeout=0.5)
+        call, other = client.command("catalog")(gate), client.command("report")(lambda: 7)
+        told: list[Any] = []
+        threads = [threading.Thread(target=lambda at=at: told.append(call(at))) for at in range(6)]
+        for thread in threads:
+            thread.start()
+        gate.wait(6)
+        os.kill(service.pid, signal.SIGSTOP)
+        os.waitpid(service.pid, os.WUNTRACED)
+        try:
+            for _ in range(2):
+                with self.assertRaises(bulkhead.Unreachable):
+                    other()
+            gate.open()
+            for thread in threads:
+                thread.join(10)
+        finally:
+            os.kill(service.pid, signal.SIGCONT)
+        self.assertEqual(sorted(told), [*range(6)])
+        self.until(lambda: client._links.ready() is not None)
+        self.assert_free(client)
+        metrics = client.metrics("catalog")
+        self.assertEqual((metrics.success, metrics.failure, metrics.circuit), (6, 0, "closed"))
+        self.assertEqual(other(), 7)
 
     def test_a_command_under_thread_is_refused(self) -> None:
         self.start()
