@@ -9,11 +9,8 @@ from collections.abc import Callable
 from typing import Any
 
 import bulkhead
-from support import SETTINGS, Case
-
-# how many frames a call may have before the stack overflows, which is tried one by one
-ROOM = range(1, 70)
-
+from depth import ROOM, depth, overflowing
+from support import Case
 
 def deep(frames: int, call: Callable[[], Any]) -> Any:
     """Makes a call so many frames below."""
@@ -21,23 +18,6 @@ def deep(frames: int, call: Callable[[], Any]) -> Any:
 
 
 class Owed(Case):
-    def overflowing(self, call: Callable[[], Any]) -> int:
-        """Makes a call with more and more room in the stack, and tells how often it overflowed."""
-        before, count = sys.getrecursionlimit(), 0
-        for room in ROOM:
-            limit = _depth() + room
-            try:
-                sys.setrecursionlimit(limit)
-                call()
-            except RecursionError:
-                count += 1
-            except bulkhead.CommandError as error:
-                self.assertIsInstance(error.__cause__, RecursionError)
-                count += 1
-            finally:
-                sys.setrecursionlimit(before)
-        return count
-
     def assert_all_free(self, service: bulkhead.CommandService, free: int, name: str = "permits") -> None:
         told = service.metrics(name)
         self.assertEqual((told.busy, told.free), (0, free))
@@ -47,7 +27,7 @@ class Owed(Case):
         service, _ = self.by_hand()
         free = service.metrics("permits").free
         call = service.command("permits")(lambda: 7)
-        self.assertGreater(self.overflowing(call), 3)
+        self.assertGreater(overflowing(call), 3)
         self.assertEqual(call(), 7)
         self.assert_all_free(service, free)
 
@@ -55,7 +35,7 @@ class Owed(Case):
         service, _ = self.by_hand()
         free = service.metrics("permits").free
         call = service.command("permits", fallback=lambda *, cause: deep(3, lambda: 7))(lambda: 1 // 0)
-        self.assertGreater(self.overflowing(call), 3)
+        self.assertGreater(overflowing(call), 3)
         self.assertEqual(call(), 7)
         self.assert_all_free(service, free)
 
@@ -65,7 +45,7 @@ class Owed(Case):
         numbers = iter(range(1000))
         call = service.command("permits", key=lambda: next(numbers))(lambda: 7)
         with service.context():
-            self.assertGreater(self.overflowing(call), 3)
+            self.assertGreater(overflowing(call), 3)
         self.assertEqual(call(), 7)
         self.assert_all_free(service, free)
 
@@ -74,7 +54,7 @@ class Owed(Case):
         free = service.metrics("pool").free
         call = service.command("pool")(lambda: 7)
         call()
-        self.assertGreater(self.overflowing(lambda: call.queue().result(5)), 3)
+        self.assertGreater(overflowing(lambda: call.queue().result(5)), 3)
         self.assertEqual(call(), 7)
         self.until(lambda: not service.runs())
         self.assert_all_free(service, free, "pool")
@@ -88,7 +68,7 @@ class Owed(Case):
             with service.context():
                 call()
 
-        self.assertGreater(self.overflowing(within), 3)
+        self.assertGreater(overflowing(within), 3)
         gc.collect()
         self.assertEqual(call(), 7)
         self.assert_all_free(service, free)
@@ -103,7 +83,7 @@ class Owed(Case):
 
         async def overflow() -> None:
             for room in ROOM:
-                before, limit = sys.getrecursionlimit(), _depth() + room
+                before, limit = sys.getrecursionlimit(), depth() + room
                 coroutine = call()
                 try:
                     sys.setrecursionlimit(limit)
@@ -151,11 +131,3 @@ class Owed(Case):
         finally:
             sys.unraisablehook = hook
         self.assertEqual([str(one.exc_value) for one in told], ["never"])
-
-
-def _depth() -> int:
-    """How many frames the stack has here."""
-    frame, count = sys._getframe(1), 0
-    while frame is not None:
-        frame, count = frame.f_back, count + 1
-    return count

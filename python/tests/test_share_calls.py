@@ -6,6 +6,7 @@ import threading
 from typing import Any
 
 import bulkhead
+from depth import overflowing
 from fake_share import FALLBACK_DUE
 from share_support import ShareCase
 from support import Gate
@@ -308,3 +309,26 @@ class Declarations(ShareCase):
                 bulkhead.connect(address)  # type: ignore[arg-type]
         with self.assertRaises(bulkhead.Error):
             bulkhead.connect(self.fake.path, timeout=0)
+
+
+class Depth(ShareCase):
+    """Calls for which the stack has no room."""
+
+    def test_calls_that_overflow_the_stack_leave_nothing_behind(self) -> None:
+        client = self.client()
+        call = client.command("catalog", fallback=lambda value, *, cause: "later")(lambda value: [value])
+        keyed = client.command("report", key=lambda: 1, encode=str, decode=int)(lambda: 7)
+
+        def within() -> int:
+            with client.context():
+                value: int = keyed()
+                return value
+
+        for made in (lambda: call(7), within):
+            made()
+            self.assertGreater(overflowing(made), 3)
+            made()
+            self.assert_settled()
+            self.assertEqual([ticket for ticket in self.fake.tickets.values() if ticket.name], [])
+        client.close()
+        self.fake.until(lambda: not self.fake.open_now())

@@ -4,6 +4,7 @@ from __future__ import annotations
 
 import threading
 import time
+import weakref
 from collections.abc import Callable
 from typing import Optional
 
@@ -17,11 +18,12 @@ _PAUSE = 0.1
 class Upkeep:
     """A daemon thread that is there as long as there is something to look after.
 
-    `look` does what is due, and tells in how many seconds it is to be called again, or None where nothing is left.
+    `look` is a method that does what is due, and tells in how many seconds it is to be called again, or None where nothing is
+    left. Its object is not kept by this.
     """
 
     def __init__(self, name: str, look: Callable[[], Optional[float]]) -> None:
-        self._name, self._look = name, look
+        self._name, self._look = name, weakref.WeakMethod(look)
         self._lock, self._is_there, self._is_wanted = threading.RLock(), False, False
 
     def begin(self) -> bool:
@@ -43,10 +45,11 @@ class Upkeep:
     def _looked(self) -> Optional[float]:
         with self._lock:
             self._is_wanted = False
+        look = self._look()
         try:
-            pause = self._look()
+            pause = None if look is None else look()
         except BaseException as error:
-            tell_unraisable(error, self._look)
+            tell_unraisable(error, look)
             pause = _PAUSE
         with self._lock:
             if pause is None and self._is_wanted:  # since that look
