@@ -71,8 +71,8 @@ class Waits(ShareCase):
 
     def test_a_wait_for_a_service_that_is_there_goes_on(self) -> None:
         self.fake.pools.add("catalog")
-        asked = self.in_thread(self.client(timeout=0.1).ask, "catalog", "lamp")
-        self.fake.until(lambda: self.groups() > 5)
+        asked = self.in_thread(self.client(timeout=0.5).ask, "catalog", "lamp")
+        self.fake.until(lambda: self.groups() > 3)
         worker = bulkhead.Worker(self.fake.path, "catalog", {"catalog": str.upper})
         self.addCleanup(worker.stop)
         self.in_thread(worker.run)
@@ -136,7 +136,7 @@ class Late(ShareCase):
 
     def setUp(self) -> None:
         self.clock, self.fake = Moment(), self.service(commands=("report", "more"))
-        self.late = self.client(timeout=0.1)
+        self.late = self.client(timeout=0.25)
         self.gate = Gate()
         self.addCleanup(self.gate.open)
         self.quick = self.late.command("catalog")(lambda: 7)

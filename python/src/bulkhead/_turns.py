@@ -117,7 +117,8 @@ class Turns:
         self.alarm_at: float = -inf
         self.alarm: Optional[Told] = None
         # the changes of circuit breakers, and who tells them, if somebody asked for it
-        self.changes, self.teller = Changes(), None  # type: tuple[Changes, Optional[Teller]]
+        self.changes = Changes()
+        self.teller: Optional[Teller] = None
         # those that are there, by their names, and those that ever were, by their numbers
         self.groups: dict[str, Group] = {}
         self.every_group: list[Group] = []
