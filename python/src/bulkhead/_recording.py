@@ -150,8 +150,9 @@ class Record:
 
     def drop(self) -> None:
         """Of a forked process: what its parent writes it does not."""
-        self.is_whole, self.pending, self._in_hand, self._files = False, [], 0, []
+        self.is_whole, self.pending, self._in_hand = False, [], 0
         self._over.set()
+        self._close()
 
     def _group(self, number: int) -> Group:
         if number not in self._groups:
