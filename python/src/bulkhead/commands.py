@@ -164,8 +164,8 @@ class Command(_CoreDeclared, Generic[P, R]):
                 holder.resolve()
             elif holder.outcome == UNTOLD and holder.run is not run:
                 self._refuse_own(holder)
-            if holder.run is not None and holder.run.has_begun:
-                holder.begin()
+                if holder.run.has_begun:
+                    holder.begin()
         except BaseException as error:
             if holder.outcome in STILL_OPEN:
                 self._turns.owed += (holder,)  # where the stack has no room for the call below
