@@ -55,6 +55,16 @@ impl Leases {
         })
     }
 
+    /// The leases of nobody: there is none, and none may begin. It takes no memory.
+    pub fn none(alloc: Global) -> Leases
+        ensures { result ≡ record { listed = []; limit = 0 } }
+    {
+        Leases {
+            listed: Vec::new(alloc),
+            limit: 0,
+        }
+    }
+
     /// The leases, in the order in which they began.
     pub fn as_slice(&self) -> &[Lease]
         ensures { result.now ≡ self.now.listed }

@@ -4,15 +4,16 @@ ghost use Rattle.std.specs.Prelude.{◌≡◌, []};
 
 use crate::accounts::book_of_two;
 use crate::samples::leases_of;
-use bh_audit::Clock;
 use bh_base::{GroupId, Moment, Op, Text};
 use bh_journal::Journal;
 use bh_lease::Leases;
 use bh_scripts::replies::reply_text;
 use bh_scripts::samples::{submit, text};
 use bh_share::Directory;
-use bh_sharing::SharedGroups;
+use bh_sharing::{Opening, Service, SharedGroups};
+use std::marker::PhantomData;
 use std::process::Abort;
+use std::rt::Clock;
 use std::sync::Wait;
 
 /// The group whose runs are made by callers.
@@ -51,34 +52,40 @@ impl Directory for Nameless {
     }
 }
 
-/// Always says 5.
+/// Always says 5, and goes on.
 #[derive(Drop)]
 struct Five;
 
-impl Clock for Five {
-    ghost moments = { λ moment. moment ≡ 5 };
+impl Service for Five {
+    ghost use Rattle.std.specs.Prelude.{◌≡◌, ⊤};
+
+    ghost facts = { record { opened = λ groups. ⊤; moments = λ moment. moment ≡ 5; stopped = ⊥ } };
 
     fn now(&self) -> Moment {
         5
     }
+
+    fn is_stopped(&self) -> bool {
+        false
+    }
 }
 
 /// Makes a step of the connection, whose answer goes behind the others.
-fn make_step<R: Abort + Wait>(
+fn make_step<R: Abort + Wait + Clock>(
     rt: &R,
-    shared: &SharedGroups,
+    shared: &SharedGroups<Five>,
     leases: &mut Leases,
     op: &Op,
     answers: &mut Vec<u8>,
 ) {
-    let turn = shared.answer(rt, &Nameless, &Five, leases, GROUP, op, false, answers);
+    let turn = shared.answer(rt, &Nameless, leases, GROUP, op, false, answers);
     assert!(rt; turn.is_ok(), "{op:?}: {turn:?}");
 }
 
 /// Makes all steps of a request that its caller runs.
-fn make_steps<R: Abort + Wait>(
+fn make_steps<R: Abort + Wait + Clock>(
     rt: &R,
-    shared: &SharedGroups,
+    shared: &SharedGroups<Five>,
     leases: &mut Leases,
     answers: &mut Vec<u8>,
 ) {
@@ -101,7 +108,12 @@ fn assert_entry<R: Abort + AllocGlobal>(rt: &R, journal: &Journal, place: u64, w
 #[test]
 fn the_book_of_shared_groups_has_each_step(rt: HostRuntime) {
     let book = book_of_two(&rt, true);
-    let shared = SharedGroups::new(rt.alloc(), book, 1, None).expect(&rt, "memory");
+    let opening = Opening {
+        book,
+        log: None,
+        of: PhantomData,
+    };
+    let shared = SharedGroups::new(rt.alloc(), Five, opening, 1).expect(&rt, "memory");
     let mut leases = leases_of(&rt, 4);
     let mut answers = Vec::new(rt.alloc());
     make_steps(&rt, &shared, &mut leases, &mut answers);

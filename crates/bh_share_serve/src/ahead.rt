@@ -58,6 +58,10 @@ impl<'e, R: Wait + Clock> Ahead<'e, R> {
 }
 
 impl<R: Wait + Clock> Presence for Ahead<'_, R> {
+    ghost use Rattle.std.specs.Prelude.{⊤};
+
+    ghost gone = { ⊤ };
+
     /// A client that sent more than 65,536 bytes behind the line that waits is not seen to be gone.
     fn is_gone(&self) -> bool {
         let mut inside = self.inside.lock(self.rt);

@@ -2,6 +2,7 @@
 #![tactic(auto)]
 
 mod ahead;
+mod host;
 mod names;
 mod recorder;
 mod share;

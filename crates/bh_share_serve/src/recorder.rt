@@ -4,7 +4,7 @@ use crate::names::Names;
 use bh_lender::StepLog;
 use bh_serve::Reports;
 use bh_serve::report::{RecordEnd, Report};
-use bh_sharing::{SharedGroups, StepLineError, put_end, put_step};
+use bh_sharing::{Service, SharedGroups, StepLineError, put_end, put_step};
 use std::alloc::Global;
 use std::io::Write;
 use std::rt::Clock;
@@ -23,23 +23,23 @@ const PAUSE: u64 = 5;
 
 /// What a recorder has at hand.
 #[derive(Drop)]
-pub struct Recorder<'e, R> {
+pub struct Recorder<'e, R, S: Service> {
     pub rt: &'e R,
     pub alloc: Global,
-    pub shared: &'e SharedGroups,
+    pub shared: &'e SharedGroups<S>,
     pub names: &'e Names<'e>,
     pub reports: &'e Reports,
 }
 
-impl<R: Wait + Clock> Recorder<'_, R> {
+impl<R: Wait + Clock, S: Service> Recorder<'_, R, S> {
     /// Writes the steps that are put into the log of the service, until that has ended. The log is one of as much room, with
     /// no steps.
     ///
     /// Where the record ends before, a text says why, and the log of the service takes no more steps. A record that does not
     /// ends with a line that says so.
-    pub fn write_to<W: Write>(&self, mut log: StepLog, writer: &mut W) {
+    pub fn write_to<W: Write>(&self, log: StepLog, writer: &mut W) {
         let mut out = Vec::new(self.alloc);
-        if let Err(end) = self.write_all(&mut log, &mut out, writer) {
+        if let Err(end) = self.write_all(log, &mut out, writer) {
             self.reports.put(self.rt, Report::Record(end));
         }
         self.shared.end_record(self.rt);
@@ -48,20 +48,21 @@ impl<R: Wait + Clock> Recorder<'_, R> {
     /// Writes all steps and the end, by way of an empty buffer.
     fn write_all<W: Write>(
         &self,
-        log: &mut StepLog,
+        log: StepLog,
         out: &mut Vec<u8>,
         writer: &mut W,
     ) -> Result<(), RecordEnd> {
+        let mut log = log;
         let mut latest = 0;
         for _ in self.rt.forever() {
             let ended = self.shared.has_ended(self.rt);
-            self.shared.swap_log(self.rt, log);
+            log = self.shared.swap_log(self.rt, log);
             if let Some(step) = log.as_slice().last() {
                 latest = step.now;
             } else if !ended {
                 thread::sleep(self.rt, Duration::from_millis(PAUSE));
             }
-            self.write_steps(log, out, writer)?;
+            self.write_steps(&log, out, writer)?;
             if log.has_lost() {
                 return Err(RecordEnd::Full);
             }

@@ -2,6 +2,7 @@
 
 ghost use Rattle.std.specs.Prelude.{◌≡◌, ◌⊎◌};
 
+use crate::host::Host;
 use crate::names::Names;
 use crate::recorder::MOST_STEPS;
 use crate::threads::Server;
@@ -10,16 +11,16 @@ use bh_desk::Buffers;
 use bh_lender::StepLog;
 use bh_port::script::open;
 use bh_props::Settings;
-use bh_serve::clock::MachineClock;
 use bh_serve::connections::Connections;
 use bh_serve::ending::Ending;
 use bh_serve::report::Report;
 use bh_serve::serve::ServeError;
 use bh_serve::{Acceptor, Door, Reports};
-use bh_sharing::SharedGroups;
+use bh_sharing::{Opening, SharedGroups};
 use crossbeam_utils::CachePadded;
 use std::alloc::{AllocError, Global};
 use std::io::Write;
+use std::marker::PhantomData;
 use std::net::{OpenListener, TcpStream};
 use std::rt::Clock;
 use std::sync::{Mutex, Wait};
@@ -105,15 +106,13 @@ fn share<
 ) -> Result<Ending, AllocError> {
     let names = Names::of(alloc, settings)?;
     let (log, record) = logs(alloc, record)?;
-    let shared = shared_groups(alloc, settings, acceptor.threads(), log)?;
-    let clock = MachineClock::start(rt);
+    let shared = shared_groups(rt, alloc, settings, acceptor.threads(), log)?;
     let buffers = buffers(alloc, acceptor.threads())?;
     let server = Server {
         rt,
         alloc,
         shared: &shared,
         names: &names,
-        clock: &clock,
         sharing,
         buffers: buffers.as_slice(),
         connections: Connections {
@@ -151,17 +150,23 @@ fn logs<W: Drop>(alloc: Global, record: Option<W>) -> Result<Logs<W>, AllocError
 }
 
 /// The groups of the settings, all new, for so many connections. They are not audited.
-fn shared_groups(
+fn shared_groups<'e, R: Clock>(
+    rt: &'e R,
     alloc: Global,
     settings: &Settings,
     connections: u32,
     log: Option<StepLog>,
-) -> Result<SharedGroups, AllocError> {
+) -> Result<SharedGroups<Host<'e, R>>, AllocError> {
     let Ok(core) = open(alloc, settings) else {
         return Err(AllocError);
     };
     let Ok(book) = Book::new(alloc, core, None) else {
         return Err(AllocError);
     };
-    SharedGroups::new(alloc, book, connections, log)
+    let opening = Opening {
+        book,
+        log,
+        of: PhantomData,
+    };
+    SharedGroups::new(alloc, Host::start(rt), opening, connections)
 }

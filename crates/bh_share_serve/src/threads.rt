@@ -4,6 +4,7 @@ ghost use Rattle.std.specs.Prelude.{◌≡◌};
 ghost use Rattle.bh_share_serve.specs.Ending.{end_unless_gone};
 
 use crate::ahead::Ahead;
+use crate::host::Host;
 use crate::names::Names;
 use crate::recorder::Recorder;
 use crate::share::Sharing;
@@ -11,7 +12,6 @@ use bh_desk::Buffers;
 use bh_lease::Leases;
 use bh_lender::StepLog;
 use bh_lines::PortError;
-use bh_serve::clock::MachineClock;
 use bh_serve::connection::{ConnectionFault, Incoming, Outgoing, end_of, ready};
 use bh_serve::connections::{Answering, Connections};
 use bh_serve::ending::Ending;
@@ -51,20 +51,20 @@ fn end_unless_gone(
 
 /// A service that runs: what each of its threads has at hand.
 #[derive(Drop)]
-pub struct Server<'e, R, L> {
+pub struct Server<'e, 'h, R: Clock, L> {
     pub rt: &'e R,
     pub alloc: Global,
-    pub shared: &'e SharedGroups,
+    pub shared: &'e SharedGroups<Host<'h, R>>,
     pub names: &'e Names<'e>,
-    pub clock: &'e MachineClock<'e, R>,
     pub sharing: Sharing,
     /// What each thread of connections keeps from one to the next, by its number.
     pub buffers: &'e [CachePadded<Mutex<Buffers>>],
     pub connections: Connections<'e, R, L>,
 }
 
-impl<'e, R: Threads + Wait + Clock + Sync, L: OpenListener<Stream = TcpStream> + Sync> Server<
+impl<'e, 'h, R: Threads + Wait + Clock + Sync, L: OpenListener<Stream = TcpStream> + Sync> Server<
     'e,
+    'h,
     R,
     L,
 > {
@@ -131,8 +131,7 @@ impl<'e, R: Threads + Wait + Clock + Sync, L: OpenListener<Stream = TcpStream> +
             if self.shared.has_ended(self.rt) {
                 return;
             }
-            self.shared
-                .expire(self.rt, self.clock, self.names.len() as u64);
+            self.shared.expire(self.rt, self.names.len() as u64);
         }
     }
 
@@ -149,7 +148,7 @@ impl<'e, R: Threads + Wait + Clock + Sync, L: OpenListener<Stream = TcpStream> +
     }
 }
 
-impl<'e, R: Wait + Clock, L> Answering for Server<'e, R, L> {
+impl<'e, 'h, R: Wait + Clock, L> Answering for Server<'e, 'h, R, L> {
     fn answer_lines(&self, number: usize, stream: &TcpStream) -> Result<(), ConnectionFault> {
         ready(stream)?;
         let acceptor = self.connections.acceptor;
@@ -162,7 +161,8 @@ impl<'e, R: Wait + Clock, L> Answering for Server<'e, R, L> {
     }
 
     fn stop(&self) {
-        self.shared.stop(self.rt);
+        self.shared.service().stop();
+        self.shared.wake_all(self.rt);
     }
 
     fn settle(&self) {
@@ -175,7 +175,7 @@ impl<'e, R: Wait + Clock, L> Answering for Server<'e, R, L> {
     }
 }
 
-impl<'e, R: Wait + Clock, L> Server<'e, R, L> {
+impl<'e, 'h, R: Wait + Clock, L> Server<'e, 'h, R, L> {
     /// Answers the lines of the input to the output, and gives back what the connection has then.
     fn attend(
         &self,
@@ -189,7 +189,6 @@ impl<'e, R: Wait + Clock, L> Server<'e, R, L> {
             alloc: self.alloc,
             shared: self.shared,
             names: self.names,
-            clock: self.clock,
             presence: ahead,
             number,
             leases,

@@ -1,17 +1,18 @@
 -- What a connection has, and what its lines may be answered.
-use Rattle.std.specs.Prelude.{◌≡◌, ◌⊎◌, ℕ, List, codes, true}
-use Rattle.bh_base.specs.declared.step.GroupId.{GroupId}
-use Rattle.bh_base.specs.declared.step.Op.{Op}
+use Rattle.std.specs.Prelude.{◌≡◌, ◌⊎◌, ℕ, List, [], codes, true, IfSome, Option, Result}
 use Rattle.bh_control.specs.AnswerLine.{groups_line}
+use Rattle.bh_desk.specs.Answers.{HasAnsweredSome, responder}
+use Rattle.bh_desk.specs.Session.{SessionOutcome}
 use Rattle.bh_lease.specs.Leases.{LeasesView}
-use Rattle.bh_lender.specs.Lender.{LenderView}
-use Rattle.bh_lender.specs.Steps.{step_at}
+use Rattle.bh_lines.specs.declared.port_error.PortError.{PortError}
+use Rattle.bh_lines.specs.Lines.{cut}
 use Rattle.bh_lines.specs.Names.{Names}
 use Rattle.bh_replies.specs.FaultLine.{error_data}
 use Rattle.bh_replies.specs.ReplyLine.{json_line}
 use Rattle.bh_share.specs.declared.share_line.ShareLine.{ShareLine}
 use Rattle.bh_share.specs.declared.share_line.ShareLine.TheVariants as lines
-use Rattle.bh_turns.specs.Turn.{IsAnswered}
+use Rattle.bh_sharing.specs.Service.{Facts}
+use Rattle.bh_sharing.specs.Shared.{IsReturned, IsTurn}
 
 -- the names of the groups and commands that a connection asks, and what it has of tickets
 pub record ClientView : Type 0 where
@@ -22,16 +23,18 @@ pub record ClientView : Type 0 where
 abbrev pub gone_line : List ℕ
 gone_line = json_line (error_data (codes "gone"))
 
--- one step was made in one turn, whatever the groups were then, or was refused by what the connection has, and the line
--- tells the one or the other
-abbrev pub IsTurn : Names → GroupId → Op → LeasesView → LeasesView → List ℕ → Type 0
-IsTurn names group o had has line =
-    (now : ℕ) × (old : LenderView) × (new : LenderView) × IsAnswered names (step_at group now o) old had new has line
-
 -- what a line may be answered, and what the connection has then: the names; or what a step that was made for it tells; or,
--- where the line may wait, that the client is gone, with nothing done
-abbrev pub MayTell : ClientView → ShareLine → List ℕ → ClientView → Type 0
-MayTell old lines.Groups line new = (new ≡ old) × (line ≡ groups_line old.names.groups)
-MayTell old (lines.Step group o wait) line new =
+-- where the line may wait and the client is gone, that it is, with nothing done
+abbrev pub MayTell : Facts → Type 0 → ClientView → ShareLine → List ℕ → ClientView → Type 0
+MayTell facts gone old lines.Groups line new = (new ≡ old) × (line ≡ groups_line old.names.groups)
+MayTell facts gone old (lines.Step group o wait) line new =
     (new.names ≡ old.names)
-    × (IsTurn old.names group o old.leases new.leases line ⊎ ((wait ≡ true) × (new.leases ≡ old.leases) × (line ≡ gone_line)))
+    × (IsTurn facts old.names group o wait old.leases new.leases line ⊎ ((wait ≡ true) × gone × (new.leases ≡ old.leases) × (line ≡ gone_line)))
+
+-- A connection that began with this was answered to its end: what it had then it had by turns for its lines alone, which are
+-- those of the input, where that is known, and all of it was given back.
+pub record IsAttended (facts : Facts) (gone : Type 0) (begun : ClientView) (input w0 w1 : Option (List ℕ)) (result : Result (Unit {0}) PortError) : Type 0 where
+  pub had : ClientView
+  pub turns : HasAnsweredSome (responder begun.names (MayTell facts gone)) begun had
+  pub answers : IfSome input (λ bytes. SessionOutcome (responder begun.names (MayTell facts gone)) begun had w0 w1 (cut bytes) result)
+  pub returned : IsReturned facts had.leases (record had.leases { listed = [] })

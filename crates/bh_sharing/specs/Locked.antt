@@ -1,15 +1,15 @@
 -- What one turn does to what stands under the lock.
-use Rattle.std.specs.Prelude.{◌≡◌, ℕ, List, [], ◌++◌, Bool, true, Option, Result, Ok, Err, max}
-use Rattle.std.specs.declared.alloc.AllocError.{AllocError}
+use Rattle.std.specs.Prelude.{◌≡◌, ◌⊎◌, ℕ, zero, suc, ◌+◌, Bool, true, false, [], Option, max}
+use Rattle.bh_base.specs.declared.reply.Reply.{Reply}
 use Rattle.bh_base.specs.declared.step.GroupId.{GroupId}
 use Rattle.bh_base.specs.declared.step.Op.{Op}
-use Rattle.bh_desk.specs.declared.desk.Turn.{Turn}
-use Rattle.bh_desk.specs.declared.desk.Turn.TheVariants as turn
-use Rattle.bh_lease.specs.Leases.{LeasesView}
+use Rattle.bh_lease.specs.Leases.{LeasesView, refusal}
 use Rattle.bh_lender.specs.Lender.{IsExpired, IsGivenBack, LenderView}
 use Rattle.bh_lender.specs.Steps.{step_at}
-use Rattle.bh_lines.specs.Names.{Names}
-use Rattle.bh_turns.specs.Turn.{IsAnswered, has_to_wait}
+use Rattle.bh_sharing.specs.declared.asks.Said.{Said}
+use Rattle.bh_sharing.specs.declared.asks.Said.TheVariants as said
+use Rattle.bh_sharing.specs.Service.{Facts}
+use Rattle.bh_turns.specs.Turn.{IsDone, has_to_wait}
 
 -- the groups with the holders that are left, and the moment of the latest turn
 pub record LockedView : Type 0 where
@@ -20,20 +20,19 @@ pub record LockedView : Type 0 where
 abbrev pub IsReadAfter : (ℕ → Type 0) → ℕ → ℕ → Type 0
 IsReadAfter moments old new = (read : ℕ) × moments read × (new ≡ max old read)
 
--- the step was made at the moment of the turn, or refused by what the connection has, and the line tells the one or the other
-abbrev pub IsAnsweredAt : (ℕ → Type 0) → Names → GroupId → Op → LockedView → LeasesView → LockedView → LeasesView → List ℕ → Type 0
-IsAnsweredAt moments names group o old had new has line =
-    IsReadAfter moments old.latest new.latest × IsAnswered names (step_at group new.latest o) old.lender had new.lender has line
+-- a step need not wait: it is not to, or the service was stopped, or it would be answered neither Pending nor Idle
+abbrev pub NeedNotWait : Facts → Bool → LenderView → LeasesView → GroupId → Op → Type 0
+NeedNotWait facts wait lender had group o = wait ≡ true → facts.stopped ⊎ (has_to_wait lender had group o ≡ false)
 
--- the line stands behind the bytes; or the step is to wait and has to, and nothing was done; or memory for the line was
--- refused, and the bytes are as they were
-abbrev pub IsTurnAt : (ℕ → Type 0) → Names → GroupId → Op → Bool → LockedView → LeasesView → List ℕ → Result Turn AllocError → LockedView → LeasesView → List ℕ → Type 0
-IsTurnAt moments names group o wait old had before (Ok turn.Answered) new has after =
-    (line : List ℕ) × IsAnsweredAt moments names group o old had new has line × (after ≡ before ++ line)
-IsTurnAt moments names group o wait old had before (Ok turn.Waits) new has after =
-    (wait ≡ true) × (has_to_wait old.lender had group o ≡ true) × (new ≡ old) × (has ≡ had) × (after ≡ before)
-IsTurnAt moments names group o wait old had before (Err refused) new has after =
-    (line : List ℕ) × IsAnsweredAt moments names group o old had new has line × (after ≡ before)
+-- the step need not wait, and was made at the moment of the turn, or refused by what the connection has; or it is to wait and
+-- has to, and nothing was done
+abbrev pub IsTurnAt : Facts → GroupId → Op → Bool → LockedView → LeasesView → Reply → LockedView → LeasesView → Said → Type 0
+IsTurnAt facts group o wait old had reply new has (said.Told refused) =
+    NeedNotWait facts wait old.lender had group o × IsReadAfter facts.moments old.latest new.latest × (refused ≡ refusal group o had)
+    × IsDone (step_at group new.latest o) reply old.lender had new.lender has
+IsTurnAt facts group o wait old had reply new has said.Waits =
+    (wait ≡ true) × (has_to_wait old.lender had group o ≡ true) × (new ≡ old) × (has ≡ had)
+IsTurnAt facts group o wait old had reply new has _ = ⊥
 
 -- all that the connection had was given back, at the moment of the turn
 abbrev pub IsGivenBackAt : (ℕ → Type 0) → LockedView → LeasesView → LockedView → LeasesView → Type 0
@@ -44,3 +43,9 @@ IsGivenBackAt moments old had new has =
 abbrev pub IsExpiredAt : (ℕ → Type 0) → GroupId → LockedView → LockedView → Type 0
 IsExpiredAt moments group old new =
     (number : Option ℕ) × IsReadAfter moments old.latest new.latest × IsExpired group new.latest number old.lender new.lender
+
+-- the same in so many groups one after the other, from this number on
+abbrev pub AreExpiredAt : (ℕ → Type 0) → ℕ → ℕ → LockedView → LockedView → Type 0
+AreExpiredAt moments first zero old new = new ≡ old
+AreExpiredAt moments first (suc count) old new =
+    (mid : LockedView) × AreExpiredAt moments first count old mid × IsExpiredAt moments (record { 0 = first + count }) mid new

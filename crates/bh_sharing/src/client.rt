@@ -1,18 +1,15 @@
 //! One connection to a service that is shared: how its lines are answered, and what it gives back at its end.
 
-ghost use Rattle.std.specs.Prelude.{◌≡◌, [], IfSome, false, true};
-ghost use Rattle.bh_desk.specs.Answers.{HasAnsweredSome, responder};
-ghost use Rattle.bh_desk.specs.Session.{SessionOutcome};
+ghost use Rattle.std.specs.Prelude.{◌≡◌, false, true};
 ghost use Rattle.bh_desk.specs.Turns.{IsTurn, IsWaited};
-ghost use Rattle.bh_lines.specs.Lines.{cut};
-ghost use Rattle.bh_sharing.specs.Client.{ClientView, MayTell};
+ghost use Rattle.bh_sharing.specs.Client.{IsAttended, MayTell};
 ghost use Rattle.bh_sharing.specs.Shared.{IsReturned, IsShared};
 ghost use Rattle.bh_share.specs.declared.share_line.ShareLine.TheVariants as lines;
 ghost use Rattle.bh_streams.specs.Watched.{bytes_held, bytes_left};
 
+use crate::service::Service;
 use crate::shared::SharedGroups;
 use crate::waiters::Waiter;
-use bh_audit::Clock;
 use bh_base::{GroupId, Op};
 use bh_control::put_groups;
 use bh_desk::{Buffers, Desk, Turn, converse};
@@ -24,7 +21,7 @@ use bh_streams::{WatchedReader, WatchedWriter};
 use std::alloc::{AllocError, Global};
 use std::io::{Read, Write};
 use std::marker::Model;
-use std::rt;
+use std::rt::Clock;
 use std::sync::Wait;
 
 /// How long a connection that has leases sleeps before it looks whether its client is gone, in milliseconds.
@@ -35,22 +32,24 @@ const IDLE_LOOK: u64 = 50;
 
 /// Whether a client is there.
 pub trait Presence {
+    /// What is so once the client sends nothing more. It is a fact of the type, whatever the value.
+    ghost gone: { Type 0 };
+
     /// Whether the client sends nothing more.
-    fn is_gone(&self) -> bool;
+    fn is_gone(&self) -> bool
+        ensures { result ≡ true → gone };
 }
 
 /// One connection: what it has of tickets, and the service that it asks.
 #[derive(Drop)]
-pub struct Client<'e, R, C, P, N: Directory> {
+pub struct Client<'e, R, S: Service, P, N: Directory> {
     /// What its calls wait by.
     pub rt: &'e R,
     pub alloc: Global,
     /// The groups that it asks.
-    pub shared: &'e SharedGroups,
+    pub shared: &'e SharedGroups<S>,
     /// The names of these groups and of their commands.
     pub names: &'e N,
-    /// The clock that is read in each turn.
-    pub clock: &'e C,
     /// Whether its client is there.
     pub presence: &'e P,
     /// Its number among the connections, which no other one has at the time.
@@ -59,7 +58,7 @@ pub struct Client<'e, R, C, P, N: Directory> {
     pub leases: Leases,
 }
 
-impl<'e, R, C, P, N: Directory> Model for Client<'e, R, C, P, N> {
+impl<'e, R, S: Service, P, N: Directory> Model for Client<'e, R, S, P, N> {
     ghost use Rattle.bh_sharing.specs.Client.{ClientView};
 
     ghost Value = { ClientView };
@@ -67,7 +66,7 @@ impl<'e, R, C, P, N: Directory> Model for Client<'e, R, C, P, N> {
     ghost view = { λ c. record { names = N.names c.names.now; leases = c.leases } };
 }
 
-impl<'e, R: Wait + rt::Clock, C: Clock, P: Presence, N: Directory> Client<'e, R, C, P, N> {
+impl<'e, R: Wait + Clock, S: Service, P: Presence, N: Directory> Client<'e, R, S, P, N> {
     /// Answers a step, or does nothing where it has to wait.
     fn answer_step(
         &mut self,
@@ -76,24 +75,15 @@ impl<'e, R: Wait + rt::Clock, C: Clock, P: Presence, N: Directory> Client<'e, R,
         wait: bool,
         out: &mut Vec<u8>,
     ) -> Result<Turn, AllocError>
-        ensures turn { IsShared self.old.names group op.now wait self.old.leases out.old.items result self.new.leases out.new.items }
+        ensures turn { IsShared S.facts self.old.names group op.now wait self.old.leases out.old.items result self.new.leases out.new.items }
         ensures names { self.new.names ≡ self.old.names }
     {
-        self.shared.answer(
-            self.rt,
-            self.names,
-            self.clock,
-            &mut self.leases,
-            group,
-            op,
-            wait,
-            out,
-        )
+        self.shared.answer(self.rt, self.names, &mut self.leases, group, op, wait, out)
     }
 
     /// Answers a step that is not to wait.
     fn answer_now(&mut self, group: GroupId, op: &Op, out: &mut Vec<u8>) -> Result<(), AllocError>
-        ensures { IsWaited MayTell self.old (lines.Step group op.now false) out.old.items result self.new out.new.items }
+        ensures { IsWaited (MayTell S.facts P.gone) self.old (lines.Step group op.now false) out.old.items result self.new out.new.items }
     {
         match self.answer_step(group, op, false, out) {
             Ok(Turn::Answered) => Ok(()),
@@ -109,7 +99,7 @@ impl<'e, R: Wait + rt::Clock, C: Clock, P: Presence, N: Directory> Client<'e, R,
         op: &Op,
         out: &mut Vec<u8>,
     ) -> Result<(), AllocError>
-        ensures { IsWaited MayTell self.old (lines.Step group op.now true) out.old.items result self.new out.new.items }
+        ensures { IsWaited (MayTell S.facts P.gone) self.old (lines.Step group op.now true) out.old.items result self.new out.new.items }
     {
         let waiter = Waiter {
             group,
@@ -125,7 +115,7 @@ impl<'e, R: Wait + rt::Clock, C: Clock, P: Presence, N: Directory> Client<'e, R,
     /// Answers a step once it need not wait, the service is stopped or the client is gone; of a client that is gone no step
     /// is made.
     fn await_step(&mut self, group: GroupId, op: &Op, out: &mut Vec<u8>) -> Result<(), AllocError>
-        ensures { IsWaited MayTell self.old (lines.Step group op.now true) out.old.items result self.new out.new.items }
+        ensures { IsWaited (MayTell S.facts P.gone) self.old (lines.Step group op.now true) out.old.items result self.new out.new.items }
     {
         for _ in self.rt.forever() {
             match self.answer_step(group, op, true, out) {
@@ -133,8 +123,8 @@ impl<'e, R: Wait + rt::Clock, C: Clock, P: Presence, N: Directory> Client<'e, R,
                 Ok(Turn::Waits) => {}
                 Err(refused) => return Err(refused),
             }
-            let stopped = self.shared.sleep(self.rt, self.number, self.patience());
-            if !stopped && self.presence.is_gone() {
+            self.shared.sleep(self.rt, self.number, self.patience());
+            if !self.shared.service().is_stopped() && self.presence.is_gone() {
                 return put_error(self.alloc, out, "gone");
             }
         }
@@ -152,17 +142,17 @@ impl<'e, R: Wait + rt::Clock, C: Clock, P: Presence, N: Directory> Client<'e, R,
 
     /// Gives back all that it has.
     fn end(&mut self)
-        ensures returned { IsReturned self.old.leases self.new.leases }
+        ensures returned { IsReturned S.facts self.old.leases self.new.leases }
         ensures names { self.new.names ≡ self.old.names }
     {
-        self.shared.give_back(self.rt, self.clock, &mut self.leases);
+        self.shared.give_back(self.rt, &mut self.leases);
     }
 }
 
-impl<'e, R: Wait + rt::Clock, C: Clock, P: Presence, N: Directory> Desk for Client<'e, R, C, P, N> {
+impl<'e, R: Wait + Clock, S: Service, P: Presence, N: Directory> Desk for Client<'e, R, S, P, N> {
     ghost use Rattle.bh_sharing.specs.Client.{MayTell};
 
-    ghost may = { MayTell };
+    ghost may = { MayTell S.facts P.gone };
 
     fn answer(&mut self, line: &ShareLine, out: &mut Vec<u8>) -> Result<Turn, AllocError> {
         match line {
@@ -200,15 +190,13 @@ fn ticket_of(op: &Op) -> Option<u64> {
 /// gives back all that it has then, however it ended.
 ///
 /// The errors are those of `converse`.
-pub fn attend<R: Wait + rt::Clock, C: Clock, P: Presence, N: Directory, I: Read, O: Write>(
-    client: Client<'_, R, C, P, N>,
+pub fn attend<R: Wait + Clock, S: Service, P: Presence, N: Directory, I: Read, O: Write>(
+    client: Client<'_, R, S, P, N>,
     buffers: &mut Buffers,
     reader: &mut WatchedReader<'_, I>,
     writer: &mut WatchedWriter<'_, O>,
 ) -> Result<(), PortError>
-    ensures returned { (had : ClientView) × HasAnsweredSome (responder client.entry.names MayTell) client.entry had × IsReturned had.leases (record had.leases { listed = [] }) }
-    ensures answers { IfSome (bytes_left I.remaining reader.old) (λ input. (had : ClientView) ×
-        SessionOutcome (responder client.entry.names MayTell) client.entry had (bytes_held O.contents writer.old) (bytes_held O.contents writer.new) (cut input) result) }
+    ensures { IsAttended S.facts P.gone client.entry (bytes_left I.remaining reader.old) (bytes_held O.contents writer.old) (bytes_held O.contents writer.new) result }
 {
     let mut client = client;
     let outcome = converse(

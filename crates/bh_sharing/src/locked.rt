@@ -1,211 +1,253 @@
 //! What stands under the lock of a service that connections share, and its turns.
 
-ghost use Rattle.std.specs.Prelude.{◌≡◌, [], IfOk, None, OnErr, OnOk};
+ghost use Rattle.std.specs.Prelude.{◌≡◌, ◌-◌, [], IfOk, None};
+ghost use Rattle.bh_base.specs.declared.reply.Reply.{Reply};
 ghost use Rattle.bh_lender.specs.Recorded.{book_of, log_or, recorded_of, with_log_of};
-ghost use Rattle.bh_sharing.specs.Locked.{IsExpiredAt, IsGivenBackAt, IsReadAfter, IsTurnAt};
+ghost use Rattle.bh_sharing.specs.Locked.{AreExpiredAt, IsExpiredAt, IsReadAfter, IsTurnAt};
+ghost use Rattle.bh_sharing.specs.declared.asks.Ask.TheVariants as ask;
+ghost use Rattle.bh_sharing.specs.declared.asks.Said.TheVariants as said;
+ghost use Rattle.bh_sharing.specs.Service.{IsOf};
+ghost use Rattle.bh_sharing.specs.Turns.{Does};
 
+use crate::asks::{Answer, Ask, Said};
+use crate::opening::Opening;
+use crate::service::Service;
 use crate::waiters::{Numbers, Waiter, Waiters};
-use bh_audit::{Book, Clock};
-use bh_base::{GroupId, Moment, Op, Step};
-use bh_desk::Turn;
+use bh_audit::Book;
+use bh_base::{GroupId, Moment, Op, Reply, Step};
 use bh_lease::Leases;
 use bh_lender::{Lender, StepLog};
-use bh_share::Directory;
-use bh_turns::{answer_step, has_to_wait};
+use bh_turns::{has_to_wait, make_step};
 use std::alloc::{AllocError, Global};
-use std::marker::Model;
+use std::marker::{Model, PhantomData};
 
 /// The groups, who waits for them, and the moment of the last turn: no turn is earlier than one before it.
+///
+/// The groups are what steps made of some with which such a service may be opened.
 #[derive(Drop)]
-pub struct Locked {
+pub struct Locked<S: Service> {
     lender: Lender,
     latest: Moment,
     waiters: Waiters,
-    stopped: bool,
     ended: bool,
+    of: PhantomData<S>,
 }
 
-impl Model for Locked {
+impl<S: Service> Model for Locked<S> {
     ghost use Rattle.bh_sharing.specs.Locked.{LockedView};
+    ghost use Rattle.bh_sharing.specs.Service.{IsOf};
 
     ghost Value = { LockedView };
 
     ghost view = { λ l. record { lender = l.lender; latest = l.latest } };
+
+    ghost invariant = { λ l. IsOf S.facts l.lender.recorded.groups };
 }
 
-impl Locked {
-    /// The groups of a book, for so many connections. Each step is in the account of the book, where that is audited, and is
-    /// put into the log, where one is given.
+impl<S: Service> Locked<S> {
+    /// The groups that a service is opened with, for so many connections. Each step is in the account of the book, where that
+    /// is audited, and is put into the log, where one is given. It fails only for want of memory.
     pub fn new(
         alloc: Global,
-        book: Book,
+        opening: Opening<S>,
         connections: u32,
-        log: Option<StepLog>,
-    ) -> Result<Locked, AllocError>
-        ensures { IfOk result (λ made. made ≡ record { lender = record { recorded = recorded_of book log; left = [] }; latest = 0 }) }
+    ) -> Result<Locked<S>, AllocError>
+        ensures { IfOk result (λ made. made ≡ record { lender = record { recorded = recorded_of opening.book opening.log; left = [] }; latest = 0 }) }
     {
         let waiters = Waiters::new(alloc, connections)?;
+        let Opening { book, log, of: _ } = opening;
         Ok(Locked {
             lender: Lender::new(alloc, book, log),
             latest: 0,
             waiters,
-            stopped: false,
             ended: false,
+            of: PhantomData,
         })
     }
 
     /// The book, with the groups and the account as the turns so far left them.
     pub fn into_book(self) -> Book
-        ensures { result ≡ book_of self.lender.recorded }
+        ensures book { result ≡ book_of self.lender.recorded }
+        ensures of { IsOf S.facts result.groups }
     {
         let Locked {
             lender,
             latest: _,
             waiters: _,
-            stopped: _,
             ended: _,
+            of: _,
         } = self;
         lender.into_book()
     }
 
     /// The moment of the turn that begins.
-    fn moment<C: Clock>(&mut self, clock: &C) -> Moment
+    fn moment(&mut self, service: &S) -> Moment
         ensures is { result ≡ self.new.latest }
-        ensures read { IsReadAfter C.moments self.old.latest self.new.latest }
+        ensures read { IsReadAfter S.facts.moments self.old.latest self.new.latest }
         ensures groups { self.new.lender ≡ self.old.lender }
     {
-        self.latest = self.latest.max(clock.now());
+        self.latest = self.latest.max(service.now());
         self.latest
     }
 
-    /// Makes the step of the group for the connection that has the leases, at the moment that the clock says now, and puts
-    /// the line that answers it behind the bytes; or does nothing, where it is to wait and has to.
-    ///
-    /// The error comes where memory for the line was refused: the bytes are as they were then, and what was done stays done.
-    pub fn answer<D: Directory, C: Clock>(
+    /// Has done what is asked for, in one turn, and answers what is said to it and who may go on.
+    pub fn turn(
         &mut self,
-        alloc: Global,
-        directory: &D,
-        clock: &C,
+        service: &S,
+        ask: Ask<'_>,
+        leases: &mut Leases,
+        reply: &mut Reply,
+    ) -> Answer
+        ensures does { Does S.facts ask.entry self.old leases.old reply.new self.new leases.new result.said }
+        ensures of { IsOf S.facts self.old.lender.recorded.groups }
+    {
+        self.are_of_service();
+        match ask {
+            Ask::Step { group, op, wait } => {
+                let said = self.step(service, leases, group, op, wait, reply);
+                Answer::telling(said, self.tell(group))
+            }
+            Ask::GiveBack => self.give_back(service, leases),
+            Ask::Expire { from, to } => {
+                Answer::telling(Said::Done, self.expire_each(service, from, to))
+            }
+            Ask::BeginWait { number, waiter } => self.set_waiter(number, Some(waiter)),
+            Ask::Sleep { number, .. } => self.looked(number),
+            Ask::EndWait { number, group } => {
+                self.set_waiter(number, None);
+                Answer::telling(Said::Done, self.tell(group))
+            }
+            Ask::WakeAll => Answer::quiet(Said::Done),
+            Ask::IsQuiet => Answer::quiet(Said::Is(self.waiters.is_empty())),
+            Ask::End => self.end(),
+            Ask::HasEnded => Answer::quiet(Said::Is(self.ended)),
+            Ask::SwapLog(log) => Answer::quiet(Said::Log(self.swap_log(log))),
+            Ask::EndRecord => self.end_record(),
+        }
+    }
+
+    /// The groups are what steps made of some with which such a service may be opened.
+    pub fn are_of_service(&self)
+        ensures { IsOf S.facts self.now.lender.recorded.groups }
+    {
+        let _ = &self.lender;
+    }
+
+    /// Makes the step of the group for the connection that has the leases, at the moment that the clock says now, and writes
+    /// its reply where the caller keeps it; or does nothing, where the connection may not ask for it, or where it is to wait
+    /// and has to. Nobody has to in a service that was stopped.
+    pub fn step(
+        &mut self,
+        service: &S,
         leases: &mut Leases,
         group: GroupId,
         op: &Op,
         wait: bool,
-        out: &mut Vec<u8>,
-    ) -> Result<Turn, AllocError>
-        ensures { IsTurnAt C.moments (D.names directory.now) group op.now wait self.old leases.old out.old.items result self.new leases.new out.new.items }
+        reply: &mut Reply,
+    ) -> Said
+        ensures { IsTurnAt S.facts group op.now wait self.old leases.old reply.new self.new leases.new result }
     {
-        if wait && !self.stopped && has_to_wait(&self.lender, leases, group, op) {
-            return Ok(Turn::Waits);
+        if wait && has_to_wait(&self.lender, leases, group, op) && !service.is_stopped() {
+            return Said::Waits;
         }
-        let now = self.moment(clock);
+        let now = self.moment(service);
         let step = Step {
             group,
             now,
             op: *op,
         };
-        match answer_step(alloc, directory, &mut self.lender, leases, &step, out) {
-            Ok(()) => Ok(Turn::Answered),
-            Err(refused) => Err(refused),
+        Said::Told(make_step(&mut self.lender, leases, &step, reply))
+    }
+
+    /// Gives back all that a connection has which ends, unless memory is refused for that: nothing is done then.
+    pub fn give_back(&mut self, service: &S, leases: &mut Leases) -> Answer
+        ensures { (reply : Reply) → Does S.facts ask.GiveBack self.old leases.old reply self.new leases.new result.said }
+    {
+        let now = self.moment(service);
+        match self.lender.give_back(leases, now) {
+            Ok(()) => Answer::telling(Said::Done, self.waiters.tell_all(self.lender.core())),
+            Err(AllocError) => Answer::quiet(Said::NoMemory),
         }
     }
 
-    /// Gives back all that a connection has which ends, and answers who may go on.
-    ///
-    /// The error comes where memory was refused: nothing has changed then.
-    pub fn give_back<C: Clock>(
-        &mut self,
-        clock: &C,
-        leases: &mut Leases,
-    ) -> Result<Numbers, AllocError>
-        ensures given { OnOk result (IsGivenBackAt C.moments self.old leases.old self.new leases.new) }
-        ensures err { OnErr result ((self.new.lender ≡ self.old.lender) × (leases.new ≡ leases.old)) }
+    /// Times out what is due in the groups of the numbers from one on and below another, and answers who may go on.
+    pub fn expire_each(&mut self, service: &S, from: u64, to: u64) -> Numbers
+        ensures { AreExpiredAt S.facts.moments from (to - from) self.old self.new }
     {
-        let now = self.moment(clock);
-        match self.lender.give_back(leases, now) {
-            Ok(()) => Ok(self.waiters.tell_all(self.lender.core())),
-            Err(refused) => Err(refused),
+        let mut told = Numbers::none();
+        for number in from..to {
+            told = told.and(self.expire(service, GroupId(number)));
         }
+        told
     }
 
     /// Times out what is due in the group, and answers who may go on.
-    pub fn expire<C: Clock>(&mut self, clock: &C, group: GroupId) -> Numbers
-        ensures { IsExpiredAt C.moments group self.old self.new }
+    pub fn expire(&mut self, service: &S, group: GroupId) -> Numbers
+        ensures { IsExpiredAt S.facts.moments group self.old self.new }
     {
-        let now = self.moment(clock);
+        let now = self.moment(service);
         match self.lender.expire_due(group, now) {
             Some(_) => self.tell(group),
             None => Numbers::none(),
         }
     }
 
-    /// Tells those to look again whom a step of the group lets go on, and answers who they are.
-    pub fn tell(&mut self, group: GroupId) -> Numbers
+    /// Notes what the connection waits for from now on, if it does.
+    fn set_waiter(&mut self, number: usize, waiter: Option<Waiter>) -> Answer
+        ensures said { result.said ≡ said.Done }
+        ensures same { self.new ≡ self.old }
+    {
+        self.waiters.set(number, waiter);
+        Answer::quiet(Said::Done)
+    }
+
+    /// The connection has looked again.
+    fn looked(&mut self, number: usize) -> Answer
+        ensures said { result.said ≡ said.Done }
+        ensures same { self.new ≡ self.old }
+    {
+        self.waiters.looked(number);
+        Answer::quiet(Said::Done)
+    }
+
+    /// All connections have ended.
+    fn end(&mut self) -> Answer
+        ensures said { result.said ≡ said.Done }
+        ensures same { self.new ≡ self.old }
+    {
+        self.ended = true;
+        Answer::quiet(Said::Done)
+    }
+
+    /// Tells those to look again whom a step of the group lets go on, and answers who they are. What was told to a connection
+    /// that waits no more is told to another one that waits in the group.
+    fn tell(&mut self, group: GroupId) -> Numbers
         ensures { self.new ≡ self.old }
     {
         self.waiters.tell(self.lender.core(), group)
     }
 
-    /// Exchanges the steps that were put into the log with those of another log, where there is a log.
-    pub fn swap_log(&mut self, other: &mut StepLog)
-        ensures this { self.new ≡ record self.old { lender = record self.old.lender { recorded = with_log_of other.old self.old.lender.recorded } } }
-        ensures that { other.new ≡ log_or other.old self.old.lender.recorded }
+    /// The steps that were put into the log, in exchange for those of another log; that one, where there is none.
+    pub fn swap_log(&mut self, other: StepLog) -> StepLog
+        ensures this { self.new ≡ record self.old { lender = record self.old.lender { recorded = with_log_of other self.old.lender.recorded } } }
+        ensures that { result ≡ log_or other self.old.lender.recorded }
     {
-        self.lender.swap_log(other);
+        let mut log = other;
+        self.lender.swap_log(&mut log);
+        log
     }
 
     /// No further step is put into the log.
-    pub fn end_record(&mut self)
-        ensures { self.new ≡ record self.old { lender = record self.old.lender { recorded = record self.old.lender.recorded { log = None } } } }
+    pub fn end_record(&mut self) -> Answer
+        ensures said { result.said ≡ said.Done }
+        ensures ended { self.new ≡ record self.old { lender = record self.old.lender { recorded = record self.old.lender.recorded { log = None } } } }
     {
         self.lender.end_log();
+        Answer::quiet(Said::Done)
     }
 
-    /// The connections that wait.
-    pub fn waiters(&self) -> &Waiters {
-        &self.waiters
-    }
-
-    /// Says what the connection waits for, if it does.
-    pub fn set_waiter(&mut self, number: usize, waiter: Option<Waiter>)
-        ensures { self.new ≡ self.old }
-    {
-        self.waiters.set(number, waiter);
-    }
-
-    /// Whether the connection sleeps on.
+    /// Whether the connection of the number sleeps on: it waits, and was not told to look again.
     pub fn sleeps(&self, number: usize) -> bool {
-        !self.stopped && self.waiters.sleeps(number)
-    }
-
-    /// The connection has looked again.
-    pub fn looked(&mut self, number: usize)
-        ensures { self.new ≡ self.old }
-    {
-        self.waiters.looked(number);
-    }
-
-    /// Nobody waits any more from now on.
-    pub fn stop(&mut self)
-        ensures { self.new ≡ self.old }
-    {
-        self.stopped = true;
-    }
-
-    /// All connections have ended.
-    pub fn end(&mut self)
-        ensures { self.new ≡ self.old }
-    {
-        self.ended = true;
-    }
-
-    /// Whether all connections have ended.
-    pub fn has_ended(&self) -> bool {
-        self.ended
-    }
-
-    /// Whether nobody waits any more.
-    pub fn is_stopped(&self) -> bool {
-        self.stopped
+        self.waiters.sleeps(number)
     }
 }

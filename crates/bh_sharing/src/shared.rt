@@ -1,22 +1,30 @@
 //! The groups that connections share, under one lock.
 
 ghost use Rattle.std.specs.Prelude.{◌≡◌, true};
+ghost use Rattle.bh_base.specs.declared.reply.Reply.{Reply};
 ghost use Rattle.bh_audit.specs.Books.{IsAudited};
+ghost use Rattle.bh_lease.specs.Leases.{LeasesView};
+ghost use Rattle.bh_sharing.specs.Service.{IsOf};
 ghost use Rattle.bh_sharing.specs.Shared.{IsReturned, IsShared};
+ghost use Rattle.bh_sharing.specs.Turns.{Did};
 
-use crate::locked::Locked;
-use crate::waiters::{MOST_WAITERS, Numbers, Waiter};
-use bh_audit::{Book, Clock};
-use bh_base::{GroupId, Op};
+use crate::asks::{Answer, Ask, Said};
+use crate::guarded::Guarded;
+use crate::opening::Opening;
+use crate::service::Service;
+use crate::waiters::{MOST_WAITERS, Waiter};
+use bh_audit::Book;
+use bh_base::{GroupId, Op, Reply};
 use bh_desk::Turn;
 use bh_lease::Leases;
 use bh_lender::StepLog;
 use bh_share::Directory;
-use crossbeam_utils::CachePadded;
+use bh_turns::put_answer;
 use std::alloc::{AllocError, Global};
-use std::sync::{Condvar, Mutex, Wait};
+use std::rt::Clock;
+use std::sync::Wait;
+use std::thread;
 use std::time::Duration;
-use std::{rt, thread};
 
 /// How many groups are asked in one turn of the lock whether a ticket is due: while it lasts, no other step is made.
 const GROUPS_A_TURN: u64 = 32;
@@ -28,89 +36,83 @@ const RETRY: u64 = 10;
 ///
 /// Connections have numbers, from 0 on, and one thread each.
 #[derive(Drop)]
-pub struct SharedGroups {
+pub struct SharedGroups<S: Service> {
     alloc: Global,
-    /// Threads that wait for the lock write to its line of the cache, on which must be nothing that others read.
-    inside: CachePadded<Mutex<CachePadded<Locked>>>,
-    changed: Vec<Condvar>,
+    guarded: Guarded<S>,
 }
 
-impl SharedGroups {
-    /// The groups of a book, for so many connections, `MOST_WAITERS` at most. Each step is in the account of the book, where
-    /// that is audited, and is put into the log, where one is given.
+impl<S: Service + Drop> SharedGroups<S> {
+    /// The groups that a service is opened with, for so many connections, `MOST_WAITERS` at most. Each step is in the account of
+    /// the book, where that is audited, and is put into the log, where one is given. It fails only for want of memory.
     pub fn new(
         alloc: Global,
-        book: Book,
+        service: S,
+        opening: Opening<S>,
         connections: u32,
-        log: Option<StepLog>,
-    ) -> Result<SharedGroups, AllocError> {
+    ) -> Result<SharedGroups<S>, AllocError> {
         let connections = connections.min(MOST_WAITERS);
-        let mut changed = Vec::new(alloc);
-        for _ in 0..connections {
-            changed.push(Condvar::new())?;
-        }
-        let locked = Locked::new(alloc, book, connections, log)?;
-        Ok(SharedGroups {
-            alloc,
-            inside: CachePadded::new(Mutex::new(CachePadded::new(locked))),
-            changed,
-        })
+        let guarded = Guarded::new(alloc, service, opening, connections)?;
+        Ok(SharedGroups { alloc, guarded })
     }
 
     /// The book, with the groups and the account as all turns left them. It takes no lock: nobody shares the groups any more.
     ///
-    /// No contract can name what lies under a lock, so none says that the book is the one that the groups were made of. In an
-    /// audited one the journal of each group agrees with what the group shows, whoever made its steps.
+    /// Its groups are what steps made of some with which such a service may be opened. In an audited one the journal of each
+    /// group agrees with what the group shows, whoever made its steps.
     pub fn into_book(self) -> Book
-        ensures { result.audited ≡ true → IsAudited result.groups result.journals }
+        ensures of { IsOf S.facts result.groups }
+        ensures audited { result.audited ≡ true → IsAudited result.groups result.journals }
     {
-        let SharedGroups {
-            alloc: _,
-            inside,
-            changed: _,
-        } = self;
-        let locked = inside.into_inner().into_inner().into_inner();
-        let book = locked.into_book();
+        let SharedGroups { alloc: _, guarded } = self;
+        let book = guarded.into_book();
         book.journals_agree();
         book
+    }
+}
+
+impl<S: Service> SharedGroups<S> {
+    /// What the service stands on.
+    pub fn service(&self) -> &S {
+        self.guarded.service()
     }
 
     /// Makes the step of the group for the connection that has the leases, at the moment of the turn, and puts the line that
     /// answers it behind the bytes; or does nothing, where it is to wait and has to. Nobody has to in a service that was
-    /// stopped.
+    /// stopped. The line is made once the lock is given back.
     ///
     /// The error comes where memory for the line was refused: the bytes are as they were then, and what was done stays done.
-    pub fn answer<R: Wait, D: Directory, C: Clock>(
+    pub fn answer<R: Wait + Clock, D: Directory>(
         &self,
         rt: &R,
         directory: &D,
-        clock: &C,
         leases: &mut Leases,
         group: GroupId,
         op: &Op,
         wait: bool,
         out: &mut Vec<u8>,
     ) -> Result<Turn, AllocError>
-        ensures { IsShared (D.names directory.now) group op.now wait leases.old out.old.items result leases.new out.new.items }
+        ensures { IsShared S.facts (D.names directory.now) group op.now wait leases.old out.old.items result leases.new out.new.items }
     {
-        let mut locked = self.inside.lock(rt);
-        let turn = locked.answer(self.alloc, directory, clock, leases, group, op, wait, out);
-        let told = locked.tell(group);
-        drop(locked);
-        self.wake(told);
-        turn
+        let mut reply = Reply::Idle;
+        match self.ask(rt, Ask::Step { group, op, wait }, leases, &mut reply) {
+            Said::Told(refused) => {
+                match put_answer(self.alloc, directory, group, refused, &reply, out) {
+                    Ok(()) => Ok(Turn::Answered),
+                    Err(refused) => Err(refused),
+                }
+            }
+            Said::Waits => Ok(Turn::Waits),
+            _ => unreachable!(),
+        }
     }
 
     /// Gives back all that a connection has which ends. Where memory for that is refused, it is tried again a while later.
-    pub fn give_back<R: Wait + rt::Clock, C: Clock>(&self, rt: &R, clock: &C, leases: &mut Leases)
-        ensures { IsReturned leases.old leases.new }
+    pub fn give_back<R: Wait + Clock>(&self, rt: &R, leases: &mut Leases)
+        ensures { IsReturned S.facts leases.old leases.new }
     {
         for _ in rt.forever() {
-            let mut locked = self.inside.lock(rt);
-            let given = locked.give_back(clock, leases);
-            drop(locked);
-            if let Ok(told) = given {
-                self.wake(told);
+            let mut reply = Reply::Idle;
+            if let Said::Done = self.ask(rt, Ask::GiveBack, leases, &mut reply) {
                 return;
             }
             thread::sleep(rt, Duration::from_millis(RETRY));
@@ -119,99 +121,93 @@ impl SharedGroups {
     }
 
     /// Times out what is due in the groups of the numbers below this. It takes a turn of the lock for every 32 groups.
-    pub fn expire<R: Wait, C: Clock>(&self, rt: &R, clock: &C, groups: u64) {
+    pub fn expire<R: Wait + Clock>(&self, rt: &R, groups: u64) {
         let mut from = 0;
         while from < groups {
             let to = groups.min(from.saturating_add(GROUPS_A_TURN));
-            self.expire_some(rt, clock, from, to);
+            self.look(rt, Ask::Expire { from, to });
             from = to;
         }
     }
 
-    /// Times out what is due in some groups, in one turn.
-    fn expire_some<R: Wait, C: Clock>(&self, rt: &R, clock: &C, from: u64, to: u64) {
-        let mut told = Numbers::none();
-        let mut locked = self.inside.lock(rt);
-        let inside = &mut **locked;
-        for number in from..to {
-            told = told.and(inside.expire(clock, GroupId(number)));
-        }
-        drop(locked);
-        self.wake(told);
-    }
-
     /// The connection waits for this from now on.
-    pub fn begin_wait<R: Wait>(&self, rt: &R, number: usize, waiter: Waiter) {
-        self.inside.lock(rt).set_waiter(number, Some(waiter));
+    pub fn begin_wait<R: Wait + Clock>(&self, rt: &R, number: usize, waiter: Waiter) {
+        self.look(rt, Ask::BeginWait { number, waiter });
     }
 
-    /// Sleeps until the connection is told to look again, the service is stopped, or so many milliseconds have passed.
-    /// Whether the service is stopped.
-    pub fn sleep<R: Wait + rt::Clock>(&self, rt: &R, number: usize, millis: u64) -> bool {
-        let Some(changed) = self.changed.get(number) else {
-            return true;
-        };
-        let (mut locked, _) = changed.wait_timeout_while(
-            rt,
-            self.inside.lock(rt),
-            Duration::from_millis(millis),
-            |locked| locked.sleeps(number),
-        );
-        locked.looked(number);
-        locked.is_stopped()
+    /// Sleeps until the connection is told to look again, everybody is, or so many milliseconds have passed; perhaps for less.
+    pub fn sleep<R: Wait + Clock>(&self, rt: &R, number: usize, millis: u64) {
+        self.look(rt, Ask::Sleep { number, millis });
     }
 
     /// The connection waits no more. What it was told is told to another one that waits in the group.
-    pub fn end_wait<R: Wait>(&self, rt: &R, number: usize, group: GroupId) {
-        let mut locked = self.inside.lock(rt);
-        locked.set_waiter(number, None);
-        let told = locked.tell(group);
-        drop(locked);
-        self.wake(told);
+    pub fn end_wait<R: Wait + Clock>(&self, rt: &R, number: usize, group: GroupId) {
+        self.look(rt, Ask::EndWait { number, group });
+    }
+
+    /// Wakes everybody who waits: each finds, in a turn behind this one, that the service was stopped.
+    pub fn wake_all<R: Wait + Clock>(&self, rt: &R) {
+        self.look(rt, Ask::WakeAll);
+        self.guarded.wake_all();
     }
 
     /// Whether no connection waits.
-    pub fn is_quiet<R: Wait>(&self, rt: &R) -> bool {
-        self.inside.lock(rt).waiters().is_empty()
+    pub fn is_quiet<R: Wait + Clock>(&self, rt: &R) -> bool {
+        let Said::Is(quiet) = self.look(rt, Ask::IsQuiet) else {
+            unreachable!()
+        };
+        quiet
     }
 
-    /// Nobody waits any more from now on: whoever does is answered as it stands.
-    pub fn stop<R: Wait>(&self, rt: &R) {
-        self.inside.lock(rt).stop();
-        for changed in &self.changed {
-            changed.notify_all();
-        }
-    }
-
-    /// Exchanges the steps that were put into the log, in the order in which they were made, with those of another log.
-    pub fn swap_log<R: Wait>(&self, rt: &R, other: &mut StepLog) {
-        self.inside.lock(rt).swap_log(other);
+    /// The steps that were put into the log, in the order in which they were made, in exchange for those of another log.
+    pub fn swap_log<R: Wait + Clock>(&self, rt: &R, other: StepLog) -> StepLog {
+        let Said::Log(log) = self.look(rt, Ask::SwapLog(other)) else {
+            unreachable!()
+        };
+        log
     }
 
     /// No further step is put into the log.
-    pub fn end_record<R: Wait>(&self, rt: &R) {
-        self.inside.lock(rt).end_record();
+    pub fn end_record<R: Wait + Clock>(&self, rt: &R) {
+        self.look(rt, Ask::EndRecord);
     }
 
     /// Says that all connections have ended.
-    pub fn end<R: Wait>(&self, rt: &R) {
-        self.inside.lock(rt).end();
+    pub fn end<R: Wait + Clock>(&self, rt: &R) {
+        self.look(rt, Ask::End);
     }
 
     /// Whether all connections have ended.
-    pub fn has_ended<R: Wait>(&self, rt: &R) -> bool {
-        self.inside.lock(rt).has_ended()
+    pub fn has_ended<R: Wait + Clock>(&self, rt: &R) -> bool {
+        let Said::Is(ended) = self.look(rt, Ask::HasEnded) else {
+            unreachable!()
+        };
+        ended
+    }
+}
+
+impl<S: Service> SharedGroups<S> {
+    /// Has done what is asked for in one turn of the lock, and then wakes whom that lets go on.
+    fn ask<R: Wait + Clock>(
+        &self,
+        rt: &R,
+        ask: Ask<'_>,
+        leases: &mut Leases,
+        reply: &mut Reply,
+    ) -> Said
+        ensures { Did S.facts ask.entry leases.old reply.new leases.new result }
+    {
+        let Answer { said, told } = self.guarded.ask(rt, ask, leases, reply);
+        self.guarded.wake(told);
+        said
     }
 
-    /// Wakes the connections.
-    fn wake(&self, told: Numbers) {
-        if told.is_empty() {
-            return;
-        }
-        for (number, changed) in self.changed.iter().enumerate() {
-            if told.has(number) {
-                changed.notify_all();
-            }
-        }
+    /// Asks for what is of no connection in particular.
+    fn look<R: Wait + Clock>(&self, rt: &R, ask: Ask<'_>) -> Said
+        ensures { (had : LeasesView) × (has : LeasesView) × (reply : Reply) × Did S.facts ask.entry had reply has result }
+    {
+        let mut leases = Leases::none(self.alloc);
+        let mut reply = Reply::Idle;
+        self.ask(rt, ask, &mut leases, &mut reply)
     }
 }

@@ -1,2 +1,2 @@
 pub mod Idling  -- whether a start would be answered Idle, by what looks at the group say
-pub mod Answering  -- a step is answered by its reply or by its refusal
+pub mod Answering  -- what comes of a step that a connection asks for

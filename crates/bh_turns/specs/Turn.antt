@@ -42,14 +42,23 @@ abbrev pub told_name : Names → GroupId → Reply → Option (List ℕ)
 told_name names group (replies.Assigned serial command arg) = command_name names group.0 command
 told_name names group _ = None
 
--- the answer by whether the connection may ask for the step: its refusal, with nothing done; or the step was made, and what
--- it lets holders that are left do, the connection has then what the step says, and the line is that of the step's reply
-abbrev pub IsAnsweredBy : Option Refusal → Names → Step → LenderView → LeasesView → LenderView → LeasesView → List ℕ → Type 0
-IsAnsweredBy (Some why) names step old had new has line = (new ≡ old) × (has ≡ had) × (line ≡ refusal_line why)
-IsAnsweredBy None names step old had new has line =
-    (reply : Reply) × DoesStep step reply old new × (has ≡ record had { listed = after step.group step.op reply had.listed })
-    × (line ≡ reply_line (told_name names step.group reply) reply)
+-- what came of a step, by why the connection may not ask for it: nothing was done; or the step was made, and what it lets
+-- holders that are left do, and the connection has then what the step says
+abbrev pub IsDoneUnless : Option Refusal → Step → Reply → LenderView → LeasesView → LenderView → LeasesView → Type 0
+IsDoneUnless (Some why) step reply old had new has = (new ≡ old) × (has ≡ had)
+IsDoneUnless None step reply old had new has =
+    DoesStep step reply old new × (has ≡ record had { listed = after step.group step.op reply had.listed })
+
+-- what comes of a step that a connection with these leases asks for
+abbrev pub IsDone : Step → Reply → LenderView → LeasesView → LenderView → LeasesView → Type 0
+IsDone step reply old had new has = IsDoneUnless (refusal step.group step.op had) step reply old had new has
+
+-- the line that tells it: that of the refusal, or that of the step's reply
+abbrev pub answer_line : Option Refusal → Names → GroupId → Reply → List ℕ
+answer_line (Some why) names group reply = refusal_line why
+answer_line None names group reply = reply_line (told_name names group reply) reply
 
 -- how a step is answered that a connection with these leases asks for
 abbrev pub IsAnswered : Names → Step → LenderView → LeasesView → LenderView → LeasesView → List ℕ → Type 0
-IsAnswered names step old had new has line = IsAnsweredBy (refusal step.group step.op had) names step old had new has line
+IsAnswered names step old had new has line =
+    (reply : Reply) × IsDone step reply old had new has × (line ≡ answer_line (refusal step.group step.op had) names step.group reply)

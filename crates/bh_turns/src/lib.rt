@@ -3,4 +3,4 @@
 
 pub mod turn;
 
-pub use turn::{answer_step, has_to_wait, is_idle};
+pub use turn::{has_to_wait, is_idle, make_step, put_answer};

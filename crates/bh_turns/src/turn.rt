@@ -1,12 +1,13 @@
 //! One turn: whether a connection has to wait, and what its step is answered.
 
-ghost use Rattle.std.specs.Prelude.{◌≡◌, ◌++◌, ℕ, List, OnErr, OnOk, option_copied};
+ghost use Rattle.std.specs.Prelude.{◌≡◌, ◌++◌, OnErr, OnOk, option_copied};
 ghost use Rattle.bh_core.specs.CoreView.{view_at};
-ghost use Rattle.bh_turns.specs.Turn.{IsAnswered, has_to_wait, told_name, would_idle};
+ghost use Rattle.bh_turns.specs.Turn.{IsDone, answer_line, has_to_wait, told_name, would_idle};
+ghost use Rattle.bh_lease.specs.Leases.{refusal};
 
 use bh_base::{GroupId, Op, Reply, Step, Text};
 use bh_core::Core;
-use bh_lease::Leases;
+use bh_lease::{Leases, Refusal};
 use bh_lender::Lender;
 use bh_replies::put_reply;
 use bh_share::{Directory, put_refusal};
@@ -40,25 +41,40 @@ pub fn is_idle(core: &Core, group: GroupId) -> bool
     !core.worn(group)
 }
 
-/// Makes the step for the connection that has the leases, and puts the line of its reply behind the bytes; or the line of
-/// the refusal, where the connection may not ask for it, with nothing done.
-///
-/// The error comes where memory for the line was refused: the bytes are as they were then, and what was done stays done.
-pub fn answer_step<D: Directory>(
-    alloc: Global,
-    directory: &D,
+/// Makes the step for the connection that has the leases, and writes its reply where the caller keeps it; or says why the
+/// connection may not ask for it, with nothing done, and what is at `reply` stays.
+pub fn make_step(
     lender: &mut Lender,
     leases: &mut Leases,
     step: &Step,
+    reply: &mut Reply,
+) -> Option<Refusal>
+    ensures refused { result ≡ refusal step.entry.now.group step.entry.now.op leases.old }
+    ensures done { IsDone step.entry.now reply.new lender.old leases.old lender.new leases.new }
+{
+    match lender.step(leases, step, reply) {
+        Ok(()) => None,
+        Err(refusal) => Some(refusal),
+    }
+}
+
+/// Puts the line behind the bytes that answers a step of the group: that of its reply, or that of its refusal.
+///
+/// The error comes where memory for the line was refused: the bytes are as they were then.
+pub fn put_answer<D: Directory>(
+    alloc: Global,
+    directory: &D,
+    group: GroupId,
+    refused: Option<Refusal>,
+    reply: &Reply,
     out: &mut Vec<u8>,
 ) -> Result<(), AllocError>
-    ensures turn { (line : List ℕ) × IsAnswered (D.names directory.now) step.entry.now lender.old leases.old lender.new leases.new line
-        × OnOk result (out.new.items ≡ out.old.items ++ line) × OnErr result (out.new.items ≡ out.old.items) }
+    ensures ok { OnOk result (out.new.items ≡ out.old.items ++ answer_line refused (D.names directory.now) group reply.now) }
+    ensures err { OnErr result (out.new.items ≡ out.old.items) }
 {
-    let mut reply = Reply::Idle;
-    match lender.step(leases, step, &mut reply) {
-        Ok(()) => put_reply(alloc, out, &reply, told_name(directory, step.group, &reply)),
-        Err(refusal) => put_refusal(alloc, out, refusal),
+    match refused {
+        None => put_reply(alloc, out, reply, told_name(directory, group, reply)),
+        Some(refusal) => put_refusal(alloc, out, refusal),
     }
 }
 
