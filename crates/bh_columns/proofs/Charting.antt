@@ -9,10 +9,11 @@ use Rattle.bh_port.proofs.Keeping.{either}
 use Rattle.bh_port.proofs.Lists.{push_before, push_here, read_within}
 use Rattle.bh_props.specs.SettingsView.{SettingsView}
 use Rattle.bh_port.specs.GroupsView.{GroupsView}
-use Rattle.bh_columns.specs.Charts.{HasHappened, IsChartOf, IsCounted, IsDrawnOf, IsFitted, IsLaneOf, IsNarrowest, IsNarrowestOf, IsRound, IsStep, NoneFits, count_in, drawn_at}
+use Rattle.bh_columns.specs.Charts.{HasHappened, IsChartOf, IsCounted, IsDrawnOf, IsFitted, IsLaidOut, IsLaneOf, IsNarrowest, IsNarrowestOf, IsRound, IsStep, NoneFits, count_in, drawn_at}
 use Rattle.bh_columns.specs.Columns.{bare, no_column}
+use Rattle.bh_columns.specs.Layouts.{Layout}
 use Rattle.bh_columns.specs.Named.{KeptRun}
-use Rattle.bh_columns.specs.Recorded.{IsRecorded}
+use Rattle.bh_columns.specs.Recorded.{HasLayout, IsRecorded}
 use Rattle.bh_columns.specs.Spans.{Fill, IsFill}
 use Rattle.bh_columns.specs.Tracks.{IsFilled, IsIn, column_at}
 use Rattle.bh_columns.specs.declared.chart.Chart.{Chart}
@@ -228,3 +229,18 @@ module _ (service : SettingsView) (sel : Selection) (groups : GroupsView) (kept 
 
   pub has_happened : HasHappened run.fills chart
   has_happened = record { shown = shown_is; none = none_is }
+
+-- the panels are those that are kept
+pub laid_chart : (l : Layout) (kept : Kept) (columns : ℕ) (chart : Chart) → IsChartOf kept columns chart → HasLayout l kept → IsLaidOut l chart
+laid_chart l kept columns chart is laid = record {
+  panels = record {
+    count = is.panels.count ∙ laid.count;
+    each = λ p one panel there at.
+        let inside : p < length kept.panels.items = omega (arith, slice_get_within l.panels p one there, laid.count) in
+        let (own, had) = read_within kept.panels.items p inside in
+        let named = laid.named p one own there had in
+        let drawn = is.panels.each p own panel had at in
+        (drawn.group ∙ named.group, drawn.like ∙ named.like);
+  };
+  left_out = is.left_out ∙ laid.left_out;
+}

@@ -26,10 +26,11 @@ use Rattle.bh_cut.proofs.Numbers.{equal, number-push_other, number-pushed}
 use Rattle.bh_look.proofs.Watching.{IsLike, like_of}
 use Rattle.bh_columns.specs.Columns.{bare, no_column}
 use Rattle.bh_columns.specs.Filled.{Stands}
+use Rattle.bh_columns.specs.Layouts.{Layout, keeps, layout_of, no_layout, with_group}
 use Rattle.bh_columns.specs.Named.{NamedFills}
 use Rattle.bh_columns.specs.Panels.{EachAt, IsNewLife}
 use Rattle.bh_columns.specs.Placed.{IsBegunAt, IsEmptyLane, IsNewPanel, IsPlaceFor}
-use Rattle.bh_columns.specs.Recorded.{ArePlaced, FitsLike, HasNone, IsKept, IsPanelOf, keeps}
+use Rattle.bh_columns.specs.Recorded.{ArePlaced, FitsLike, HasLayout, HasNone, IsKept, IsPanelOf}
 use Rattle.bh_columns.specs.Spans.{Fill}
 use Rattle.bh_columns.specs.Tracks.{IsFilled, IsWithin, column_at}
 use Rattle.bh_columns.specs.declared.kept.Kept.{Kept}
@@ -37,8 +38,9 @@ use Rattle.bh_columns.specs.declared.lane.KeptLane.{KeptLane}
 use Rattle.bh_columns.specs.declared.panel.KeptPanel.{KeptPanel}
 use Rattle.bh_columns.specs.declared.selection.Selection.{Selection}
 use Rattle.bh_columns.specs.declared.track.Track.{Track}
-use Rattle.bh_columns.proofs.Lists.{each_back}
-use Rattle.bh_columns.proofs.Placing.{group_named}
+use Rattle.bh_columns.proofs.Laying.{laid_then, layout_push}
+use Rattle.bh_columns.proofs.Lists.{each_back, each_weaker}
+use Rattle.bh_columns.proofs.Placing.{SameName, group_named}
 
 -- ---- a group that made no step
 
@@ -75,7 +77,7 @@ module _ (service : SettingsView) (sel : Selection) (old mid new : Kept) (course
     (listed : like < length service.groups) (before : AllByRecursion (λ x. x.group.0 < length course.entries) course.steps) (kept : IsKept service sel old course fills)
     (for_it : IsPlaceFor service name like old mid place) (each : EachAt mid.panels.items new.panels.items (λ p panel next. IsBegunAt place p panel next))
     (places : new.places.items ≡ mid.places.items ++ place ∷ []) (selection : new.selection ≡ mid.selection) (width : new.grid.width ≡ mid.grid.width) (extent : new.grid.extent ≡ mid.grid.extent)
-    (left_out : new.left_out ≡ mid.left_out) where
+    (lanes : new.lanes ≡ mid.lanes) (left_out : new.left_out ≡ mid.left_out) where
   abbrev es : List Entry
   es = course.entries
 
@@ -231,6 +233,18 @@ module _ (service : SettingsView) (sel : Selection) (old mid new : Kept) (course
     ];
   }
 
+  -- ---- which panels there are
+
+  laid_later : HasLayout (layout_of service sel later.entries) new
+  laid_later =
+      let l : Layout = layout_of service sel es in
+      let is : layout_of service sel later.entries ≡ with_group service old.selection name like l =
+      layout_push service sel es (new_entry name like) no_layout ∙ ap (λ (q : Selection). with_group service q name like l) (sym kept.selection) in
+      subst (λ k. HasLayout k new) (sym is)
+      (laid_then (with_group service old.selection name like l) mid new
+      (each_weaker mid.panels.items new.panels.items (λ p panel next. IsBegunAt place p panel next) (λ p a b. SameName a b) (λ p a b ab. record { group = ab.group; like = ab.like }) each)
+      lanes left_out (for_it.laid_out l listed kept.laid_out))
+
   -- ---- how the panels stand
 
   abbrev state_like : ℕ → Option Entry → Option State
@@ -317,6 +331,7 @@ module _ (service : SettingsView) (sel : Selection) (old mid new : Kept) (course
   pub kept_more : IsKept service sel new later fills
   kept_more = record {
     selection = selection ∙ for_it.selection ∙ kept.selection;
+    laid_out = laid_later;
     placed = placed_later;
     fit = λ p panel props at has.
         let (m, m_at, begun) = back p panel at in

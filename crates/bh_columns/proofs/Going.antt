@@ -18,14 +18,16 @@ use Rattle.bh_props.specs.SettingsView.{SettingsView}
 use Rattle.bh_cut.proofs.Numbers.{equal, number-without_other, number-without_same, numbers-apart}
 use Rattle.bh_columns.specs.Filled.{Stands}
 use Rattle.bh_columns.specs.Named.{KeptRun, NamedFills, run_said}
+use Rattle.bh_columns.specs.Panels.{EachAt}
 use Rattle.bh_columns.specs.Placed.{IsAsked, SameKept}
-use Rattle.bh_columns.specs.Recorded.{IsKept, IsRecorded}
+use Rattle.bh_columns.specs.Recorded.{HasLayout, IsKept, IsRecorded}
 use Rattle.bh_columns.specs.Spans.{Fill}
 use Rattle.bh_columns.specs.Tracks.{IsFilled, IsWithin}
 use Rattle.bh_columns.specs.declared.kept.Kept.{Kept}
 use Rattle.bh_columns.specs.declared.lane.KeptLane.{KeptLane}
 use Rattle.bh_columns.specs.declared.panel.KeptPanel.{KeptPanel}
 use Rattle.bh_columns.specs.declared.selection.Selection.{Selection}
+use Rattle.bh_columns.proofs.Laying.{laid_then, layout_without}
 use Rattle.bh_columns.proofs.Lists.{each_back, each_same, each_weaker}
 use Rattle.bh_columns.proofs.Placing.{SameName, placed_then}
 
@@ -43,6 +45,7 @@ same_kept kept = record {
   selection = refl;
   width = refl;
   extent = refl;
+  lanes = refl;
   left_out = refl;
 }
 
@@ -50,8 +53,8 @@ same_kept kept = record {
 kept_same : (service : SettingsView) (sel : Selection) (old new : Kept) (course : Course) (fills : NamedFills) → SameKept old new → IsKept service sel old course fills → IsKept service sel new course fills
 kept_same service sel old new course fills same kept = record {
   selection = same.selection ∙ kept.selection;
-  placed = placed_then sel old new course.entries course.entries kept.placed
-      (each_weaker old.panels.items new.panels.items (λ p panel next. SamePanelBut panel next) (λ p a b. SameName a b) (λ p a b ab. record { group = ab.2; like = ab.3 }) same.panels) same.places same.left_out refl (λ g e is. is);
+  laid_out = laid_then _ old new names same.lanes same.left_out kept.laid_out;
+  placed = placed_then sel old new course.entries course.entries kept.placed names same.places same.left_out refl (λ g e is. is);
   fit = λ p panel props at has.
       let (one, one_at, ab) = back p panel at in
       let fits = kept.fit p one props one_at (ap (slice_get service.groups) (sym ab.3) ∙ has) in
@@ -84,6 +87,9 @@ kept_same service sel old new course fills same kept = record {
       none p next next_at (record { group = ab.2 ∙ is.group; like = ab.3 ∙ is.like }));
 }
   where
+    names : EachAt old.panels.items new.panels.items (λ p a b. SameName a b)
+    names = each_weaker old.panels.items new.panels.items (λ p panel next. SamePanelBut panel next) (λ p a b. SameName a b) (λ p a b ab. record { group = ab.2; like = ab.3 }) same.panels
+
     back : (p : ℕ) (panel : KeptPanel) → slice_get new.panels.items p ≡ Some panel → (one : KeptPanel) × (slice_get old.panels.items p ≡ Some one) × SamePanelBut one panel
     back p panel at = each_back old.panels.items new.panels.items (λ q a b. SamePanelBut a b) p panel same.panels at
 
@@ -114,6 +120,7 @@ module _ (service : SettingsView) (sel : Selection) (kept : Kept) (course : Cour
   kept_fewer : IsKept service sel kept fewer fills
   kept_fewer = record {
     selection = was.selection;
+    laid_out = subst (λ l. HasLayout l kept) (sym (layout_without service sel course.entries n)) was.laid_out;
     placed = placed_then sel kept kept course.entries fewer.entries was.placed (each_same kept.panels.items (λ p a b. SameName a b) (λ p a. record { group = refl; like = refl })) refl refl (length-without course.entries n) left_there;
     fit = was.fit;
     stands = λ name group p t panel. stands_left name group p t panel (bytes_eq own name) refl;

@@ -9,6 +9,7 @@ pub mod Recording  -- what is kept of all groups with one step more
 pub mod Within  -- what is kept of moments outside the extent: nothing
 pub mod Asked  -- what a line can ask for, and whose it is
 pub mod Placing  -- the panels of groups, as these come, step and go
+pub mod Laying  -- which panels are kept, as groups come and go
 pub mod Stepping  -- what is kept of a run with one step more
 pub mod Beginning  -- panels in which a life begins, or none
 pub mod Coming  -- what is kept of a run with one group more

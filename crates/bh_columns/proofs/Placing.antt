@@ -10,9 +10,10 @@ use Rattle.bh_port.specs.declared.groups.Entry.{Entry}
 use Rattle.bh_port.specs.Entries.{entry_at, number_of, unless_retired}
 use Rattle.bh_cut.proofs.Numbers.{equal, number-there}
 use Rattle.bh_columns.specs.Filled.{SamePanel, Stands}
+use Rattle.bh_columns.specs.Layouts.{keeps}
 use Rattle.bh_columns.specs.Named.{is_of}
 use Rattle.bh_columns.specs.Panels.{EachAt, SameStanding}
-use Rattle.bh_columns.specs.Recorded.{ArePlaced, keeps}
+use Rattle.bh_columns.specs.Recorded.{ArePlaced}
 use Rattle.bh_columns.specs.declared.kept.Kept.{Kept}
 use Rattle.bh_columns.specs.declared.panel.KeptPanel.{KeptPanel}
 use Rattle.bh_columns.specs.declared.selection.Selection.{Selection}
@@ -32,7 +33,7 @@ both_true true true is = (refl, refl)
 both_true true false is = absurd cc
 both_true false b is = absurd cc
 
-of_equal : (e : Entry) (name : List ℕ) (like : ℕ) → is_of (Some e) name like ≡ true → (e.name ≡ name) × (e.like ≡ like)
+pub of_equal : (e : Entry) (name : List ℕ) (like : ℕ) → is_of (Some e) name like ≡ true → (e.name ≡ name) × (e.like ≡ like)
 of_equal e name like is =
     let tests = both_true (bytes_eq e.name name) (e.like == like) is in
     (equal e.name name tests.0, nat_equal e.like like tests.1)

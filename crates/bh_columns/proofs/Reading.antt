@@ -1,14 +1,14 @@
 -- A run whose columns are kept, from the reader's first byte to its last.
-use Rattle.std.proofs.Common.{◌≡◌, ℕ, List, [], ◌++◌, Option, Some, None, Result, Err, IfSome, refl, sym, ◌∙◌, subst, ap, append-nil, append_assoc}
-use Rattle.std.specs.Io.KnownBytes.{Consumes, IsAtEnd}
+use Rattle.std.proofs.Common.{◌≡◌, ℕ, false, List, [], ◌++◌, Option, Some, None, Result, Err, IfSome, refl, sym, ◌∙◌, subst, ap, append-nil, append_assoc}
+use Rattle.std.specs.Io.KnownBytes.{Consumes, IsAtEnd, Keeps}
 use Rattle.bh_lines.specs.declared.port_error.PortError.{PortError}
 use Rattle.bh_lines.specs.declared.port_error.PortError.TheVariants.{Read, Write, Line, Memory}
-use Rattle.bh_lines.specs.Lines.{cut, stops}
+use Rattle.bh_lines.specs.Lines.{cut, has_line, stops}
 use Rattle.bh_port.specs.GroupsView.{GroupsView}
 use Rattle.bh_port.specs.Script.{IsMemoryOrRead}
 use Rattle.bh_props.specs.SettingsView.{SettingsView}
 use Rattle.bh_columns.specs.Named.{KeptRun, run_after}
-use Rattle.bh_columns.specs.Recorded.{IsRecorded, RecordOutcome, RecordedUpTo}
+use Rattle.bh_columns.specs.Recorded.{HasRecorded, IsRecorded, RecordOutcome, RecordedUpTo}
 use Rattle.bh_columns.specs.declared.kept.Kept.{Kept}
 use Rattle.bh_columns.specs.declared.selection.Selection.{Selection}
 use Rattle.bh_columns.proofs.Taking.{outcome_after, taken_none, taken_then}
@@ -92,3 +92,12 @@ module _ (service : SettingsView) (sel : Selection) (run : KeptRun) where
   nothing_said (Some all) groups new Memory kind = tt
   nothing_said (Some all) groups new Read kind = tt
   nothing_said (Some all) groups new Write kind = tt
+
+  -- the reader fails, and all lines that had ended were taken
+  pub progress_failed : (all now next : Option (List ℕ)) (groups : GroupsView) (kept : Kept) (buffer : List ℕ) → Progress service sel run all now groups kept buffer → Keeps now next → has_line buffer ≡ false
+      → HasRecorded all next service sel run groups kept
+  progress_failed None now next groups kept buffer p same none = tt
+  progress_failed (Some all) None next groups kept buffer p same none = absurd p
+  progress_failed (Some all) (Some left) None groups kept buffer p same none = absurd same
+  progress_failed (Some all) (Some left) (Some rest) groups kept buffer p same none =
+      record { read = p.read; rest = buffer; input_is = p.all_is ∙ ap (λ ys. p.read ++ ys) (sym same); taken = p.taken; no_line = none }

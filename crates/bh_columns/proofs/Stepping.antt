@@ -27,10 +27,11 @@ use Rattle.bh_look.proofs.Adding.{props_kept}
 use Rattle.bh_look.proofs.Watching.{IsLike, like_in_range, like_of, state_there}
 use Rattle.bh_columns.specs.Columns.{no_column}
 use Rattle.bh_columns.specs.Filled.{AreFilled, AreFills, AreWithin, Fills, Stands, fills_with}
+use Rattle.bh_columns.specs.Layouts.{keeps}
 use Rattle.bh_columns.specs.Named.{KeptRun, NamedFills, fills_in, is_of, run_said}
 use Rattle.bh_columns.specs.Panels.{EachAt}
 use Rattle.bh_columns.specs.Placed.{IsAsked, IsStepped}
-use Rattle.bh_columns.specs.Recorded.{FitsLike, IsKept, IsPanelOf, IsRecorded, keeps}
+use Rattle.bh_columns.specs.Recorded.{FitsLike, IsKept, IsPanelOf, IsRecorded}
 use Rattle.bh_columns.specs.Spans.{Fill, IsFill}
 use Rattle.bh_columns.specs.Steps.{filled_with}
 use Rattle.bh_columns.specs.Tracks.{IsFilled, IsWithin}
@@ -38,6 +39,7 @@ use Rattle.bh_columns.specs.declared.kept.Kept.{Kept}
 use Rattle.bh_columns.specs.declared.panel.KeptPanel.{KeptPanel}
 use Rattle.bh_columns.specs.declared.selection.Selection.{Selection}
 use Rattle.bh_columns.proofs.Filling.{fills_stay_fills}
+use Rattle.bh_columns.proofs.Laying.{laid_then}
 use Rattle.bh_columns.proofs.Lists.{each_back, each_weaker}
 use Rattle.bh_columns.proofs.Placing.{IsNamed, SameName, group_named, of_false, of_true, placed_then, stands_same}
 
@@ -170,6 +172,7 @@ module _ (service : SettingsView) (sel : Selection) (was now : GroupsView) (old 
     left_kept : IsKept service sel old later ns
     left_kept = record {
       selection = kept.selection;
+      laid_out = kept.laid_out;
       placed = kept.placed;
       fit = kept.fit;
       stands = λ name group p t panel named is stands at.
@@ -197,7 +200,7 @@ module _ (service : SettingsView) (sel : Selection) (was now : GroupsView) (old 
   -- ---- a group that is kept
 
   module _ (new : Kept) (n : ℕ) (stands_at : slice_get old.places.items g ≡ Some (Some n)) (each : EachAt old.panels.items new.panels.items (λ p a b. IsStepped n p a b))
-      (places : new.places ≡ old.places) (selection : new.selection ≡ old.selection) (left_out : new.left_out ≡ old.left_out)
+      (places : new.places ≡ old.places) (selection : new.selection ≡ old.selection) (lanes : new.lanes ≡ old.lanes) (left_out : new.left_out ≡ old.left_out)
       (does : (s : State) (fs : Fills) (own : KeptPanel) → Shows was.core g s → IsInRange s.present.props → slice_get old.panels.items n ≡ Some own → Stands (view s) own → AreFills fs → AreFilled old.panels.items old.grid.width fs
       → AreFilled new.panels.items new.grid.width (fills_with old.selection.from old.selection.to n (view s) x.op x.now fs) × ((next : KeptPanel) × (slice_get new.panels.items n ≡ Some next) × Stands (view_after (view s) x.op x.now) next))
       (reaches : (s : State) (fs : Fills) → Shows was.core g s → AreFills fs → AreWithin old.grid.extent old.grid.width fs → AreWithin new.grid.extent new.grid.width (fills_with old.selection.from old.selection.to n (view s) x.op x.now fs)) where
@@ -298,11 +301,14 @@ module _ (service : SettingsView) (sel : Selection) (was now : GroupsView) (old 
           record { lanes = same.lanes.count ∙ fits.lanes; steps = ap length (ap (λ q. q.items) same.steps) ∙ fits.steps })
     ]
 
+    names : EachAt old.panels.items new.panels.items (λ p a b. SameName a b)
+    names = each_weaker old.panels.items new.panels.items (λ p a b. IsStepped n p a b) (λ p a b. SameName a b) (λ p a b ab. record { group = ab.group; like = ab.like }) each
+
     kept_later : IsKept service sel new later ns
     kept_later = record {
       selection = selection ∙ kept.selection;
-      placed = placed_then sel old new course.entries course.entries kept.placed
-          (each_weaker old.panels.items new.panels.items (λ p a b. IsStepped n p a b) (λ p a b. SameName a b) (λ p a b ab. record { group = ab.group; like = ab.like }) each) places left_out refl (λ k d is. is);
+      laid_out = laid_then _ old new names lanes left_out kept.laid_out;
+      placed = placed_then sel old new course.entries course.entries kept.placed names places left_out refl (λ k d is. is);
       fit = fit_later;
       stands = stands_later;
       sound = ns_fills;

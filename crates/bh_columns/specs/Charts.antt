@@ -2,6 +2,7 @@
 use Rattle.std.specs.Prelude.{◌≡◌, ◌+◌, ◌-◌, ◌*◌, ◌/◌, ◌^◌, ◌<◌, ◌≤◌, ◌⊎◌, ℕ, true, false, List, [], length, Option, Some, None, slice_get, slice_index_or}
 use Rattle.bh_look.specs.Tallies.{sum_up_to}
 use Rattle.bh_columns.specs.Columns.{bare, no_column, product_up_to}
+use Rattle.bh_columns.specs.Layouts.{Layout}
 use Rattle.bh_columns.specs.Named.{NamedFills}
 use Rattle.bh_columns.specs.Panels.{any_pooled}
 use Rattle.bh_columns.specs.Tracks.{column_at, joined_run}
@@ -103,6 +104,11 @@ pub record IsChartOf (kept : Kept) (columns : ℕ) (chart : Chart) : Type 0 wher
   pub count : chart.count ≡ end - first
   pub panels : EachDrawn kept.panels.items chart.panels.items (λ one panel. IsDrawnOf many first end one panel)
   pub left_out : chart.left_out ≡ kept.left_out
+
+-- the chart has the panels of the layout, in its order, and as many groups are left out
+pub record IsLaidOut (l : Layout) (chart : Chart) : Type 0 where
+  pub panels : EachDrawn l.panels chart.panels.items (λ one panel. (panel.group ≡ one.name) × (panel.like ≡ one.like))
+  pub left_out : chart.left_out ≡ l.left_out
 
 -- the moments of the chart's columns, and of one more, are all counted
 abbrev pub IsCounted : Chart → Type 0

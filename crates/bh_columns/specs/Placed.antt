@@ -8,8 +8,9 @@ use Rattle.bh_port.specs.Entries.{number_of}
 use Rattle.bh_props.specs.SettingsView.{SettingsView}
 use Rattle.bh_columns.specs.Columns.{no_column}
 use Rattle.bh_columns.specs.Filled.{SamePanel}
+use Rattle.bh_columns.specs.Layouts.{Layout, keeps, with_group}
 use Rattle.bh_columns.specs.Panels.{EachAt, IsNewLife}
-use Rattle.bh_columns.specs.Recorded.{FitsLike, HasNone, IsPanelOf, keeps}
+use Rattle.bh_columns.specs.Recorded.{FitsLike, HasLayout, HasNone, IsPanelOf}
 use Rattle.bh_columns.specs.Tracks.{column_at}
 use Rattle.bh_columns.specs.declared.kept.Kept.{Kept}
 use Rattle.bh_columns.specs.declared.lane.KeptLane.{KeptLane}
@@ -41,6 +42,7 @@ pub record IsPlaceFor (service : SettingsView) (name : List ℕ) (like : ℕ) (o
   pub width : new.grid.width ≡ old.grid.width
   pub extent : new.grid.extent ≡ old.grid.extent
   pub left : new.left_out ≡ 0 → old.left_out ≡ 0
+  pub laid_out : (l : Layout) → like < length service.groups → HasLayout l old → HasLayout (with_group service old.selection name like l) new
   pub stay : (p : ℕ) (panel : KeptPanel) → slice_get old.panels.items p ≡ Some panel → slice_get new.panels.items p ≡ Some panel
   pub more : (p : ℕ) (panel : KeptPanel) → slice_get new.panels.items p ≡ Some panel
       → (slice_get old.panels.items p ≡ Some panel) ⊎ ((place ≡ Some p) × IsNewPanel service name like old p panel)
@@ -69,6 +71,7 @@ pub record SameKept (old new : Kept) : Type 0 where
   pub selection : new.selection ≡ old.selection
   pub width : new.grid.width ≡ old.grid.width
   pub extent : new.grid.extent ≡ old.grid.extent
+  pub lanes : new.lanes ≡ old.lanes
   pub left_out : new.left_out ≡ old.left_out
 
 -- what a line can ask for: a step and a retirement are of a group that was found by a name

@@ -1,13 +1,11 @@
 -- What is kept of a script while its lines come: each group that is kept has the panel of its name and properties.
-use Rattle.std.specs.Prelude.{◌≡◌, ℕ, true, false, Bool, ◌==◌, ◌||◌, List, ◌++◌, length, Some, Result, Ok, Err, slice_get}
-use Rattle.std.specs.List.{list_any}
-use Rattle.std.specs.Str.{bytes_eq}
+use Rattle.std.specs.Prelude.{◌≡◌, ℕ, true, false, List, ◌++◌, length, Option, Some, None, Result, Ok, Err, slice_get}
 use Rattle.bh_base.specs.Commands.{command_count}
 use Rattle.bh_base.specs.Props.{GroupProps}
 use Rattle.bh_base.specs.Runs.{State, view}
 use Rattle.bh_lines.specs.declared.port_error.PortError.{PortError}
 use Rattle.bh_lines.specs.declared.port_error.PortError.TheVariants.{Read, Write, Line, Memory}
-use Rattle.bh_lines.specs.Lines.{Cut, cut, stops}
+use Rattle.bh_lines.specs.Lines.{Cut, cut, has_line, stops}
 use Rattle.bh_port.specs.declared.groups.Entry.{Entry}
 use Rattle.bh_port.specs.Course.{Course, state_at}
 use Rattle.bh_port.specs.Entries.{entry_at, number_of}
@@ -16,6 +14,7 @@ use Rattle.bh_port.specs.Script.{GroupsShow}
 use Rattle.bh_props.specs.SettingsView.{SettingsView}
 use Rattle.bh_columns.specs.Columns.{no_column}
 use Rattle.bh_columns.specs.Filled.{Stands}
+use Rattle.bh_columns.specs.Layouts.{Layout, PanelName, keeps, layout_of}
 use Rattle.bh_columns.specs.Named.{KeptRun, NamedFills, run_after}
 use Rattle.bh_columns.specs.Spans.{IsFill}
 use Rattle.bh_columns.specs.Tracks.{IsFilled, IsWithin}
@@ -24,14 +23,17 @@ use Rattle.bh_columns.specs.declared.lane.KeptLane.{KeptLane}
 use Rattle.bh_columns.specs.declared.panel.KeptPanel.{KeptPanel}
 use Rattle.bh_columns.specs.declared.selection.Selection.{Selection}
 
--- whether groups of the name are kept: all, where none is selected
-abbrev pub keeps : Selection → List ℕ → Bool
-keeps sel name = length sel.groups.items == 0 || list_any (λ g. bytes_eq g name) sel.groups.items
-
 -- the panel is that of the groups of the name which have the properties of the group of the settings at the place
 pub record IsPanelOf (name : List ℕ) (place : ℕ) (panel : KeptPanel) : Type 0 where
   pub group : panel.group ≡ name
   pub like : panel.like ≡ place
+
+-- what is kept has the panels of the layout, in its order, with so many lanes; and so many groups were left out
+pub record HasLayout (l : Layout) (kept : Kept) : Type 0 where
+  pub count : length kept.panels.items ≡ length l.panels
+  pub named : (p : ℕ) (one : PanelName) (panel : KeptPanel) → slice_get l.panels p ≡ Some one → slice_get kept.panels.items p ≡ Some panel → IsPanelOf one.name one.like panel
+  pub lanes : kept.lanes ≡ l.lanes
+  pub left_out : kept.left_out ≡ l.left_out
 
 -- no panel is
 abbrev pub HasNone : List KeptPanel → List ℕ → ℕ → Type 0
@@ -60,10 +62,12 @@ pub record FitsLike (like : List ℕ × GroupProps) (panel : KeptPanel) : Type 0
   pub lanes : length panel.lanes.items ≡ command_count like.1
   pub steps : length panel.steps.items ≡ command_count like.1
 
--- what is kept is that of the run so far: the columns of each lane are those of all groups of its panel's name and properties,
--- nothing of their moments lies outside the extent, and each panel stands as the group of its name that is there
+-- what is kept is that of the run so far: there are the panels of the groups that came; the columns of each lane are those of
+-- all groups of its panel's name and properties, nothing of their moments lies outside the extent, and each panel stands as the
+-- group of its name that is there
 pub record IsKept (service : SettingsView) (sel : Selection) (kept : Kept) (course : Course) (fills : NamedFills) : Type 0 where
   pub selection : kept.selection ≡ sel
+  pub laid_out : HasLayout (layout_of service sel course.entries) kept
   pub placed : ArePlaced sel kept course.entries
   pub fit : (p : ℕ) (panel : KeptPanel) (like : List ℕ × GroupProps) → slice_get kept.panels.items p ≡ Some panel → slice_get service.groups panel.like ≡ Some like → FitsLike like panel
   pub stands : (name : List ℕ) (group place : ℕ) (s : State) (panel : KeptPanel) → number_of course.entries name ≡ Some group → state_at service course group ≡ Some s
@@ -84,6 +88,21 @@ pub record RecordedUpTo (service : SettingsView) (sel : Selection) (run : KeptRu
   pub recorded : IsRecorded service sel groups kept later
   pub run_is : (more : List ℕ) → run_after service sel.from sel.to (cut (old ++ more)) run ≡ run_after service sel.from sel.to (cut (new ++ more)) later
   pub stops_is : (more : List ℕ) → stops (cut (old ++ more)) ≡ stops (cut (new ++ more))
+
+-- Every line that had ended in what was read of `input` was taken: `left` was not read, and `rest` is of a line that had not
+-- ended.
+pub record IsRecordedRead (input left : List ℕ) (service : SettingsView) (sel : Selection) (run : KeptRun) (groups : GroupsView) (kept : Kept) : Type 0 where
+  pub read : List ℕ
+  pub rest : List ℕ
+  pub input_is : input ≡ read ++ left
+  pub taken : RecordedUpTo service sel run groups kept read rest
+  pub no_line : has_line rest ≡ false
+
+-- the same of a reader that had these bytes left, if they are known, and has those left now
+abbrev pub HasRecorded : Option (List ℕ) → Option (List ℕ) → SettingsView → Selection → KeptRun → GroupsView → Kept → Type 0
+HasRecorded None left service sel run groups kept = Unit {0}
+HasRecorded (Some input) None service sel run groups kept = ⊥
+HasRecorded (Some input) (Some left) service sel run groups kept = IsRecordedRead input left service sel run groups kept
 
 -- what is kept at the end of the lines, or at the first that is refused; of memory that was refused or a reader that failed
 -- nothing is said

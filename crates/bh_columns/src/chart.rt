@@ -2,7 +2,8 @@
 
 ghost use Rattle.std.specs.Prelude.{◌≡◌, [], true, false, max, IfOk};
 ghost use Rattle.bh_props.specs.SettingsView.{SettingsView};
-ghost use Rattle.bh_columns.specs.Charts.{AreDrawn, AreUsed, EachDrawn, HasHappened, IsChartOf, IsDrawnOf, IsLaneOf, total_of};
+ghost use Rattle.bh_columns.specs.Charts.{AreDrawn, AreUsed, EachDrawn, HasHappened, IsChartOf, IsDrawnOf, IsLaidOut, IsLaneOf, total_of};
+ghost use Rattle.bh_columns.specs.Layouts.{layout_of};
 ghost use Rattle.bh_columns.specs.Panels.{any_pooled};
 ghost use Rattle.bh_columns.specs.Named.{KeptRun};
 ghost use Rattle.bh_columns.specs.Recorded.{IsRecorded};
@@ -30,7 +31,7 @@ pub struct Chart {
     pub count: usize,
     /// The groups of the settings in their order, then those that lines registered.
     pub panels: Vec<Panel>,
-    /// How many groups are in no panel, because `MOST_LANES` commands are kept already.
+    /// How many groups are in no panel, because there would be more than `MOST_LANES` commands.
     pub left_out: u64,
     /// How many lines there were.
     pub lines: u64,
@@ -87,6 +88,8 @@ pub fn make_chart(
     columns: u64,
 ) -> Result<Chart, AllocError>
     ensures drawn { IfOk result (IsChartOf recording.now.kept (max columns 2)) }
+    ensures laid_out { IfOk result (λ chart. (service : SettingsView) (sel : SelectionView) (run : KeptRun) → IsRecorded service sel recording.now.groups recording.now.kept run →
+        IsLaidOut (layout_of service sel run.course.entries) chart) }
     ensures happened { IfOk result (λ chart. (service : SettingsView) (sel : SelectionView) (run : KeptRun) → IsRecorded service sel recording.now.groups recording.now.kept run → HasHappened run.fills chart) }
     ensures lines { IfOk result (λ chart. chart.lines ≡ recording.now.lines) }
     ensures faults { IfOk result (λ chart. chart.faults ≡ recording.now.faults) }

@@ -8,10 +8,11 @@ ghost use Rattle.bh_port.specs.declared.act.LineAct.TheVariants as act;
 ghost use Rattle.bh_port.specs.Course.{Course, new_course};
 ghost use Rattle.bh_port.specs.Text.{with_act};
 ghost use Rattle.bh_columns.specs.Filled.{AreFilled, AreFills, Fills, HasRoomsFor, IsJoinedPanel, SamePanel};
+ghost use Rattle.bh_columns.specs.Layouts.{keeps};
 ghost use Rattle.bh_columns.specs.Named.{NamedFills, no_fills};
 ghost use Rattle.bh_columns.specs.Panels.{EachAt, IsTaken};
 ghost use Rattle.bh_columns.specs.Placed.{IsBegunAt, IsPlaceFor, SameKept};
-ghost use Rattle.bh_columns.specs.Recorded.{HasNone, IsKept, IsPanelOf, keeps};
+ghost use Rattle.bh_columns.specs.Recorded.{HasNone, IsKept, IsPanelOf};
 ghost use Rattle.bh_columns.specs.Spans.{Fill, IsFill};
 ghost use Rattle.bh_columns.specs.Tracks.{IsIn, IsWithin};
 ghost use Rattle.bh_columns.specs.declared.panel.KeptPanel.{KeptPanel};
@@ -25,7 +26,8 @@ use bh_base::{GroupId, Moment, Text};
 use bh_props::Settings;
 use std::alloc::{AllocError, Global};
 
-/// How many lanes are kept: a group whose commands would be more is left out, and so is each name that comes behind it.
+/// The most lanes that are kept: a group with whose commands there would be more is left out, and so is each that comes behind
+/// it and has no panel yet.
 pub const MOST_LANES: usize = 1_000;
 
 /// How often columns can be joined ten by ten: then the first has all moments that there are but the last.
@@ -140,6 +142,7 @@ impl Kept {
         ensures places { self.new.places ≡ self.old.places }
         ensures selection { self.new.selection ≡ self.old.selection }
         ensures grid { self.new.grid ≡ self.old.grid }
+        ensures lanes { self.new.lanes ≡ self.old.lanes }
         ensures left_out { self.new.left_out ≡ self.old.left_out }
     {
         let Some(panel) = place else {
@@ -162,6 +165,7 @@ impl Kept {
         ensures count { length self.new.panels.items ≡ length self.old.panels.items }
         ensures places { self.new.places ≡ self.old.places }
         ensures selection { self.new.selection ≡ self.old.selection }
+        ensures lanes { self.new.lanes ≡ self.old.lanes }
         ensures left_out { self.new.left_out ≡ self.old.left_out }
     {
         let since = when.since.max(when.from);
@@ -179,6 +183,7 @@ impl Kept {
         ensures taken { since < until → IsIn self.new.grid.extent (since / self.new.grid.width) × IsIn self.new.grid.extent ((until - 1) / self.new.grid.width) }
         ensures places { self.new.places ≡ self.old.places }
         ensures selection { self.new.selection ≡ self.old.selection }
+        ensures lanes { self.new.lanes ≡ self.old.lanes }
         ensures left_out { self.new.left_out ≡ self.old.left_out }
     {
         if since >= until {
@@ -201,6 +206,7 @@ impl Kept {
         ensures within { (f : Fill) → IsFill f → IsWithin self.old.grid.extent self.old.grid.width f → IsWithin self.new.grid.extent self.new.grid.width f }
         ensures places { self.new.places ≡ self.old.places }
         ensures selection { self.new.selection ≡ self.old.selection }
+        ensures lanes { self.new.lanes ≡ self.old.lanes }
         ensures left_out { self.new.left_out ≡ self.old.left_out }
     {
         if !self.grid.widen() {

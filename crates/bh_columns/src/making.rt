@@ -64,6 +64,7 @@ impl Kept {
         ensures panels { OnOk result (EachAt self.old.panels.items self.new.panels.items (λ place own next. IsStepped panel place own next)) }
         ensures places { self.new.places ≡ self.old.places }
         ensures selection { self.new.selection ≡ self.old.selection }
+        ensures lanes { self.new.lanes ≡ self.old.lanes }
         ensures left_out { self.new.left_out ≡ self.old.left_out }
         ensures filled { OnOk result ((s : State) (fs : Fills) (own : KeptPanel) → Shows groups.old.core step.entry.now.group.0 s → IsInRange s.present.props → slice_get self.old.panels.items panel ≡ Some own → Stands (view s) own
             → AreFills fs → AreFilled self.old.panels.items self.old.grid.width fs

@@ -1,15 +1,15 @@
 //! A run whose columns are kept.
 
-ghost use Rattle.std.specs.Prelude.{◌≡◌, ◌<◌, ◌≤◌, ◌+◌, ◌++◌, ◌^◌, ℕ, List, true, false, length, Err, IfErr, IfOk, IfSome, Ok, OnOk};
+ghost use Rattle.std.specs.Prelude.{◌≡◌, ◌<◌, ◌≤◌, ◌+◌, ◌++◌, ◌^◌, ◌⊎◌, ℕ, List, true, false, length, Err, IfErr, IfOk, IfSome, Ok, OnOk};
 ghost use Rattle.bh_lines.specs.Lines.{cut, has_line};
 ghost use Rattle.bh_lines.specs.Taken.{IsMemoryOrLine};
 ghost use Rattle.bh_props.specs.Shown.{settings_view};
-ghost use Rattle.bh_streams.specs.Watched.{bytes_left, reader_of, reads_of};
+ghost use Rattle.bh_streams.specs.Watched.{bytes_left, reader_of, reads_of, HasRead, OneFailed, NoneFailed};
 ghost use Rattle.bh_port.specs.declared.act.LineAct.TheVariants as act;
 ghost use Rattle.bh_port.specs.Course.{IsActOf};
 ghost use Rattle.bh_columns.specs.Named.{KeptRun, run_begun, run_said, run_with};
 ghost use Rattle.bh_columns.specs.Placed.{IsAsked};
-ghost use Rattle.bh_columns.specs.Recorded.{IsRecorded, RecordOutcome, RecordedUpTo};
+ghost use Rattle.bh_columns.specs.Recorded.{HasRecorded, IsRecorded, RecordOutcome, RecordedUpTo};
 ghost use Rattle.bh_columns.specs.declared.selection.Selection.{Selection as SelectionView};
 
 use crate::kept::Kept;
@@ -220,8 +220,9 @@ impl Recording {
 /// Does what each line of the reader asks for, in order, as a run of the script does, and keeps the columns of what came of
 /// it.
 ///
-/// `Line` comes at the first line that is of over 1,024 bytes or not UTF-8, `Read` where the reader fails or 2^40 reads were
-/// made, and `Memory` where memory is refused. What came of the lines before is kept then.
+/// `Line` comes at the first line that is of over 1,024 bytes or not UTF-8, with what came of the lines before it kept; `Read`
+/// where the reader fails in this call, with what came of each line kept whose end was read, or 2^40 reads were made in it;
+/// `Memory` where memory is refused. The run ends at the first read that fails.
 pub fn record_script<R: Read>(
     alloc: Global,
     reader: &mut WatchedReader<'_, R>,
@@ -229,6 +230,10 @@ pub fn record_script<R: Read>(
     recording: &mut Recording,
 ) -> Result<(), PortError>
     ensures reader { (reader_of reader.new).ghost_name ≡ (reader_of reader.old).ghost_name }
+    ensures read { result ≡ Err PortError.Read → OneFailed reader.old reader.new ⊎ HasRead (2 ^ 40) reader.old reader.new }
+    ensures not_failed { (result ≡ Err PortError.Read) ⊎ NoneFailed reader.old reader.new }
+    ensures taken { result ≡ Err PortError.Read → HasRead (2 ^ 40) reader.old reader.new ⊎ ((sel : SelectionView) (run : KeptRun) → IsRecorded (settings_view settings.now) sel recording.old.groups recording.old.kept run →
+        HasRecorded (bytes_left R.remaining reader.old) (bytes_left R.remaining reader.new) (settings_view settings.now) sel run recording.new.groups recording.new.kept) }
     ensures reads { reads_of reader.new ≤ reads_of reader.old + 2 ^ 40 }
     ensures outcome { (sel : SelectionView) (run : KeptRun) → IsRecorded (settings_view settings.now) sel recording.old.groups recording.old.kept run → IfSome (bytes_left R.remaining reader.old) (λ input.
         RecordOutcome (settings_view settings.now) sel run (cut input) recording.new.groups recording.new.kept result) }

@@ -3,7 +3,7 @@
 ghost use Rattle.std.specs.Prelude.{◌≡◌};
 ghost use Rattle.std.specs.List.{list_any};
 ghost use Rattle.std.specs.Str.{bytes_eq};
-ghost use Rattle.bh_columns.specs.Recorded.{keeps};
+ghost use Rattle.bh_columns.specs.Layouts.{keeps};
 
 use bh_base::{Moment, Text};
 use std::alloc::Global;

@@ -2,7 +2,8 @@ use Rattle.std.proofs.Common.{refl, subst}
 use Rattle.std.specs.Prelude.{max}
 use Rattle.bh_columns.specs.Charts.{EachDrawn, IsChartOf, IsDrawnOf, IsFitted}
 use Rattle.bh_columns.specs.declared.chart.Chart.{Chart}
-use Rattle.bh_columns.proofs.Charting.{has_happened}
+use Rattle.bh_columns.specs.Layouts.{layout_of}
+use Rattle.bh_columns.proofs.Charting.{has_happened, laid_chart}
 use Rattle.bh_columns.proofs.chart.make_chart.Goals as goal
 
 pub returns : goal.returns
@@ -33,6 +34,7 @@ returns c =
     } in
     record {
       drawn = is;
+      laid_out = λ service sel run recorded. laid_chart (layout_of service sel run.course.entries) kept most chart is recorded.columns.laid_out;
       happened = λ service sel run recorded. has_happened service sel recording.groups kept run most chart is recorded;
       lines = refl;
       faults = refl;

@@ -18,5 +18,6 @@ returns-in-Some c =
       selection = refl;
       width = refl;
       extent = refl;
+      lanes = refl;
       left_out = refl;
     }

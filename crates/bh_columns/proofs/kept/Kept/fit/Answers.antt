@@ -20,6 +20,7 @@ loop-preserved c = record {
   within = λ f fill within. c.join.ensures.within f fill (c.takes.ensures.within f (c.loop.invariant.within f fill within));
   places = c.join.ensures.places ∙ c.loop.invariant.places;
   selection = c.join.ensures.selection ∙ c.loop.invariant.selection;
+  lanes = c.join.ensures.lanes ∙ c.loop.invariant.lanes;
   left_out = c.join.ensures.left_out ∙ c.loop.invariant.left_out;
 }
 

@@ -12,5 +12,6 @@ invariant-loop l = record {
   within : (f : Fill) → IsFill f → IsWithin l.fn.self.grid.extent l.fn.self.grid.width f → IsWithin l.self.grid.extent l.self.grid.width f;
   places : l.self.places ≡ l.fn.self.places;
   selection : l.self.selection ≡ l.fn.self.selection;
+  lanes : l.self.lanes ≡ l.fn.self.lanes;
   left_out : l.self.left_out ≡ l.fn.self.left_out;
 }

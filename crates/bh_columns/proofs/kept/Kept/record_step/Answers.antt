@@ -28,6 +28,7 @@ returns c = record {
   there = c.make_step.ensures.there;
   places = c.make_room.ensures.places;
   selection = c.make_room.ensures.selection;
+  lanes = c.make_room.ensures.lanes;
   left_out = c.make_room.ensures.left_out;
   panels =
       let n = c.args.panel in
