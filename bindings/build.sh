@@ -19,6 +19,6 @@ rm -f "$out"/libbulkhead.*
 ar rcs "$out/libbulkhead.a" "$work/bulkhead.o"
 cc -shared -Wl,-soname,"libbulkhead.so.$interface" -Wl,-z,defs -o "$out/libbulkhead.so.$interface" "$work/bulkhead.o"
 ln -s "libbulkhead.so.$interface" "$out/libbulkhead.so"
-for name in example handles run slow; do
+for name in example handles run slow tunes; do
     cc -O2 -pthread -Wall -Wextra -I "$bindings/../include" -o "$out/$name" "$bindings/c/$name.c" "$out/libbulkhead.a"
 done

@@ -3,7 +3,8 @@
 # (../python/examples/run.py), and compares what each writes, byte for byte, and its exit status: the scripts of examples/ and of
 # crates/bulkhead/data, if any, a script of every operation, one of several commands, and inputs that end a script early.
 # Runs the examples too, which fail where a step of theirs does not go as it should, those of a slow dependency with the
-# output that docs/SLOW.md has, and what is called on handles that are empty and from several threads (c/handles.c).
+# output that docs/SLOW.md has, what is called on handles that are empty and from several threads (c/handles.c), and changes
+# of properties by structs (c/tunes.c).
 #
 #   bindings/rows.sh [PROGRAM LIBRARY]     both are proved and built where none are given
 set -euo pipefail
@@ -88,6 +89,14 @@ cat >"$work/every" <<'END'
 {"op":"collect","group":"payment","now":5000,"ticket":2}
 {"op":"close","group":"catalog","now":9,"context":1}
 {"op":"read","group":"catalog","now":10}
+{"op":"tune","group":"catalog","now":10,"property":"circuitBreaker.forceOpen","value":true}
+{"op":"submit","group":"catalog","now":11,"arg":"x"}
+{"op":"tune","group":"catalog","now":12,"property":"coreSize","value":3}
+{"op":"tune","group":"catalog","now":12,"property":"coreSize","value":65}
+{"op":"tune","group":"catalog","now":12,"property":"maxQueueSize","value":5}
+{"op":"tune","group":"catalog","now":12,"property":"coreSize","value":false}
+{"op":"totals","group":"catalog","now":13}
+{"op":"totals","group":"nobody","now":13}
 {"op":"read","group":"nobody","now":10}
 {"op":"none","group":"catalog","now":10}
 {"op":"read","group":"catalog"}
@@ -159,6 +168,7 @@ compare "settings that are not UTF-8" check "$work/refused.toml"
 "$here/out/example" >"$work/example"
 python3 "$top/python/examples/steps.py" >>"$work/example"
 "$here/out/handles"
+"$here/out/tunes"
 
 # What docs/SLOW.md says that its examples print.
 for words in "$here/out/slow" "python3 $top/python/examples/slow.py"; do

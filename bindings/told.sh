@@ -2,7 +2,7 @@
 # What the program tells its user: each refusal and fault with the fixed text, its status and, with --explain, the line that
 # says more, and the same output without it; the forms of a lint; the pictures of the examples, and why there is none; a shared
 # service from its first line to its end, and its record; and that the man page has the commands and options of --help, no
-# more, no fewer.
+# more, no fewer, and says the same of each.
 #
 #   bindings/told.sh [PROGRAM]     PROGRAM is proved and built where none is given
 set -euo pipefail
@@ -138,7 +138,7 @@ agree "the objects of a lint" "$("$program" lint --json settings.toml)" "$object
 agree "the objects of a lint on a terminal" "$(on_terminal "$program" lint --json settings.toml)" "$object"
 
 # The pictures that lie beside their scripts.
-for example in full-pool shared-pool come-and-go outage; do
+for example in full-pool shared-pool come-and-go outage incident; do
     beside=$top/examples/$example
     agree "the picture of $example" "$("$program" draw "$beside/settings.toml" <"$beside/script.jsonl")" "$(cat "$beside/picture.svg")"
 done
@@ -162,8 +162,8 @@ agree "the picture of the only group" "$(cat plain.out)" "$(cat all.svg)"
 agree "what share --help says beneath the options" "$("$program" share --help | sed -n '/^Clients/,$p')" \
     "Clients run their dependencies themselves, and ask for each decision. What a client has when its connection ends is
 given back at once. A client beyond N waits unanswered until another one leaves.
-To a port any user of this machine may connect and take permits; nothing is authenticated. A socket only its owner may
-open."
+To a port any user of this machine may connect and take permits, and with --tunable change properties; nothing is
+authenticated. A socket only its owner may open, and whoever does may change properties."
 cat >settings.toml <<'END'
 service.groups = ["payment"]
 hystrix.command.payment.execution.isolation.strategy = "SEMAPHORE"
@@ -187,11 +187,15 @@ cat >asked <<'END'
 {"op":"submit","group":"payment","arg":"order 3"}
 {"op":"finish","group":"payment","ticket":1,"body":"paid"}
 {"op":"collect","group":"payment","ticket":1}
+{"op":"tune","group":"payment","property":"fallback.enabled","value":false}
+{"op":"totals","group":"payment"}
 END
 cat >wanted <<'END'
 {"reply":"inline","ticket":1}
 {"reply":"done"}
 {"body":"paid","reply":"value"}
+{"reply":"tuned"}
+{"events":{"SUCCESS":1},"reply":"totals"}
 END
 answered=$(python3 -c 'import socket, sys
 with socket.socket(socket.AF_UNIX) as connection:
@@ -216,6 +220,68 @@ cp record before
 echo wrong >wrong.toml
 tells 1 "settings refused: 1 syntax" "explain: line 1, column 6: key with no value, expected \`=\`" share wrong.toml --socket s --record record
 agree "a record behind a start that was refused" "$(cat record)" "$(cat before)"
+
+# Who may read a new record, and that none is made through a link that leads nowhere.
+agree "the mode of a new record" "$(stat -c %a record)" 600
+ln -s nowhere link
+tells 3 "fault: record" "explain: record link: File exists (os error 17)" "${share[@]}" s --record link
+agree "the file that a link led to" "$(ls nowhere 2>/dev/null)" ""
+agree "what is left of the making of records" "$(ls -d link.* record.* 2>/dev/null)" ""
+
+# Standard streams that are closed: what the service says goes nowhere, and not into the record.
+"$program" "${share[@]}" s --record closed <&- >&- 2>&-
+agree "the record of a service without streams" "$(grep -c listening closed)" 0
+
+# A limit on the size of files ends the record behind a whole line, and not the service.
+mkfifo small.held
+(ulimit -f 1; exec "$program" "${share[@]}" s --record small <small.held >small.out 2>small.err) &
+busy=$!
+exec {hold}>small.held
+until [ -s small.out ]; do sleep 0.02; done
+answered=$(python3 -c 'import socket
+line = b"{\"op\":\"close\",\"group\":\"payment\",\"context\":1}\n"
+with socket.socket(socket.AF_UNIX) as connection:
+    connection.connect("s")
+    answers = connection.makefile()
+    for _ in range(60):
+        connection.sendall(line)
+        answers.readline()
+    connection.shutdown(socket.SHUT_WR)
+    print(answers.readline() == "", end="")')
+agree "a service whose record has no room" "$answered" True
+exec {hold}>&-
+status=0
+wait "$busy" || status=$?
+busy=
+agree "the status of a service whose record had no room" "$status" 0
+agree "the errors of a service whose record had no room" "$(cat small.err)" \
+    "record: it ends here, since its file cannot be written"
+agree "the size of a record that had no room" "$(($(stat -c %s small) <= 1024))" 1
+agree "the end of a record that had no room" "$(tail -n 1 small | grep -c '}$')" 1
+
+# Whether a client may change a property over a port, of a service with these further words: `tunes WANTED WORDS..`.
+tunes() {
+    local wanted=$1 port answered
+    shift
+    port=$(python3 -c 'import socket; print(socket.create_server(("127.0.0.1", 0)).getsockname()[1])')
+    rm -f port_held port.out
+    mkfifo port_held
+    "$program" share settings.toml --port "$port" "$@" <port_held >port.out &
+    busy=$!
+    exec {hold}>port_held
+    until [ -s port.out ]; do sleep 0.02; done
+    answered=$(head -n 4 asked | tail -n 1 | python3 -c 'import socket, sys
+with socket.create_connection(("127.0.0.1", int(sys.argv[1]))) as connection:
+    connection.sendall(sys.stdin.buffer.read())
+    connection.shutdown(socket.SHUT_WR)
+    sys.stdout.writelines(connection.makefile())' "$port")
+    exec {hold}>&-
+    wait "$busy" || true
+    busy=
+    agree "the answer to a change over a port $*" "$answered" "$wanted"
+}
+tunes '{"error":"tune"}'
+tunes '{"reply":"tuned"}' --tunable
 
 # What came in the stead of a service's socket stays at its end.
 mkfifo again
@@ -250,6 +316,11 @@ paged=$(sed -n '/^\.SH OPTIONS/,/^\.SH EXIT/p' "$page" | grep -A 1 '^\.TP' | gre
 agree "the options of the man page" "$paged" "$helped"
 agree "the commands of the man page" \
     "$(sed -n '/^\.SH COMMANDS/,/^\.SH OPTIONS/p' "$page" | sed -n 's/^\.B //p' | sort)" "$(sort <<<"$commands")"
+# What --help says of each command and option stands in the man page, word for word; what clap says of its own is left out.
+said=$({ "$program" --help; for command in $commands; do [ "$command" = help ] || "$program" "$command" --help; done; } |
+    sed -nE 's/^ +(--[a-z-]+( <[A-Z]+>)?|[a-z]+)  +//p' | sed 's/ \[default: .*\]$//; /^Print /d')
+plain=$(sed 's/\\f[BIPR]//g; s/\\-/-/g' "$page")
+agree "what the man page lacks of --help" "$(while read -r text; do grep -qF -- "$text" <<<"$plain" || echo "$text"; done <<<"$said")" ""
 agree "the version of the man page" "$(sed -n 's/^\.TH .*"\(bulkhead [0-9.]*\)".*/\1/p' "$page")" \
     "$("$program" --version | sed -n '1s/^[^ ]*/bulkhead/p')"
 

@@ -33,7 +33,10 @@ extern "C" {
 
 /* The version of this interface. A program that was compiled with this file may use a library whose bulkhead_version
  * answers the same number. */
-#define BULKHEAD_VERSION 3u
+#define BULKHEAD_VERSION 4u
+
+/* The version of the program, the library and the Python package, which are released together. */
+#define BULKHEAD_RELEASE "1.0.0"
 
 /* What a call comes to. */
 #define BULKHEAD_DONE 0u              /* the call did what it is for */
@@ -47,6 +50,8 @@ extern "C" {
 #define BULKHEAD_NO_SUCH_OPERATION 8u /* no operation has the number */
 #define BULKHEAD_NO_SUCH_COMMAND 9u   /* no command of the group has the name */
 #define BULKHEAD_NOT_OPEN 10u         /* no service is open: none was opened, or it was closed */
+#define BULKHEAD_NO_SUCH_PROPERTY 11u /* no property of the name may change while a group runs */
+#define BULKHEAD_OUT_OF_RANGE 12u     /* the value is out of the range of its property */
 
 /* What a program holds of a service. Begin with {0}, which is empty, let bulkhead_open fill it, and neither read nor
  * write nor copy it: a service is open from then until bulkhead_close, which leaves it empty again. */
@@ -68,6 +73,33 @@ typedef struct bulkhead_service {
 #define BULKHEAD_FALLBACK_MISSING 11u /* the ticket has no fallback [ticket] */
 #define BULKHEAD_CLOSE_CONTEXT 12u    /* ends a request context [context] */
 #define BULKHEAD_READ 13u             /* asks for the metrics of a command [command] */
+#define BULKHEAD_TUNE 14u             /* changes a property [command, text: the name of the property, context: the value] */
+#define BULKHEAD_READ_TOTALS 15u      /* asks how many events of a command there were in all [command] */
+
+/* What BULKHEAD_TUNE may change, and for whom. The property has the value from this step on, for whatever comes and for the
+ * tickets that are there; tickets, counts and circuits stay as they are. The names are those of the settings file, without
+ * what stands in front of them there. A number is 0 to 4,294,967,295 where nothing else is said; of a truth value 0 is false
+ * and 1 is true, and any other number is out of range. The last two are of the thread pool of the group, whichever of its
+ * commands is named.
+ *
+ *   execution.isolation.thread.timeoutInMilliseconds       a number
+ *   execution.timeout.enabled                              a truth value
+ *   execution.isolation.semaphore.maxConcurrentRequests    a number
+ *   fallback.isolation.semaphore.maxConcurrentRequests     a number
+ *   fallback.enabled                                       a truth value
+ *   circuitBreaker.enabled                                 a truth value
+ *   circuitBreaker.requestVolumeThreshold                  a number
+ *   circuitBreaker.sleepWindowInMilliseconds               a number
+ *   circuitBreaker.errorThresholdPercentage                a number
+ *   circuitBreaker.forceOpen                               a truth value
+ *   circuitBreaker.forceClosed                             a truth value
+ *   metrics.healthSnapshot.intervalInMilliseconds          a number
+ *   requestCache.enabled                                   a truth value
+ *   coreSize                                               a number, 1 to 64
+ *   queueSizeRejectionThreshold                            a number
+ *
+ * The library starts no worker: after a larger coreSize as many more Starts may be assigned at a time. What bulkhead_check
+ * writes, and what a line may register a group like, stays that of the settings. */
 
 /* A step. Texts are UTF-8 and have no zero at their end; a text may have zeros in it. */
 typedef struct bulkhead_step {
@@ -75,10 +107,10 @@ typedef struct bulkhead_step {
                            * have the numbers that follow, and no number is given twice */
     uint64_t moment;      /* the moment in milliseconds; one before the group's latest counts as that one */
     uint64_t ticket;      /* the number of a ticket, as a reply had it */
-    uint64_t context;     /* the number of a request context */
+    uint64_t context;     /* the number of a request context, or the value that a property gets */
     uint32_t operation;   /* BULKHEAD_SUBMIT and so on */
     uint32_t key_length;  /* 0 to 32 */
-    uint32_t text_length; /* 0 to 64 of an argument, 0 to 256 of a body */
+    uint32_t text_length; /* 0 to 64 of an argument and of a property's name, 0 to 256 of a body */
     uint8_t key[32];
     uint8_t text[256];
     uint8_t command;      /* the number of a command of the group; 0 is the group's own one */
@@ -109,6 +141,9 @@ typedef struct bulkhead_step {
 #define BULKHEAD_WORN 22u            /* the group has done all the steps that it may; nothing changed */
 #define BULKHEAD_NO_GROUP 23u        /* no group has the number, or it was retired; nothing changed */
 #define BULKHEAD_NO_COMMAND 24u      /* the group has no such command; nothing changed */
+#define BULKHEAD_TUNED 25u           /* the property has the value from now on */
+#define BULKHEAD_NOT_TUNED 26u       /* never told: no step is made by a value out of range (BULKHEAD_OUT_OF_RANGE) */
+#define BULKHEAD_TOTALS 27u          /* the events of the command since its group was there [of metrics the counts by kind] */
 
 /* Why a fallback is due. */
 #define BULKHEAD_CAUSE_SHORT_CIRCUITED 1u
@@ -137,7 +172,7 @@ typedef struct bulkhead_metrics {
     uint64_t busy;    /* runs that a worker or a permit is at */
     uint64_t queued;  /* tickets that wait for a worker */
     uint64_t free;    /* slots of the group for further tickets */
-    /* the events of the rolling window, by kind */
+    /* the events by kind: those of the rolling window, or of BULKHEAD_TOTALS all that there were */
     uint64_t bad_request;
     uint64_t exception_thrown;
     uint64_t failure;
@@ -198,7 +233,8 @@ uint32_t bulkhead_command(bulkhead_service *service, uint64_t group, const uint8
 /* Makes a step and writes its reply. It takes no memory, and cannot be refused for want of it.
  *
  * BULKHEAD_NO_SUCH_OPERATION, and then, of the key and after it of the text that the operation names, BULKHEAD_TOO_LONG
- * and BULKHEAD_NOT_TEXT, in this order. */
+ * and BULKHEAD_NOT_TEXT; and then of a property BULKHEAD_NO_SUCH_PROPERTY and BULKHEAD_OUT_OF_RANGE, in this order. These
+ * come whatever the group and the command are, which the reply tells of. */
 uint32_t bulkhead_make_step(bulkhead_service *service, const bulkhead_step *step, bulkhead_reply *reply);
 
 /* Answers a line as the program does (`bulkhead run`): a line that says a step by its reply, one that registers or retires

@@ -62,6 +62,9 @@ connections usual = usual_number (codes "connections") (parser.Signed (pos 1) (p
 abbrev pub tickets : Rule
 tickets = usual_number (codes "tickets") (parser.Signed (pos 1) (pos 4096)) (codes "256")
 
+abbrev pub contexts : Rule
+contexts = usual_number (codes "contexts") (parser.Signed (pos 0) (pos 4096)) (codes "64")
+
 abbrev pub idle : Rule
 idle = usual_number (codes "idle") (parser.Signed (pos 0) (pos 4294967295)) (codes "0")
 
@@ -100,7 +103,7 @@ abbrev pub serve : App
 serve = with_rule (with_rule serving serve_forever) idle
 
 abbrev pub lending : App
-lending = with_rule (with_rule (listening (codes "share")) (connections (codes "64"))) tickets
+lending = with_rule (with_rule (with_rule (listening (codes "share")) (connections (codes "64"))) tickets) contexts
 
 abbrev pub share : App
-share = with_rule (with_rule (with_rule lending (option (codes "record"))) (flag (codes "forever"))) idle
+share = with_rule (with_rule (with_rule (with_rule lending (flag (codes "tunable"))) (option (codes "record"))) (flag (codes "forever"))) idle

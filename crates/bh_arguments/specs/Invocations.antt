@@ -1,11 +1,12 @@
 -- What the arguments ask for, by what a parse found of them.
-use Rattle.std.specs.Prelude.{◌≡◌, ◌<◌, ◌≤◌, ◌^◌, ◌⊎◌, ◌↔◌, ◌||◌, ◌&&◌, not, ℕ, Bool, true, false, List, [], map, Option, Some, None, codes, option_map, unwrap_or}
+use Rattle.std.specs.Prelude.{◌≡◌, ◌<◌, ◌≤◌, ◌^◌, ◌⊎◌, ◌↔◌, ◌||◌, ◌&&◌, not, ℕ, Bool, true, false, List, [], map, Option, Some, None, codes, is_some, option_map, unwrap_or}
 use Rattle.std.specs.Str.Parse.{IsNumeral, digits_value, without_leading_plus}
 use Rattle.clap.specs.Walk.{Row, Text, all_of, first_of, one_of}
 use Rattle.bh_commands.specs.declared.place.Place.{Place}
 use Rattle.bh_commands.specs.declared.place.Place.TheVariants as place
 use Rattle.bh_commands.specs.declared.summary.SummaryForm.{SummaryForm}
 use Rattle.bh_commands.specs.declared.summary.SummaryForm.TheVariants as form
+use Rattle.bh_share_serve.specs.declared.share.Sharing.{Sharing}
 use Rattle.bh_arguments.specs.declared.invocation.CutArguments.{CutArguments}
 use Rattle.bh_arguments.specs.declared.invocation.DrawArguments.{DrawArguments}
 use Rattle.bh_arguments.specs.declared.invocation.Invocation.{Invocation}
@@ -83,12 +84,20 @@ pub record IsServe (rows : List Row) (a : ServeArguments) : Type 0 where
   pub is_forever : IsFlag (codes "forever") rows forever
   pub service : IsService rows (keeps || forever) (keeps && not forever) a
 
+-- what a connection may have; it may change properties at a socket, or where the flag was given
+pub record IsSharing (rows : List Row) (s : Sharing) : Type 0 where
+  pub tunable : Bool
+  pub is_tunable : IsFlag (codes "tunable") rows tunable
+  pub tickets : IsNumber 32 (codes "tickets") rows 1 s.tickets
+  pub contexts : IsNumber 32 (codes "contexts") rows 0 s.contexts
+  pub may_tune : s.may_tune ≡ (is_some (first_of (codes "socket") rows) || tunable)
+
 -- the record is written to the file that was given, if any
 pub record IsShare (rows : List Row) (a : ShareArguments) : Type 0 where
   pub forever : Bool
   pub is_forever : IsFlag (codes "forever") rows forever
   pub service : IsService rows true (not forever) a.service
-  pub tickets : IsNumber 32 (codes "tickets") rows 1 a.sharing.tickets
+  pub sharing : IsSharing rows a.sharing
   pub record_path : option_map (λ path. path.now) a.«record» ≡ first_of (codes "record") rows
 
 -- what was asked for is what was found of the command

@@ -3,7 +3,7 @@
 ghost use Rattle.std.specs.Prelude.{◌≡◌, IfSome, List, None, Some, map, option_map, unwrap_or, codes};
 ghost use Rattle.clap.specs.Words.{all_of, first_of, found_of, rows_of, subcommand_name_of, subcommand_rows_of};
 ghost use Rattle.clap.specs.Walk.{Row};
-ghost use Rattle.bh_arguments.specs.Invocations.{Asks, IsCut, IsDraw, IsFile, IsFlag, IsLint, IsNumber, IsPlace, IsServe, IsService, IsShare, IsSummary, IsText, name_of};
+ghost use Rattle.bh_arguments.specs.Invocations.{Asks, IsCut, IsDraw, IsFile, IsFlag, IsLint, IsNumber, IsPlace, IsServe, IsService, IsShare, IsSharing, IsSummary, IsText, name_of};
 ghost use Rattle.bh_arguments.specs.declared.invocation.Invocation.{Invocation};
 
 use crate::values::{flag_in, groups_in, path_in, u16_in, u32_in, u64_in};
@@ -197,10 +197,19 @@ fn share_in<'a>(found: &ArgMatches<'a>) -> ShareArguments<'a>
 {
     ShareArguments {
         service: service_in(found, true, !flag_in(found, "forever")),
-        sharing: Sharing {
-            tickets: u32_in(found, "tickets", 1),
-        },
+        sharing: sharing_in(found),
         record: found.get_str("record"),
+    }
+}
+
+/// What connections that share a service may have. At a socket they may change properties; at a port where they were allowed to.
+fn sharing_in(found: &ArgMatches<'_>) -> Sharing
+    ensures { IsSharing (rows_of (found_of found.now)) result }
+{
+    Sharing {
+        tickets: u32_in(found, "tickets", 1),
+        contexts: u32_in(found, "contexts", 0),
+        may_tune: found.get_str("socket").is_some() | flag_in(found, "tunable"),
     }
 }
 

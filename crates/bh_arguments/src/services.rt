@@ -1,7 +1,7 @@
 //! The commands of services that connections are made to, with their arguments.
 
 ghost use Rattle.std.specs.Prelude.{IfOk, codes};
-ghost use Rattle.bh_arguments.specs.Grammar.{IsArgument, IsCommand, connections, idle, lending, listening, option, port, serve, serve_forever, serving, share, socket, tickets};
+ghost use Rattle.bh_arguments.specs.Grammar.{IsArgument, IsCommand, connections, contexts, idle, lending, listening, option, port, serve, serve_forever, serving, share, socket, tickets};
 
 use crate::commands::with_explained_file;
 use crate::options::flag;
@@ -19,8 +19,8 @@ socket only its owner may open.";
 const WHO_SHARES: &str =
     "Clients run their dependencies themselves, and ask for each decision. What a client has when its connection ends is
 given back at once. A client beyond N waits unanswered until another one leaves.
-To a port any user of this machine may connect and take permits; nothing is authenticated. A socket only its owner may
-open.";
+To a port any user of this machine may connect and take permits, and with --tunable change properties; nothing is
+authenticated. A socket only its owner may open, and whoever does may change properties.";
 
 /// The command that serves connections.
 pub(crate) fn serve_command<'a>(alloc: Global) -> Result<Command<'a>, AllocError>
@@ -58,6 +58,11 @@ pub(crate) fn share_command<'a>(alloc: Global) -> Result<Command<'a>, AllocError
     ensures { IfOk result (λ command. IsCommand command share) }
 {
     lending_command(alloc)?
+        .arg(flag(
+            alloc,
+            "tunable",
+            "Lets connections to a port change properties; at a socket they may without it",
+        ))?
         .arg(record(alloc))?
         .arg(flag(
             alloc,
@@ -67,7 +72,7 @@ pub(crate) fn share_command<'a>(alloc: Global) -> Result<Command<'a>, AllocError
         .arg(idle(alloc))
 }
 
-/// The command that connections share, save its record and how long it serves.
+/// The command that connections share, save its record, what else they may and how long it serves.
 fn lending_command<'a>(alloc: Global) -> Result<Command<'a>, AllocError>
     ensures { IfOk result (λ command. IsCommand command lending) }
 {
@@ -82,7 +87,8 @@ fn lending_command<'a>(alloc: Global) -> Result<Command<'a>, AllocError>
         "How many connections may be open at a time, 1 to 64",
         "64",
     ))?
-    .arg(tickets(alloc))
+    .arg(tickets(alloc))?
+    .arg(contexts(alloc))
 }
 
 /// A command that listens at a port or a socket.
@@ -145,6 +151,18 @@ fn tickets<'a>(alloc: Global) -> Arg<'a>
         .help("How many tickets a connection may have at a time, 1 to 4096")
         .default_value("256")
         .value_parser(clap::value_parser!(u32).range(1..=4096))
+}
+
+/// How many request contexts a connection may be within.
+fn contexts<'a>(alloc: Global) -> Arg<'a>
+    ensures { IsArgument result contexts }
+{
+    Arg::new(alloc, "contexts")
+        .long("contexts")
+        .value_name("M")
+        .help("How many request contexts a connection may be within at a time, 0 to 4096")
+        .default_value("64")
+        .value_parser(clap::value_parser!(u32).range(0..=4096))
 }
 
 /// Where each step is written.

@@ -19,6 +19,7 @@ use Rattle.bh_base.specs.declared.event.EventKind.{EventKind}
 use Rattle.bh_base.specs.declared.event.Rolling.{Rolling}
 use Rattle.bh_base.specs.Circuit.{Asked, asked}
 use Rattle.bh_base.specs.Commands.{is_known, props_of}
+use Rattle.bh_base.specs.Tunings.{is_within}
 use Rattle.bh_base.specs.Machine.{Present, Outcome, admitted, cached_as, circuit_asked, circuit_of, circuit_said, with_circuit, collected, collected_in, fallback_done, fallback_done_in, free_count, in_fallback_count, is_admitted, outcome, placed, rejected, run_ended, started, submitted}
 use Rattle.bh_base.specs.Order.{Rise}
 use Rattle.bh_base.specs.Runs.{View, begun, is_worn}
@@ -262,6 +263,8 @@ outcome_keeps (op.Collect s) rolling g serial next other rise h = collect_keeps 
 outcome_keeps (op.FallbackDone s e) rolling g serial next other rise h = fallback_keeps _ _ e g serial other h
 outcome_keeps (op.Close context) rolling g serial next other rise h = sym (pend_closed context serial g.tickets) ∙ h
 outcome_keeps (op.Read command) rolling g serial next other rise h = h
+outcome_keeps (op.Totals command) rolling g serial next other rise h = h
+outcome_keeps (op.Tune command t) rolling g serial next other rise h = either serial (is_within t) _ _ h h
 
 -- tickets that are released have no holder
 

@@ -19,8 +19,11 @@ use Rattle.bh_core.specs.Acts.{with_opened}
 use Rattle.bh_core.specs.CoreView.{most_groups, slots_in, view_at, with_retired}
 use Rattle.bh_core.specs.Looks.{is_assigned, is_in_use, is_pending, is_worn_out}
 use Rattle.bh_core.specs.Step.{IsStep}
+use Rattle.bh_in_force.specs.declared.properties.InForce.{InForce}
+use Rattle.bh_in_force.specs.Properties.{in_force_found}
 use Rattle.bh_journal.specs.Passes.{Adds, PassView, added, marked_stopped, receipt_of}
-use Rattle.bh_audit.specs.Books.{BookView, IsWritten, empty_journal}
+use Rattle.bh_journal.specs.Replay.{empty_journal}
+use Rattle.bh_audit.specs.Books.{BookView, IsWritten}
 use Rattle.bh_audit.specs.Calls.{AddsCollect, AddsNext, is_due, step_at, workers_of}
 use Rattle.bh_audit.specs.Waking.{IsEverybody, KeepsWakeUps}
 use Rattle.bh_audit.specs.declared.asks.Ask.{Ask}
@@ -140,7 +143,7 @@ pub record IsRegistration (props : GroupProps) (step_limit : ℕ) (answer : Resu
   pub added : OnOk answer (new.book.groups ≡ with_opened props step_limit old.book.groups)
   pub many : (answer ≡ Err register.TooManyGroups) ↔ (most_groups ≤ length old.book.groups.lives)
   pub room : (answer ≡ Err register.TooManySlots) ↔ ((length old.book.groups.lives < most_groups) × (old.book.groups.slot_limit < slots_in old.book.groups.lives + props.slots))
-  pub journals : OnOk answer (new.book.journals ≡ (if old.book.audited then old.book.journals ++ empty_journal step_limit ∷ [] else old.book.journals))
+  pub journals : OnOk answer (new.book.journals ≡ (if old.book.audited then old.book.journals ++ empty_journal props step_limit ∷ [] else old.book.journals))
   pub stopped : new.stopped ≡ old.stopped
   pub pass : new.pass ≡ old.pass
   pub err : OnErr answer (new.book ≡ old.book)
@@ -168,6 +171,11 @@ pub record Wants (group : GroupId) (number : ℕ) (h : Held) : Type 0 where
   pub known : (v : View) → view_at h.book.groups group.0 ≡ Some v → number ≡ workers_of v.present.props
   pub unknown : view_at h.book.groups group.0 ≡ None → number ≡ 0
 
+-- this is in force of the command of the number in the group, as far as the one has the other
+pub record Finds (group : GroupId) (command : ℕ) (found : Option InForce) (h : Held) : Type 0 where
+  pub known : (v : View) → view_at h.book.groups group.0 ≡ Some v → found ≡ in_force_found command v.present.props
+  pub unknown : view_at h.book.groups group.0 ≡ None → found ≡ None
+
 -- what a turn of the lock does where it does not wait, by what was asked for and what was said: that and no more
 abbrev pub Does : (ℕ → Type 0) → Bool → Ask → Held → Held → Reply → Said → Freed → Type 0
 Does moments audited (ask.Step step) old new r said.Done freed = IsMade audited step.now r old new freed
@@ -185,6 +193,7 @@ Does moments audited (ask.Retire group) old new r (said.Retired answer) freed = 
 Does moments audited (ask.IsRegistered group) old new r (said.Is it) freed = IsUnchanged old new × (it ≡ is_some (view_at old.book.groups group.0))
 Does moments audited ask.Groups old new r (said.Count number) freed = IsUnchanged old new × (number ≡ length old.book.groups.lives)
 Does moments audited (ask.Workers group) old new r (said.Count number) freed = IsUnchanged old new × Wants group number old
+Does moments audited (ask.InForce group command) old new r (said.InForce found) freed = IsUnchanged old new × Finds group command found old
 Does moments audited _ old new r _ freed = ⊥
 
 -- the most steps that what was asked for makes, so an audited service wants as many free receipts

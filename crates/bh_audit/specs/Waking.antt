@@ -37,7 +37,9 @@ pub record FreesToo (fewer more : Freed) : Type 0 where
   pub caller : (serial : ℕ) → frees_caller fewer.callers serial ≡ true → frees_caller more.callers serial ≡ true
   pub everybody : IsEverybody fewer → IsEverybody more
 
--- the callers whose wait a step of the operation can end, where the group is not worn after it
+-- the callers whose wait a step of the operation can end, where the group is not worn after it; a Tune ends none, as it changes
+-- no ticket. The workers whom it lets go on are told as after every step: where none would have got a run before it and one would
+-- after it
 abbrev pub frees_by : Op → FreedCallers
 frees_by (op.Finish serial body) = callers.Of serial
 frees_by (op.Fail serial bad) = callers.Of serial

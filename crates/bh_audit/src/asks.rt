@@ -7,6 +7,7 @@ use crate::next::Progress;
 use crate::pass::Pass;
 use bh_base::{GroupId, GroupProps, Serial, Step};
 use bh_core::{RegisterError, RetireError};
+use bh_in_force::InForce;
 use std::alloc::Global;
 
 /// What may be asked for in one turn of the lock. Steps are of the group of the pass that is handed in with it.
@@ -42,6 +43,11 @@ pub(crate) enum Ask<'a> {
     Groups,
     /// How many workers the group wants.
     Workers(GroupId),
+    /// What is in force of the group's command of the number.
+    InForce {
+        group: GroupId,
+        command: u8,
+    },
 }
 
 /// What is said to it. The reply to the last step is written where the caller keeps it.
@@ -59,6 +65,8 @@ pub(crate) enum Said {
     Count(u64),
     Registered(Result<GroupId, RegisterError>),
     Retired(Result<(), RetireError>),
+    /// None where there is no such group or command.
+    InForce(Option<InForce>),
 }
 
 /// What is said, and who goes on because of it.

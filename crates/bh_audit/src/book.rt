@@ -1,17 +1,18 @@
 //! All groups, and in an audited book a journal of each.
 
-ghost use Rattle.std.specs.Prelude.{◌≡◌, ◌↔◌, ◌+◌, ◌<◌, ◌≤◌, ◌^◌, ℕ, List, [], ◌∷◌, ◌++◌, length, replicate, slice_set, is_some, vec_len, vec_capacity, Err, IfOk, IfErr, IfSome, OnErr, OnOk, None, Some, true, false, if◌then◌else◌};
+ghost use Rattle.std.specs.Prelude.{◌≡◌, ◌↔◌, ◌+◌, ◌<◌, ◌≤◌, ◌^◌, ℕ, List, [], ◌∷◌, ◌++◌, length, map, replicate, slice_set, is_some, vec_len, vec_capacity, Err, IfOk, IfErr, IfSome, OnErr, OnOk, None, Some, true, false, if◌then◌else◌};
 ghost use Rattle.bh_base.specs.Replies.{is_refusal};
 ghost use Rattle.bh_base.specs.Runs.{View};
 ghost use Rattle.bh_base.specs.declared.step.Op.TheVariants as op;
 ghost use Rattle.bh_base.specs.Seen.{view_reply};
 ghost use Rattle.bh_base.specs.Ranges.{IsInRange};
 ghost use Rattle.bh_core.specs.Acts.{with_opened};
-ghost use Rattle.bh_core.specs.CoreView.{most_groups, slots_in, view_at, with_retired};
+ghost use Rattle.bh_core.specs.CoreView.{in_force, most_groups, slots_in, view_at, with_retired};
 ghost use Rattle.bh_core.specs.Looks.{is_assigned, is_in_use, is_worn_out};
 ghost use Rattle.bh_core.specs.Step.{IsStep};
 ghost use Rattle.bh_audit.specs.Calls.{NeedsNoWait, is_due};
-ghost use Rattle.bh_audit.specs.Books.{AreEmpty, AreNew, BookView, IsAudited, IsWritten, empty_journal, first_journals};
+ghost use Rattle.bh_journal.specs.Replay.{empty_journal};
+ghost use Rattle.bh_audit.specs.Books.{AreEmpty, AreNew, BookView, IsAudited, IsWritten, first_journals};
 
 use bh_base::{GroupId, GroupProps, Moment, Reply, Step};
 use bh_core::{Core, RegisterError, RetireError};
@@ -58,8 +59,7 @@ impl Book {
         ensures journals { IfOk result (λ b. AreEmpty b.journals) }
         ensures err { IfErr result (λ e. e.0 ≡ core) }
     {
-        let groups = core.groups();
-        let (quiet_until, journals) = match open_lists(alloc, groups, audit) {
+        let (quiet_until, journals) = match open_lists(alloc, &core, audit) {
             Ok(lists) => lists,
             Err(error) => return Err((core, error)),
         };
@@ -122,7 +122,7 @@ impl Book {
         ensures added { OnOk result (self.new.groups ≡ with_opened props.now step_limit self.old.groups) }
         ensures many { (result ≡ Err RegisterError.TooManyGroups) ↔ (most_groups ≤ length self.old.groups.lives) }
         ensures room { (result ≡ Err RegisterError.TooManySlots) ↔ ((length self.old.groups.lives < most_groups) × (self.old.groups.slot_limit < slots_in self.old.groups.lives + props.now.slots)) }
-        ensures journals { OnOk result (self.new.journals ≡ (if self.old.audited then self.old.journals ++ empty_journal step_limit ∷ [] else self.old.journals)) }
+        ensures journals { OnOk result (self.new.journals ≡ (if self.old.audited then self.old.journals ++ empty_journal props.now step_limit ∷ [] else self.old.journals)) }
         ensures audited { self.new.audited ≡ self.old.audited }
         ensures err { OnErr result (self.new ≡ self.old) }
     {
@@ -137,7 +137,7 @@ impl Book {
             self.quiet_until.push_reserved(0);
             return Ok(id);
         }
-        let Ok(journal) = journal_behind(&mut self.journals, alloc, step_limit) else {
+        let Ok(journal) = journal_behind(&mut self.journals, alloc, props, step_limit) else {
             return Err(RegisterError::Memory);
         };
         let id = self.core.register(props, step_limit)?;
@@ -254,14 +254,15 @@ pub(crate) fn is_refused(reply: &Reply) -> bool
 fn journal_behind(
     journals: &mut Vec<Journal>,
     alloc: Global,
+    props: &GroupProps,
     steps: u64,
 ) -> Result<Journal, AllocError>
-    ensures made { IfOk result (λ journal. journal ≡ empty_journal steps) }
+    ensures made { IfOk result (λ journal. journal ≡ empty_journal props.now steps) }
     ensures place { OnOk result (vec_len journals.new < vec_capacity journals.new) }
     ensures same { journals.new.items ≡ journals.old.items }
 {
     journals.reserve(1)?;
-    Journal::new(alloc, steps)
+    Journal::new(alloc, props, steps)
 }
 
 /// The group makes a step, so a ticket of it may be due at any moment. Where that is known nothing is written: the moments of
@@ -275,30 +276,33 @@ fn end_quiet(quiet_until: &mut Vec<Moment>, group: GroupId)
     }
 }
 
-/// For each of so many groups a moment before which it is quiet, which is 0, and with an audit of so many steps a journal.
+/// For each of the groups a moment before which it is quiet, which is 0, and with an audit of so many steps a journal.
 fn open_lists(
     alloc: Global,
-    groups: u64,
+    core: &Core,
     audit: Option<u64>,
 ) -> Result<(Vec<Moment>, Vec<Journal>), AllocError>
-    ensures quiet { IfOk result (λ lists. lists.0.items ≡ replicate groups 0) }
-    ensures journals { IfOk result (λ lists. lists.1.items ≡ first_journals audit groups) }
+    ensures quiet { IfOk result (λ lists. lists.0.items ≡ replicate (length core.now.lives) 0) }
+    ensures journals { IfOk result (λ lists. lists.1.items ≡ first_journals audit core.now) }
 {
-    let quiet_until = vec![in alloc; 0; groups as usize]?;
+    let quiet_until = vec![in alloc; 0; core.groups() as usize]?;
     let journals = match audit {
-        Some(steps) => open_journals(alloc, groups, steps)?,
+        Some(steps) => open_journals(alloc, core, steps)?,
         None => Vec::new(alloc),
     };
     Ok((quiet_until, journals))
 }
 
-/// So many journals, each with room for so many entries.
-fn open_journals(alloc: Global, count: u64, steps: u64) -> Result<Vec<Journal>, AllocError>
-    ensures { IfOk result (λ journals. journals.items ≡ replicate count (empty_journal steps)) }
+/// A journal of each group, opened with the properties that it has, with room for so many entries.
+fn open_journals(alloc: Global, core: &Core, steps: u64) -> Result<Vec<Journal>, AllocError>
+    ensures { IfOk result (λ journals. journals.items ≡ map (λ l. empty_journal (in_force l).0 steps) core.now.lives) }
 {
     let mut journals = Vec::new(alloc);
-    for made in 0..count {
-        journals.push(Journal::new(alloc, steps)?)?;
+    for number in 0..core.groups() {
+        let Some((props, _limit)) = core.props(GroupId(number)) else {
+            unreachable!()
+        };
+        journals.push(Journal::new(alloc, props, steps)?)?;
     }
     Ok(journals)
 }

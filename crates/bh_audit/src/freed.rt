@@ -155,6 +155,7 @@ impl FreedCallers {
             Op::Submit(_) | Op::Start | Op::Collect { .. } | Op::Close { .. } | Op::Read { .. } => {
                 FreedCallers::Nobody
             }
+            Op::Totals { .. } | Op::Tune { .. } => FreedCallers::Nobody,
         }
     }
 

@@ -11,6 +11,7 @@ ghost use Rattle.bh_core.specs.CoreView.{view_at};
 ghost use Rattle.bh_core.specs.Looks.{is_assigned};
 ghost use Rattle.bh_core.specs.Step.{IsStep};
 ghost use Rattle.std.specs.List.{position_from};
+ghost use Rattle.bh_in_force.specs.Properties.{in_force_found};
 ghost use Rattle.bh_journal.specs.Passes.{Adds, PassView, added, receipt_of};
 ghost use Rattle.bh_audit.specs.Books.{IsAudited, IsWritten};
 ghost use Rattle.bh_audit.specs.Calls.{NeedsNoWait, is_due, workers_of};
@@ -25,6 +26,7 @@ use crate::freed::{Freed, FreedCallers, Notice, is_told_again};
 use crate::next::Progress;
 use crate::pass::Pass;
 use bh_base::{GroupId, GroupProps, Moment, Op, Reply, Serial, Step, Strategy};
+use bh_in_force::InForce;
 
 /// What the lock guards. The book is audited where `A` is 1.
 #[derive(Drop)]
@@ -154,6 +156,10 @@ impl<const A: u32> Locked<A> {
             Ask::IsRegistered(group) => Some(Answer::look(Said::Is(self.is_registered(*group)))),
             Ask::Groups => Some(Answer::look(Said::Count(self.groups()))),
             Ask::Workers(group) => Some(Answer::look(Said::Count(self.workers(*group)))),
+            Ask::InForce { group, command } => {
+                let found = self.in_force(*group, *command);
+                Some(Answer::look(Said::InForce(found)))
+            }
         }
     }
 }
@@ -315,6 +321,18 @@ impl<const A: u32> Locked<A> {
         match self.book.core().props(group) {
             Some((props, _)) if self.book.is_registered(group) => workers_of(props),
             _ => 0,
+        }
+    }
+
+    /// What is in force of the group's command of the number; None where the group is not registered, or has no such
+    /// command.
+    fn in_force(&self, group: GroupId, command: u8) -> Option<InForce>
+        ensures known { (v : View) → view_at self.now.book.groups group.0 ≡ Some v → result ≡ in_force_found command v.present.props }
+        ensures unknown { view_at self.now.book.groups group.0 ≡ None → result ≡ None }
+    {
+        match self.book.core().props(group) {
+            Some((props, _)) if self.book.is_registered(group) => InForce::find(props, command),
+            _ => None,
         }
     }
 }

@@ -5,7 +5,7 @@ ghost use Rattle.bh_base.specs.Ranges.{IsInRange};
 ghost use Rattle.bh_core.specs.Acts.{with_opened};
 ghost use Rattle.bh_core.specs.CoreView.{most_groups, slots_in, view_at};
 ghost use Rattle.bh_journal.specs.Passes.{PassView};
-ghost use Rattle.bh_audit.specs.Books.{empty_journal};
+ghost use Rattle.bh_journal.specs.Replay.{empty_journal};
 ghost use Rattle.bh_audit.specs.Waking.{IsEverybody};
 ghost use Rattle.bh_audit.specs.Turns.{IsRetirement, held};
 
@@ -30,7 +30,7 @@ impl<const A: u32> Locked<A> {
         ensures added { OnOk result (self.new.book.groups ≡ with_opened props.now step_limit self.old.book.groups) }
         ensures many { (result ≡ Err RegisterError.TooManyGroups) ↔ (most_groups ≤ length self.old.book.groups.lives) }
         ensures room { (result ≡ Err RegisterError.TooManySlots) ↔ ((length self.old.book.groups.lives < most_groups) × (self.old.book.groups.slot_limit < slots_in self.old.book.groups.lives + props.now.slots)) }
-        ensures journals { OnOk result (self.new.book.journals ≡ (if self.old.book.audited then self.old.book.journals ++ empty_journal step_limit ∷ [] else self.old.book.journals)) }
+        ensures journals { OnOk result (self.new.book.journals ≡ (if self.old.book.audited then self.old.book.journals ++ empty_journal props.now step_limit ∷ [] else self.old.book.journals)) }
         ensures audited { self.new.book.audited ≡ self.old.book.audited }
         ensures stopped { self.new.stopped ≡ self.old.stopped }
         ensures err { OnErr result (self.new ≡ self.old) }

@@ -29,6 +29,7 @@ use crate::pass::Pass;
 use crate::waiting::{Place, Waiting, all_waiting};
 use bh_base::{GroupId, GroupProps, Reply, Serial};
 use bh_core::{RegisterError, RetireError};
+use bh_in_force::InForce;
 use bh_journal::AuditReport;
 use std::alloc::{AllocError, Global};
 use std::marker::Model;
@@ -137,7 +138,7 @@ impl Shared {
     /// held while memory for the group is taken. The room of an audited group's journal is for as many entries. A
     /// service that was stopped registers groups too.
     ///
-    /// The errors are, in this order, `TooManyGroups` where 10,000 groups were registered in all, `TooManySlots` where
+    /// The errors are, in this order, `TooManyGroups` where 2^40 groups were registered in all, `TooManySlots` where
     /// the slots of all groups that are not retired would be more than the core may have, and `Memory` where a growth was
     /// refused; nothing has changed then.
     pub fn register<R: Wait>(
@@ -337,6 +338,16 @@ impl Shared {
             unreachable!()
         };
         workers
+    }
+
+    /// The properties that are in force of the group's command of the number, with each change that was made since its
+    /// registration; None where the group is not registered, or was retired, or has no such command. It makes no step.
+    pub fn in_force<R: Wait>(&self, rt: &R, group: GroupId, command: u8) -> Option<InForce> {
+        let ask = Ask::InForce { group, command };
+        let Said::InForce(found) = self.look(rt, group, &ask, &NoClock) else {
+            unreachable!()
+        };
+        found
     }
 
     /// The account of the service, where the passes agree with it. It takes no lock, and gives up the service and the

@@ -20,10 +20,11 @@ use Rattle.bh_base.specs.declared.event.Rolling.{Rolling}
 use Rattle.bh_base.specs.Circuit.{Asked, asked}
 use Rattle.bh_base.specs.Tickets.{is_running}
 use Rattle.bh_base.specs.Commands.{props_of, is_known}
+use Rattle.bh_base.specs.Tunings.{is_within}
 use Rattle.bh_base.specs.Machine.{circuit_of, with_circuit, Present, Outcome, outcome, is_admitted, admitted, rejected, placed, circuit_said, submitted, cached_as, free_count, started, run_ended, collected, collected_in, in_fallback_count, fallback_done, fallback_done_in}
 use Rattle.bh_base.specs.Runs.{View, is_worn}
 use Rattle.bh_base.specs.Seen.{view_outcome, view_reply}
-use Rattle.bh_base.specs.Replies.{can_reply, is_answer_to, answers_submit, answers_start, answers_end, answers_collect, answers_fallback_done}
+use Rattle.bh_base.specs.Replies.{can_reply, is_answer_to, answers_submit, answers_start, answers_end, answers_collect, answers_fallback_done, answers_tune}
 
 either : (b : Bool) (p : Reply → Bool) (x y : Outcome) → p x.reply ≡ true → p y.reply ≡ true → p (if b then x else y).reply ≡ true
 either true p x y h k = h
@@ -95,6 +96,8 @@ outcome_answers (op.Collect serial) rolling g = collected_answers _ serial g
 outcome_answers (op.FallbackDone serial e) rolling g = fallback_answers _ serial e g
 outcome_answers (op.Close context) rolling g = refl
 outcome_answers (op.Read command) rolling g = refl
+outcome_answers (op.Totals command) rolling g = refl
+outcome_answers (op.Tune command t) rolling g = either (is_within t) answers_tune _ _ refl refl
 
 -- a disjunction whose right side is true
 or_right : (a b : Bool) → b ≡ true → (a || b) ≡ true

@@ -19,6 +19,7 @@ use Rattle.bh_base.specs.declared.ticket.TicketState.TheVariants as ticket
 use Rattle.bh_base.specs.Circuit.{Asked, asked}
 use Rattle.bh_base.specs.Tickets.{changed_first, is_running, is_cached_in, in_state}
 use Rattle.bh_base.specs.Commands.{props_of}
+use Rattle.bh_base.specs.Tunings.{is_within}
 use Rattle.bh_base.specs.Machine.{circuit_of, with_circuit, Present, Outcome, outcome, placed, admitted, rejected, is_admitted, circuit_said, submitted, started, run_ended, collected, collected_in, fallback_done, fallback_done_in, cached_as, free_count, in_fallback_count, is_due}
 use Rattle.bh_base.specs.Bounds.{HeldBy}
 
@@ -133,3 +134,5 @@ outcome_held (op.Collect serial) rolling g most held = collected_held _ _ g most
 outcome_held (op.FallbackDone serial e) rolling g most held = fallback_held _ _ e g most held
 outcome_held (op.Close context) rolling g most held = same_held (outcome (op.Close context) rolling g).present most (held_mapped _ (λ t. same_if (is_cached_in context t) (λ t. record t { cached = false }) t refl) most g.tickets held)
 outcome_held (op.Read command) rolling g most held = same_held g most held
+outcome_held (op.Totals command) rolling g most held = same_held g most held
+outcome_held (op.Tune command t) rolling g most held = either (is_within t) _ _ (most + 1) (same_held g most held) (same_held g most held)

@@ -21,6 +21,7 @@ use Rattle.bh_base.specs.declared.ticket.TicketState.TheVariants as ticket
 use Rattle.bh_base.specs.Circuit.{Asked, asked}
 use Rattle.bh_base.specs.Tickets.{is_running}
 use Rattle.bh_base.specs.Commands.{props_of}
+use Rattle.bh_base.specs.Tunings.{is_within}
 use Rattle.bh_base.specs.Machine.{circuit_of, with_circuit, Present, Outcome, outcome, placed, admitted, rejected, is_admitted, circuit_said, submitted, started, run_ended, collected, collected_in, CommandEvent, fallback_done, fallback_done_in, fallback_events, cached_as, free_count, in_fallback_count, is_due}
 
 -- the events of an outcome are so few
@@ -111,3 +112,5 @@ outcome_few (op.Collect serial) rolling g = collected_few _ _ g _
 outcome_few (op.FallbackDone serial e) rolling g = fallback_few _ _ e g _
 outcome_few (op.Close context) rolling g = omega arith
 outcome_few (op.Read command) rolling g = omega arith
+outcome_few (op.Totals command) rolling g = omega arith
+outcome_few (op.Tune command t) rolling g = either (is_within t) _ _ _ (omega arith) (omega arith)

@@ -2,6 +2,7 @@
 use Rattle.std.proofs.Common.{◌≡◌, ℕ, ◌<◌, Bool, true, false, not, cond, List, [], ◌∷◌, ◌++◌, map, filter, Option, Some, None, refl, arith, sym, subst}
 use Rattle.std.proofs.lemmas.Bool.Decides.{nat_tests}
 use Rattle.std.specs.Prelude.{◌==◌, nat_le, if◌then◌else◌}
+use Rattle.std.specs.List.{AllByRecursion}
 use Rattle.bh_base.specs.declared.circuit.Admit.{Admit}
 use Rattle.bh_base.specs.declared.circuit.Admit.TheVariants as admit
 use Rattle.bh_base.specs.declared.circuit.End.{End}
@@ -19,6 +20,7 @@ use Rattle.bh_base.specs.declared.ticket.TicketState.{TicketState}
 use Rattle.bh_base.specs.declared.ticket.TicketState.TheVariants as ticket
 use Rattle.bh_base.specs.Props.{GroupProps}
 use Rattle.bh_base.specs.Commands.{props_of, command_count, is_known}
+use Rattle.bh_base.specs.Tunings.{is_within}
 use Rattle.bh_base.specs.Circuit.{Asked, asked}
 use Rattle.bh_base.specs.Tickets.{changed_first, is_kept, is_running, is_cached_in, in_state}
 use Rattle.bh_base.specs.Machine.{circuit_of, with_circuit, Present, Outcome, outcome, placed, admitted, rejected, is_admitted, circuit_said, submitted, started, run_ended, collected, collected_in, fallback_done, fallback_done_in, cached_as, free_count, in_fallback_count, is_due}
@@ -136,6 +138,8 @@ outcome_known (op.Collect serial) rolling g of known = collected_known _ _ g kno
 outcome_known (op.FallbackDone serial e) rolling g of known = fallback_known _ _ e g known
 outcome_known (op.Close context) rolling g of known = known_mapped _ (λ t. same_if (is_cached_in context t) (λ t. record t { cached = false }) t refl) g.props g.tickets known
 outcome_known (op.Read command) rolling g of known = known
+outcome_known (op.Totals command) rolling g of known = known
+outcome_known (op.Tune command t) rolling g of known = either (is_within t) g _ _ known known
 
 pub commands_stay_known : CommandsStayKnown
 commands_stay_known = record {
@@ -148,5 +152,5 @@ commands_stay_known = record {
     at s o now true is true known = known
     at s o now true is false known =
         let keeps : Keeps (begun now s.present) (outcome_in s o now).present = outcome_keeps o _ (begun now s.present) in
-        subst (λ (props : GroupProps). AreKnown props (filter is_kept (outcome_in s o now).present.tickets)) (sym keeps.props)
+        subst (λ (n : ℕ). AllByRecursion (λ t. t.command < n) (filter is_kept (outcome_in s o now).present.tickets)) (sym keeps.props.count)
         (known_filtered is_kept s.present.props _ (outcome_known o _ (begun now s.present) is known))

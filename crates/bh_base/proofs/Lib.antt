@@ -4,7 +4,8 @@ mod TextLemmas  -- a text and the zeros behind it in an array
 pub mod Windows  -- the table of a history says how many events of each kind lie in each later window
 pub mod Tables  -- the table at a moment says the table at a later one, with events added then
 pub mod LaterTables  -- what a later table counts: what the table before it counted then, and the new events
-pub mod Kept  -- no op changes the properties, the latest moment, or how many circuits there are
+pub mod Tuned  -- what a change of a property leaves as it was
+pub mod Kept  -- no op changes the shape of the properties, the latest moment, or how many circuits there are
 pub mod Views  -- the view of a state says each reply, and the view after it
 -- What each step keeps of the tickets:
 pub mod Rising  -- each step keeps the tickets in the order of their serials

@@ -33,6 +33,8 @@ not_worn (op.Collect serial) = refl
 not_worn (op.FallbackDone serial e) = refl
 not_worn (op.Close context) = refl
 not_worn (op.Read command) = refl
+not_worn (op.Totals command) = refl
+not_worn (op.Tune command t) = refl
 
 not_unknown : (o : Op) → is_answer_to o reply.NoGroup ≡ false
 not_unknown (op.Submit request) = refl
@@ -44,6 +46,8 @@ not_unknown (op.Collect serial) = refl
 not_unknown (op.FallbackDone serial e) = refl
 not_unknown (op.Close context) = refl
 not_unknown (op.Read command) = refl
+not_unknown (op.Totals command) = refl
+not_unknown (op.Tune command t) = refl
 
 not_missing : (o : Op) → is_answer_to o reply.NoCommand ≡ false
 not_missing (op.Submit request) = refl
@@ -55,6 +59,8 @@ not_missing (op.Collect serial) = refl
 not_missing (op.FallbackDone serial e) = refl
 not_missing (op.Close context) = refl
 not_missing (op.Read command) = refl
+not_missing (op.Totals command) = refl
+not_missing (op.Tune command t) = refl
 
 differ : (o : Op) (rolling : ℕ → Rolling) (g : Present) (r : Reply) → is_answer_to o r ≡ false → (outcome o rolling g).reply ≡ r → ⊥
 differ o rolling g r never is =
@@ -146,6 +152,8 @@ full_outcome (op.Collect serial) rolling g is = absurd (differ (op.Collect seria
 full_outcome (op.FallbackDone serial e) rolling g is = absurd (differ (op.FallbackDone serial e) rolling g reply.GroupFull refl is)
 full_outcome (op.Close context) rolling g is = absurd (differ (op.Close context) rolling g reply.GroupFull refl is)
 full_outcome (op.Read command) rolling g is = absurd (differ (op.Read command) rolling g reply.GroupFull refl is)
+full_outcome (op.Totals command) rolling g is = absurd (differ (op.Totals command) rolling g reply.GroupFull refl is)
+full_outcome (op.Tune command t) rolling g is = absurd (differ (op.Tune command t) rolling g reply.GroupFull refl is)
 
 -- pasts without a new event
 pasts_same : (moment from : ℕ) (ps : List Past) → each_from from (λ command p. past_with moment [] false p) ps ≡ ps

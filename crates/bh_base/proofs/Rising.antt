@@ -19,6 +19,7 @@ use Rattle.bh_base.specs.declared.event.Rolling.{Rolling}
 use Rattle.bh_base.specs.Circuit.{Asked, asked}
 use Rattle.bh_base.specs.Tickets.{changed_first, is_running, is_kept, is_cached_in, in_state}
 use Rattle.bh_base.specs.Commands.{props_of, is_known}
+use Rattle.bh_base.specs.Tunings.{is_within}
 use Rattle.bh_base.specs.Machine.{circuit_of, with_circuit, Present, Outcome, outcome, placed, admitted, rejected, is_admitted, circuit_said, circuit_asked, submitted, started, run_ended, collected, collected_in, fallback_done, fallback_done_in, cached_as, free_count, in_fallback_count, is_due}
 use Rattle.bh_base.specs.Runs.{State, stepped, begun, outcome_in, is_worn}
 use Rattle.bh_base.specs.Order.{Rise, IsRising, SerialsRise}
@@ -129,6 +130,8 @@ outcome_rise (op.Collect serial) rolling g rise = collected_rise _ _ g rise
 outcome_rise (op.FallbackDone serial e) rolling g rise = fallback_rise _ _ e g rise
 outcome_rise (op.Close context) rolling g rise = rise_mapped _ (λ t. same_if (is_cached_in context t) (λ t. record t { cached = false }) t refl) 1 g.serial g.tickets rise
 outcome_rise (op.Read command) rolling g rise = rise
+outcome_rise (op.Totals command) rolling g rise = rise
+outcome_rise (op.Tune command t) rolling g rise = either (is_within t) _ _ rise rise
 
 -- a new group's tickets stand by rising serial, and each step keeps them so
 pub serials_rise : SerialsRise

@@ -7,27 +7,33 @@ use Rattle.std.proofs.lemmas.List.{drop-append-le, drop_all, length-map}
 use Rattle.std.proofs.lemmas.List.Elements.{All-drop, All-from_recursion, recursion_from_All, filter-append}
 use Rattle.bh_base.specs.declared.event.EventKind.{EventKind}
 use Rattle.bh_base.specs.declared.event.EventKind.TheVariants as kind
+use Rattle.bh_base.specs.declared.event.Counts.{Counts}
 use Rattle.bh_base.specs.declared.event.Event.{Event}
 use Rattle.bh_base.specs.declared.step.Op.{Op}
+use Rattle.bh_base.specs.declared.step.Op.TheVariants as op
 use Rattle.bh_base.specs.declared.reply.Reply.TheVariants as reply
 use Rattle.bh_base.specs.declared.event.Window.{Window}
 use Rattle.bh_base.specs.declared.props.CommandProps.{CommandProps}
-use Rattle.bh_base.specs.Commands.{each_from, is_known}
+use Rattle.bh_base.specs.Commands.{each_from, has_command, is_known}
 use Rattle.bh_base.specs.Circuit.{new_circuit}
-use Rattle.bh_base.specs.History.{window_of, rolling_by, health_by, table, health_events, is_of_health, Past, new_past, no_past, past_rolling, past_view}
+use Rattle.bh_base.specs.History.{window_of, totals_of, rolling_by, health_by, table, health_events, is_of_health, Past, new_past, no_past, past_rolling, past_view}
 use Rattle.bh_base.specs.Machine.{Outcome, outcome}
 use Rattle.bh_base.specs.Runs.{State, IsPastSound, IsSound, StaysSound, view, step, stepped, left_by, outcome_in, past_of, past_after, kinds_of, is_closed, events_at, begun, released, is_worn}
 use Rattle.bh_base.specs.Tables.{no_rows, later_table}
 use Rattle.bh_base.specs.Seen.{past_view_rolling, past_view_of, past_view_after, view_outcome, view_recorded, view_reply, view_after}
 use Rattle.bh_base.proofs.Windows.{count_from_table}
-use Rattle.bh_base.proofs.Tables.{cong_add, counts_by_same, table_later}
+use Rattle.bh_base.proofs.Tables.{cong_add, counts_by_same, table_later, totals_later}
+use Rattle.bh_base.specs.Ranges.{IsInRange}
+use Rattle.bh_base.specs.Tunings.{AreOfOneShape}
+use Rattle.bh_base.proofs.Tuned.{same_shape}
 use Rattle.bh_base.proofs.Kept.{Keeps, outcome_keeps}
 
 -- equal numbers give the same rolling counts and health
-pub rolling_by_same : (f g p q : EventKind → ℕ) → ((k : EventKind) → f k ≡ g k) → ((k : EventKind) → p k ≡ q k) → rolling_by f p ≡ rolling_by g q
-rolling_by_same f g p q h l = λ i. record {
+pub rolling_by_same : (f g p q : EventKind → ℕ) (c d : Counts) → ((k : EventKind) → f k ≡ g k) → ((k : EventKind) → p k ≡ q k) → c ≡ d → rolling_by f p c ≡ rolling_by g q d
+rolling_by_same f g p q c d h l e = λ i. record {
   counts = counts_by_same f g h i;
   health = record { errors = errors_same i; total = (cong_add errors_same (l kind.Success)) i };
+  totals = e i;
 }
   where
     errors_same : (health_by p).errors ≡ (health_by q).errors
@@ -70,9 +76,10 @@ sound_at moment (p ∷ ps) (suc command) all = sound_at moment ps command all.1
 
 past_rolling_seen : (p : Past) (latest moment : ℕ) → IsPastSound latest p → latest ≤ moment → past_view_rolling latest (past_view latest p) moment ≡ past_rolling p moment
 past_rolling_seen p latest moment sound later =
-    rolling_by_same _ _ _ _
+    rolling_by_same _ _ _ _ _ _
     (λ k. count_from_table p.window p.history latest moment k sound.past later)
     (λ k. count_from_table p.window (health_events p.health_from p.history) latest moment k (past_health _ _ _ sound.past) later)
+    refl
 
 rolling_seen : (s : State) (moment command : ℕ) → IsSound s → s.present.latest ≤ moment → past_view_rolling s.present.latest (past_view_of command (view s)) moment ≡ past_rolling (past_of command s) moment
 rolling_seen s moment command sound later =
@@ -113,6 +120,7 @@ past_seen out command latest p sound later = λ i. record {
   window = p.window;
   table = table_later p.window p.history latest out.present.latest (kinds_of command out.events) sound.past later i;
   health = health_at (is_closed out.closed command) p.window p.history p.health_from latest out.present.latest (kinds_of command out.events) sound.past sound.from later i;
+  totals = totals_later p.history out.present.latest (kinds_of command out.events) i;
 }
 
 pasts_seen : (out : Outcome) (from latest : ℕ) (ps : List Past) → AllByRecursion (IsPastSound latest) ps → latest ≤ out.present.latest → map (past_view out.present.latest) (each_from from (past_after out) ps) ≡ each_from from (past_view_after latest out) (map (past_view latest) ps)
@@ -179,8 +187,8 @@ step_sound s o now sound = at (is_known o s.present.props) (is_worn s.present)
     at false worn = sound
     at true true = sound
     at true false = record {
-      windows = same_windows (outcome_in s o now) 0 s.pasts ∙ sound.windows ∙ ap (λ props. map window_of props.commands) (sym keeps.props);
-      circuits = keeps.circuits ∙ sound.circuits ∙ ap (λ props. length props.commands) (sym keeps.props);
+      windows = same_windows (outcome_in s o now) 0 s.pasts ∙ sound.windows ∙ sym keeps.props.windows;
+      circuits = keeps.circuits ∙ sound.circuits ∙ sym keeps.props.count;
       pasts = pasts_sound (outcome_in s o now) 0 s.present.latest s.pasts sound.pasts (omega (arith, keeps.latest));
     }
 
@@ -191,17 +199,29 @@ equal_views s t o now sound_s sound_t same = (
   after_seen s o now sound_s ∙ ap (λ v. view_after v o now) same ∙ sym (after_seen t o now sound_t),
 )
 
--- no step changes the properties
-pub step_props : (s : State) (o : Op) (now : ℕ) → (step s o now).state.present.props ≡ s.present.props
-step_props s o now = at (is_known o s.present.props) (is_worn s.present)
+-- no step changes the shape of the properties
+pub step_shape : (s : State) (o : Op) (now : ℕ) → AreOfOneShape s.present.props (step s o now).state.present.props
+step_shape s o now = at (is_known o s.present.props) (is_worn s.present)
   where
     keeps : Keeps (begun now s.present) (outcome_in s o now).present
     keeps = kept_in s o now
 
-    at : (known worn : Bool) → (stepped known worn s (outcome_in s o now)).state.present.props ≡ s.present.props
-    at false worn = refl
-    at true true = refl
+    at : (known worn : Bool) → AreOfOneShape s.present.props (stepped known worn s (outcome_in s o now)).state.present.props
+    at false worn = same_shape s.present.props
+    at true true = same_shape s.present.props
     at true false = keeps.props
+
+-- nor brings a step one of them out of its range
+pub step_ranges : (s : State) (o : Op) (now : ℕ) → IsInRange s.present.props → IsInRange (step s o now).state.present.props
+step_ranges s o now ranges = at (is_known o s.present.props) (is_worn s.present)
+  where
+    keeps : Keeps (begun now s.present) (outcome_in s o now).present
+    keeps = kept_in s o now
+
+    at : (known worn : Bool) → IsInRange (stepped known worn s (outcome_in s o now)).state.present.props
+    at false worn = ranges
+    at true true = ranges
+    at true false = keeps.ranges ranges
 
 opened_windows : (commands : List CommandProps) → map (λ p. p.window) (map new_past commands) ≡ map window_of commands
 opened_windows [] = refl
@@ -221,3 +241,9 @@ stays_sound = record {
   };
   stepped = step_sound;
 }
+
+-- the totals that are told are those of the history
+pub totals_told : (s : State) (command now : ℕ) → has_command command s.present.props ≡ true → is_worn s.present ≡ false → (step s (op.Totals command) now).reply ≡ reply.Totals (totals_of (past_of command s).history)
+totals_told s command now known fresh =
+    ap (λ b. (stepped b (is_worn s.present) s (outcome_in s (op.Totals command) now)).reply) known
+    ∙ ap (λ b. (stepped true b s (outcome_in s (op.Totals command) now)).reply) fresh

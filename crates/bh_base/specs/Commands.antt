@@ -21,6 +21,8 @@ props_of command props = slice_index_or props.commands command no_props
 abbrev pub is_known : Op → GroupProps → Bool
 is_known (op.Submit request) props = has_command request.command props
 is_known (op.Read command) props = has_command command props
+is_known (op.Totals command) props = has_command command props
+is_known (op.Tune command tuning) props = has_command command props
 is_known _ props = true
 
 -- the function of each item of a list and of its command's number, where the first has the number `from`

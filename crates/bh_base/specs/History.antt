@@ -115,14 +115,18 @@ health_by f =
 abbrev pub percent : Health → ℕ
 percent h = if h.total == 0 then 0 else 100 * h.errors / h.total
 
--- what a step reads of the history: the rolling count of each kind, and health
-abbrev pub rolling_by : (EventKind → ℕ) → (EventKind → ℕ) → Rolling
-rolling_by all of_health = record { counts = counts_by all; health = health_by of_health }
+-- how many events of each kind there are in all
+abbrev pub totals_of : List Event → Counts
+totals_of history = counts_by (λ k. count_by (λ event. is_kind event.kind k) history)
+
+-- what a step reads of the history: the rolling count of each kind, health, and the number of each kind in all
+abbrev pub rolling_by : (EventKind → ℕ) → (EventKind → ℕ) → Counts → Rolling
+rolling_by all of_health totals = record { counts = counts_by all; health = health_by of_health; totals = totals }
 
 -- at the moment, where health looks at the events from the place on
 abbrev pub rolling : Window → List Event → ℕ → ℕ → Rolling
 rolling w history health_from moment =
-    rolling_by (count w history moment) (count w (health_events health_from history) moment)
+    rolling_by (count w history moment) (count w (health_events health_from history) moment) (totals_of history)
 
 -- the past of a command: its window, all its events, and the place in them where the events of health begin
 pub record Past : Type 0 where
@@ -142,11 +146,12 @@ no_past = record { window = record { buckets = 0; width = 0 }; history = []; hea
 abbrev pub past_rolling : Past → ℕ → Rolling
 past_rolling p moment = rolling p.window p.history p.health_from moment
 
--- what can be seen of a past: its events are counted by buckets, all of them and those of health
+-- what can be seen of a past: its events are counted by buckets, all of them and those of health, and in all
 pub record PastView : Type 0 where
   pub window : Window
   pub table : List Counts
   pub health : List Counts
+  pub totals : Counts
 
 -- at the moment
 abbrev pub past_view : ℕ → Past → PastView
@@ -154,4 +159,5 @@ past_view moment p = record {
   window = p.window;
   table = table p.window p.history moment;
   health = table p.window (health_events p.health_from p.history) moment;
+  totals = totals_of p.history;
 }

@@ -26,7 +26,9 @@ use Rattle.bh_base.specs.declared.circuit.End.TheVariants as end
 use Rattle.bh_base.specs.declared.event.EventKind.{EventKind}
 use Rattle.bh_base.specs.declared.event.EventKind.TheVariants as kind
 use Rattle.bh_base.specs.declared.event.Rolling.{Rolling}
+use Rattle.bh_base.specs.declared.props.Tuning.{Tuning}
 use Rattle.bh_base.specs.Commands.{props_of}
+use Rattle.bh_base.specs.Tunings.{group_tuned, is_within}
 use Rattle.bh_base.specs.History.{percent}
 use Rattle.bh_base.specs.Circuit.{Circuit, new_circuit, Asked, asked, ended, closes, is_test}
 use Rattle.bh_base.specs.Tickets.{is_of, is_queued, is_running, is_in_fallback, is_busy_at, is_held_at, is_in_fallback_at, is_cached_as, is_cached_in, changed_first, in_state}
@@ -322,6 +324,15 @@ metrics command rolling g = reply.Metrics (record {
   free = free_count g;
 })
 
+-- Tune
+
+-- From now on the property is another, for whatever comes and for the tickets that are there: what is due, what a permit or a
+-- worker is free for, and what the circuit breaker says goes by it. Tickets, events and circuit breakers stay as they are. A
+-- value that is out of range changes nothing.
+abbrev pub tuned : Tuning → ℕ → Present → Outcome
+tuned t command g =
+    if is_within t then answers reply.Tuned [] (record g { props = group_tuned t command g.props }) else answers reply.OutOfRange [] g
+
 -- the case of each op; the latest moment is the step's
 
 -- what an operation does in a group whose step has begun, given the rolling counts and health of each command
@@ -340,3 +351,5 @@ outcome (op.Collect serial) rolling g = collected (find (is_held_at serial) g.ti
 outcome (op.FallbackDone serial e) rolling g = fallback_done (find (is_in_fallback_at serial) g.tickets) serial e g
 outcome (op.Close context) rolling g = context_closed context g
 outcome (op.Read command) rolling g = answers (metrics command (rolling command) g) [] g
+outcome (op.Totals command) rolling g = answers (reply.Totals (rolling command).totals) [] g
+outcome (op.Tune command t) rolling g = tuned t command g

@@ -63,6 +63,17 @@ abbrev pub answers_read : Reply → Bool
 answers_read (reply.Metrics metrics) = true
 answers_read _ = false
 
+-- the replies to Totals: the numbers of the command's events
+abbrev pub answers_totals : Reply → Bool
+answers_totals (reply.Totals counts) = true
+answers_totals _ = false
+
+-- the replies to Tune: the property has the value, or it stays, since the value is out of its range
+abbrev pub answers_tune : Reply → Bool
+answers_tune reply.Tuned = true
+answers_tune reply.OutOfRange = true
+answers_tune _ = false
+
 -- the reply is one of those that the operation's own case gives
 abbrev pub is_answer_to : Op → Reply → Bool
 is_answer_to (op.Submit request) r = answers_submit r
@@ -74,6 +85,8 @@ is_answer_to (op.Collect serial) r = answers_collect r
 is_answer_to (op.FallbackDone serial end) r = answers_fallback_done r
 is_answer_to (op.Close context) r = answers_close r
 is_answer_to (op.Read command) r = answers_read r
+is_answer_to (op.Totals command) r = answers_totals r
+is_answer_to (op.Tune command tuning) r = answers_tune r
 
 -- the reply is a refusal or one of the operation's own
 abbrev pub can_reply : Op → Reply → Bool

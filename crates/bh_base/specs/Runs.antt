@@ -3,13 +3,14 @@ use Rattle.std.specs.Prelude.{◌≡◌, ℕ, ◌+◌, ◌≤◌, ◌==◌, Bool
 use Rattle.std.specs.List.{AllByRecursion}
 use Rattle.bh_base.specs.Props.{GroupProps}
 use Rattle.bh_base.specs.declared.step.Op.{Op}
+use Rattle.bh_base.specs.declared.step.Op.TheVariants as operation
 use Rattle.bh_base.specs.declared.step.Step.{Step}
 use Rattle.bh_base.specs.declared.reply.Reply.{Reply}
 use Rattle.bh_base.specs.declared.reply.Reply.TheVariants as reply
 use Rattle.bh_base.specs.declared.event.Event.{Event}
 use Rattle.bh_base.specs.declared.event.EventKind.{EventKind}
-use Rattle.bh_base.specs.Commands.{each_command, is_known}
-use Rattle.bh_base.specs.History.{window_of, Past, new_past, no_past, past_rolling, PastView, past_view}
+use Rattle.bh_base.specs.Commands.{each_command, has_command, is_known}
+use Rattle.bh_base.specs.History.{window_of, totals_of, Past, new_past, no_past, past_rolling, PastView, past_view}
 use Rattle.bh_base.specs.Circuit.{new_circuit}
 use Rattle.bh_base.specs.Tickets.{is_kept}
 use Rattle.bh_base.specs.Machine.{Present, CommandEvent, Outcome, outcome}
@@ -146,3 +147,10 @@ pub record StaysSound : Type 0 where
 -- the state with the number and the moment of one more step, and nothing else changed
 abbrev pub moved_on : State → ℕ → State
 moved_on s now = record s { present = begun now s.present }
+
+-- what a Totals of a group that is not worn is told of a command that it has: how many events of each kind its history has, all
+-- of them since the group was opened
+abbrev pub TotalsAreOfTheHistory : Type 0
+TotalsAreOfTheHistory =
+    (s : State) (command now : ℕ) → has_command command s.present.props ≡ true → is_worn s.present ≡ false
+    → (step s (operation.Totals command) now).reply ≡ reply.Totals (totals_of (past_of command s).history)

@@ -7,13 +7,13 @@ use Rattle.bh_base.specs.declared.reply.Reply.{Reply}
 use Rattle.bh_base.specs.declared.reply.Reply.TheVariants as reply
 use Rattle.bh_base.specs.Commands.{each_command, is_known}
 use Rattle.bh_base.specs.History.{rolling_by, is_of_health, no_past, past_view, PastView}
-use Rattle.bh_base.specs.Tables.{no_rows, sum_in, later_table}
+use Rattle.bh_base.specs.Tables.{no_rows, sum_in, later_table, totals_with}
 use Rattle.bh_base.specs.Machine.{Outcome, outcome}
 use Rattle.bh_base.specs.Runs.{View, begun, released, is_worn, kinds_of, is_closed}
 
 -- what the view of a past at the moment `latest` says at a later moment
 abbrev pub past_view_rolling : ℕ → PastView → ℕ → Rolling
-past_view_rolling latest p moment = rolling_by (sum_in p.window latest p.table moment) (sum_in p.window latest p.health moment)
+past_view_rolling latest p moment = rolling_by (sum_in p.window latest p.table moment) (sum_in p.window latest p.health moment) p.totals
 
 -- what stands for the view of the past of a command that the group lacks
 abbrev pub no_past_view : PastView
@@ -35,6 +35,7 @@ past_view_with latest moment kinds closed p = record {
   window = p.window;
   table = later_table p.window latest p.table moment kinds;
   health = (if closed then no_rows p.window else later_table p.window latest p.health moment (filter is_of_health kinds));
+  totals = totals_with kinds p.totals;
 }
 
 -- the view of the command's past with its events of a step

@@ -79,11 +79,13 @@ pub struct Health {
     pub total: u64,
 }
 
-/// What a step reads of the events before it: the counts of the rolling window, and health.
+/// What a step reads of the events before it: the counts of the rolling window, health, and how many there were in all.
 #[derive(Clone, Copy, Debug, PartialEq, Eq)]
 pub struct Rolling {
     /// The events of the rolling window, by kind.
     pub counts: Counts,
     /// The health that the circuit breaker goes by.
     pub health: Health,
+    /// All events since the group was registered, by kind.
+    pub totals: Counts,
 }

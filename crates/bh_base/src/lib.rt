@@ -13,8 +13,11 @@ pub mod ticket;
 
 pub use circuit::{Admit, CircuitState, End, Snapshot};
 pub use event::{Counts, Event, EventKind, Health, Rolling, Window};
-pub use laws::{commands_stay_known, serials_rise, states_stay_sound, view_law};
-pub use props::{CommandProps, GroupProps, Strategy};
+pub use laws::{
+    commands_stay_known, props_keep_shape, serials_rise, states_stay_sound,
+    totals_are_of_the_history, view_law,
+};
+pub use props::{CommandProps, GroupProps, Strategy, Tuning};
 pub use reply::{Answer, CallError, Cause, FallbackFault, Metrics, Reply};
 pub use room::push_within;
 pub use step::{FallbackEnd, GroupId, Moment, Op, Request, RunEnd, Serial, Step};

@@ -119,6 +119,12 @@ pub enum Reply {
     Closed(u64),
     /// The metrics of the command at the step's moment.
     Metrics(Metrics),
+    /// All events of the command since the group was registered, by kind.
+    Totals(Counts),
+    /// The property has the value from now on.
+    Tuned,
+    /// The value is out of the range of its property, which stays as it was.
+    OutOfRange,
     /// The group has done all the steps that it may; nothing changed.
     Worn,
     /// The group has no such command; nothing changed.

@@ -1,5 +1,6 @@
 //! What a caller asks of a group.
 
+use crate::props::Tuning;
 use crate::text::Text;
 
 /// A moment in milliseconds, handed in by the caller.
@@ -70,6 +71,10 @@ pub enum Op {
     Close { context: u64 },
     /// Asks for the metrics of the command.
     Read { command: u8 },
+    /// Asks how many events of the command there were since the group was registered.
+    Totals { command: u8 },
+    /// Changes a property of the command, or of the group's thread pool.
+    Tune { command: u8, tuning: Tuning },
 }
 
 /// One step of one group at one moment.

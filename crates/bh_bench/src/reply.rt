@@ -28,6 +28,10 @@ pub(crate) fn add_reply(digest: &mut Digest, reply: &Reply) {
         Reply::Answered(answer) => add_answer(digest, answer),
         Reply::Closed(count) => add(digest, 10, *count),
         Reply::Metrics(metrics) => add_metrics(digest, metrics),
+        Reply::Totals(counts) => {
+            digest.number(51);
+            add_counts(digest, counts);
+        }
         other => digest.number(plain_number(other)),
     }
 }
@@ -45,6 +49,8 @@ fn plain_number(reply: &Reply) -> u64 {
         Reply::Worn => 27,
         Reply::NoCommand => 28,
         Reply::NoGroup => 29,
+        Reply::Tuned => 31,
+        Reply::OutOfRange => 32,
         _ => 30,
     }
 }

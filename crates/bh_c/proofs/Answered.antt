@@ -8,7 +8,7 @@ use Rattle.bh_port.specs.Script.{GroupsShow}
 use Rattle.bh_port.specs.Text.{answer_to, course_with}
 use Rattle.bh_props.specs.SettingsView.{SettingsView}
 use Rattle.bh_c.specs.declared.outcome.Outcome.{Outcome}
-use Rattle.bh_c.specs.declared.outcome.Outcome.TheVariants.{Done, Refused, NoMemory, NoRoom, BadLine, NoSuchGroup, NotText, TooLong, NoSuchOperation, NoSuchCommand, NotOpen}
+use Rattle.bh_c.specs.declared.outcome.Outcome.TheVariants.{Done, Refused, NoMemory, NoRoom, BadLine, NoSuchGroup, NotText, TooLong, NoSuchOperation, NoSuchCommand, NotOpen, NoSuchProperty, OutOfRange}
 use Rattle.bh_c.specs.Buffers.{IsWritten}
 use Rattle.bh_c.specs.Calls.{ActTold, FaultWritten, IsAnswered, LineTold}
 use Rattle.bh_c.specs.Lines.{line_text}
@@ -42,6 +42,8 @@ module _ (service : SettingsView) (line : List ℕ) (was is : GroupsView) (old n
   line-act act NoSuchOperation says done = absurd done
   line-act act NoSuchCommand says done = absurd done
   line-act act NotOpen says done = absurd done
+  line-act act NoSuchProperty says done = absurd done
+  line-act act OutOfRange says done = absurd done
 
   -- of a faulty line
   pub line-fault : (fault : Fault) (outcome : Outcome) → line_act service was.entries line ≡ Err fault → is ≡ was
@@ -60,3 +62,5 @@ module _ (service : SettingsView) (line : List ℕ) (was is : GroupsView) (old n
   line-fault fault NoSuchOperation says same done = absurd done
   line-fault fault NoSuchCommand says same done = absurd done
   line-fault fault NotOpen says same done = absurd done
+  line-fault fault NoSuchProperty says same done = absurd done
+  line-fault fault OutOfRange says same done = absurd done

@@ -29,3 +29,6 @@ kind_number kinds.Metrics = 21
 kind_number kinds.Worn = 22
 kind_number kinds.NoGroup = 23
 kind_number kinds.NoCommand = 24
+kind_number kinds.Tuned = 25
+kind_number kinds.OutOfRange = 26
+kind_number kinds.Totals = 27

@@ -16,3 +16,5 @@ code_of outcomes.TooLong = 7
 code_of outcomes.NoSuchOperation = 8
 code_of outcomes.NoSuchCommand = 9
 code_of outcomes.NotOpen = 10
+code_of outcomes.NoSuchProperty = 11
+code_of outcomes.OutOfRange = 12

@@ -2,6 +2,7 @@
 use Rattle.std.specs.Prelude.{ℕ, List, length, min, take}
 use Rattle.bh_base.specs.declared.circuit.CircuitState.{CircuitState}
 use Rattle.bh_base.specs.declared.circuit.CircuitState.TheVariants as circuit
+use Rattle.bh_base.specs.declared.event.Counts.{Counts}
 use Rattle.bh_base.specs.declared.reply.Cause.{Cause}
 use Rattle.bh_base.specs.declared.reply.Cause.TheVariants as cause
 use Rattle.bh_base.specs.declared.reply.FallbackFault.{FallbackFault}
@@ -64,6 +65,24 @@ metrics_shown m = record {
   timeout = m.counts.timeout;
 }
 
+-- the metrics with these counts; what else they tell stays
+abbrev pub counts_shown : Counts → ToldMetrics → ToldMetrics
+counts_shown c told = record told {
+  bad_request = c.bad_request;
+  exception_thrown = c.exception_thrown;
+  failure = c.failure;
+  fallback_failure = c.fallback_failure;
+  fallback_missing = c.fallback_missing;
+  fallback_rejection = c.fallback_rejection;
+  fallback_success = c.fallback_success;
+  response_from_cache = c.response_from_cache;
+  semaphore_rejected = c.semaphore_rejected;
+  short_circuited = c.short_circuited;
+  success = c.success;
+  thread_pool_rejected = c.thread_pool_rejected;
+  timeout = c.timeout;
+}
+
 -- the text, of which there is room for 256 bytes, and its length
 abbrev pub body_shown : List ℕ → ToldReply → ToldReply
 body_shown text told =
@@ -108,6 +127,9 @@ shown reply.NoTicket told = kind_shown kinds.NoTicket told
 shown reply.NotInFallback told = kind_shown kinds.NotInFallback told
 shown (reply.Closed count) told = number_shown kinds.Closed count told
 shown (reply.Metrics metrics) told = record told { kind = kind_number kinds.Metrics; metrics = metrics_shown metrics }
+shown (reply.Totals counts) told = record told { kind = kind_number kinds.Totals; metrics = counts_shown counts told.metrics }
+shown reply.Tuned told = kind_shown kinds.Tuned told
+shown reply.OutOfRange told = kind_shown kinds.OutOfRange told
 shown reply.Worn told = kind_shown kinds.Worn told
 shown reply.NoGroup told = kind_shown kinds.NoGroup told
 shown reply.NoCommand told = kind_shown kinds.NoCommand told

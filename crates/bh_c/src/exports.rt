@@ -19,12 +19,12 @@ use bh_props::SettingsError;
 use std::alloc::Global;
 
 /// The version of the interface.
-const VERSION: u32 = 3;
+const VERSION: u32 = 4;
 
 /// The version of the interface.
 #[unsafe(no_mangle)]
 pub extern "C" fn bulkhead_version() -> u32
-    ensures { result ≡ 3 }
+    ensures { result ≡ 4 }
 {
     VERSION
 }

@@ -30,10 +30,13 @@ pub enum ReplyKind {
     Worn,
     NoGroup,
     NoCommand,
+    Tuned,
+    OutOfRange,
+    Totals,
 }
 
 impl ReplyKind {
-    /// The number that C sees, 1 to 24.
+    /// The number that C sees, 1 to 27.
     pub fn number(self) -> u32
         ensures { result ≡ kind_number self }
     {
@@ -62,6 +65,9 @@ impl ReplyKind {
             ReplyKind::Worn => 22,
             ReplyKind::NoGroup => 23,
             ReplyKind::NoCommand => 24,
+            ReplyKind::Tuned => 25,
+            ReplyKind::OutOfRange => 26,
+            ReplyKind::Totals => 27,
         }
     }
 }

@@ -28,10 +28,14 @@ pub enum Outcome {
     NoSuchCommand,
     /// The handle holds no service.
     NotOpen,
+    /// No property of the name may change.
+    NoSuchProperty,
+    /// The value is out of the range of its property.
+    OutOfRange,
 }
 
 impl Outcome {
-    /// The number that C sees, 0 to 10.
+    /// The number that C sees, 0 to 12.
     pub fn code(self) -> u32
         ensures { result ≡ code_of self }
     {
@@ -47,6 +51,8 @@ impl Outcome {
             Outcome::NoSuchOperation => 8,
             Outcome::NoSuchCommand => 9,
             Outcome::NotOpen => 10,
+            Outcome::NoSuchProperty => 11,
+            Outcome::OutOfRange => 12,
         }
     }
 }

@@ -6,14 +6,14 @@ ghost use Rattle.std.specs.Prelude.{Ok};
 ghost use Rattle.bh_c.specs.Calls.{StepTold};
 ghost use Rattle.bh_c.specs.Given.{made_in, step_in, step_of};
 
-use crate::given::{GivenStep, OpNumber, op_number, text_in};
+use crate::given::{GivenStep, OpNumber, op_number, text_in, tuning_in};
 use crate::outcome::Outcome;
 use crate::told::ToldReply;
 use bh_base::{FallbackEnd, GroupId, Op, Reply, Request};
 use bh_port::groups::Groups;
 
 /// Makes the step that is given, and tells its reply; or says why none is given, and does nothing: the operation is
-/// looked at before the texts, and a key before an argument. What lies at `reply` means nothing: the reply is written there
+/// looked at before the texts, a key before an argument, and a property before its value. What lies at `reply` means nothing: the reply is written there
 /// before it is told, since to make a new one is to clear some 280 bytes.
 pub fn make_given(
     groups: &mut Groups,
@@ -53,6 +53,8 @@ fn make_numbered(
         OpNumber::FallbackMissing => fallback_missing(groups, given, reply, told),
         OpNumber::Close => close(groups, given, reply, told),
         OpNumber::Read => read(groups, given, reply, told),
+        OpNumber::Tune => tune(groups, given, reply, told),
+        OpNumber::Totals => totals(groups, given, reply, told),
     }
 }
 
@@ -148,6 +150,36 @@ fn read(groups: &mut Groups, given: &GivenStep, reply: &mut Reply, told: &mut To
 {
     let command = given.command;
     make(groups, given, &Op::Read { command }, reply, told)
+}
+
+/// Asks for the totals.
+#[inline(never)]
+fn totals(
+    groups: &mut Groups,
+    given: &GivenStep,
+    reply: &mut Reply,
+    told: &mut ToldReply,
+) -> Outcome
+    ensures { StepTold (made_in OpNumber.Totals given.now) groups.old groups.new told.old told.new result }
+{
+    let command = given.command;
+    make(groups, given, &Op::Totals { command }, reply, told)
+}
+
+/// Changes a property.
+#[inline(never)]
+fn tune(groups: &mut Groups, given: &GivenStep, reply: &mut Reply, told: &mut ToldReply) -> Outcome
+    ensures { StepTold (made_in OpNumber.Tune given.now) groups.old groups.new told.old told.new result }
+{
+    let command = given.command;
+    let name = match text_in::<64>(&given.text, given.text_length) {
+        Ok(name) => name,
+        Err(outcome) => return outcome,
+    };
+    match tuning_in(name.as_str(), given.context) {
+        Ok(tuning) => make(groups, given, &Op::Tune { command, tuning }, reply, told),
+        Err(outcome) => outcome,
+    }
 }
 
 /// A submit that shares nothing.

@@ -1,17 +1,17 @@
 //! A reply as C is told it.
 
 ghost use Rattle.std.specs.Prelude.{◌≡◌};
-ghost use Rattle.bh_c.specs.Told.{answer_shown, body_shown, cause_number, circuit_number, fallback_number, kind_shown, metrics_shown, number_shown, shown};
+ghost use Rattle.bh_c.specs.Told.{answer_shown, body_shown, cause_number, circuit_number, counts_shown, fallback_number, kind_shown, metrics_shown, number_shown, shown};
 
 use crate::buffers::copy_front;
 use crate::kind::ReplyKind;
-use bh_base::{Answer, Cause, CircuitState, FallbackFault, Metrics, Reply, Text};
+use bh_base::{Answer, Cause, CircuitState, Counts, FallbackFault, Metrics, Reply, Text};
 
 /// A reply as C is told it. Which of the fields are written depends on the kind; the others stay as they were.
 #[repr(C)]
 #[derive(Clone, Copy)]
 pub struct ToldReply {
-    /// Which reply it is, 1 to 24.
+    /// Which reply it is, 1 to 27.
     pub kind: u32,
     /// Why a fallback is due, 1 to 5.
     pub cause: u32,
@@ -25,7 +25,7 @@ pub struct ToldReply {
     pub command: u64,
     /// The argument of a run, or a body.
     pub text: [u8; 256],
-    /// The metrics of a command.
+    /// The metrics of a command, or of them the counts alone.
     pub metrics: ToldMetrics,
 }
 
@@ -97,6 +97,12 @@ impl ToldReply {
                 self.show_kind(ReplyKind::Metrics);
                 self.metrics = metrics_shown(metrics);
             }
+            Reply::Totals(counts) => {
+                self.show_kind(ReplyKind::Totals);
+                self.metrics = counts_shown(counts, &self.metrics);
+            }
+            Reply::Tuned => self.show_kind(ReplyKind::Tuned),
+            Reply::OutOfRange => self.show_kind(ReplyKind::OutOfRange),
             Reply::Worn => self.show_kind(ReplyKind::Worn),
             Reply::NoGroup => self.show_kind(ReplyKind::NoGroup),
             Reply::NoCommand => self.show_kind(ReplyKind::NoCommand),
@@ -165,6 +171,34 @@ fn metrics_shown(metrics: &Metrics) -> ToldMetrics
         busy: metrics.busy,
         queued: metrics.queued,
         free: metrics.free,
+        bad_request: counts.bad_request,
+        exception_thrown: counts.exception_thrown,
+        failure: counts.failure,
+        fallback_failure: counts.fallback_failure,
+        fallback_missing: counts.fallback_missing,
+        fallback_rejection: counts.fallback_rejection,
+        fallback_success: counts.fallback_success,
+        response_from_cache: counts.response_from_cache,
+        semaphore_rejected: counts.semaphore_rejected,
+        short_circuited: counts.short_circuited,
+        success: counts.success,
+        thread_pool_rejected: counts.thread_pool_rejected,
+        timeout: counts.timeout,
+    }
+}
+
+/// The metrics with these counts.
+fn counts_shown(counts: &Counts, told: &ToldMetrics) -> ToldMetrics
+    ensures { result ≡ counts_shown counts.now told.now }
+{
+    ToldMetrics {
+        circuit: told.circuit,
+        errors: told.errors,
+        total: told.total,
+        percent: told.percent,
+        busy: told.busy,
+        queued: told.queued,
+        free: told.free,
         bad_request: counts.bad_request,
         exception_thrown: counts.exception_thrown,
         failure: counts.failure,

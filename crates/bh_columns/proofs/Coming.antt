@@ -265,8 +265,8 @@ module _ (service : SettingsView) (sel : Selection) (old mid new : Kept) (course
       let fits = mid_fit p m liked.like m_at (ap (slice_get service.groups) m_is.like ∙ has) in
       let lives = begun.begun found in
       subst (Stands (view t)) panel_is (record {
-        count = lives.count ∙ fits.lanes ∙ sym (ap command_count liked.props);
-        steps = ap (λ q. length q.items) begun.steps ∙ fits.steps ∙ sym (ap command_count liked.props);
+        count = lives.count ∙ fits.lanes ∙ sym liked.count;
+        steps = ap (λ q. length q.items) begun.steps ∙ fits.steps ∙ sym liked.count;
         circuits = λ command lane had.
             let (one, one_at, life) = each_back m.lanes.items next.lanes.items (λ k a b. IsNewLife a b) command lane lives had in
             life.circuit ∙ sym (ap (λ c. c.state) (ap (λ (u : State). circuit_of command u.present) (sym new_state) ∙ all_new liked.like.1.commands command));

@@ -23,7 +23,7 @@ use Rattle.bh_port.specs.Text.{with_act}
 use Rattle.bh_port.proofs.Keeping.{either, read}
 use Rattle.bh_port.proofs.Showing.{agrees-step}
 use Rattle.bh_props.specs.SettingsView.{SettingsView}
-use Rattle.bh_look.proofs.Adding.{props_kept}
+use Rattle.bh_look.proofs.Adding.{count_kept}
 use Rattle.bh_look.proofs.Watching.{IsLike, like_in_range, like_of, state_there}
 use Rattle.bh_columns.specs.Columns.{no_column}
 use Rattle.bh_columns.specs.Filled.{AreFilled, AreFills, AreWithin, Fills, Stands, fills_with}
@@ -112,7 +112,7 @@ module _ (service : SettingsView) (sel : Selection) (was now : GroupsView) (old 
   liked = like_of service course g s found.1
 
   in_range : IsInRange s.present.props
-  in_range = subst IsInRange (sym liked.props) (like_in_range service (entry_at course.entries g) liked.like all liked.is)
+  in_range = liked.ranges (like_in_range service (entry_at course.entries g) liked.like all liked.is)
 
   shows_later : GroupsShow service now later
   shows_later = agrees-step service was now course x r shows stepped same is_there
@@ -156,12 +156,12 @@ module _ (service : SettingsView) (sel : Selection) (was now : GroupsView) (old 
   state_own t is =
       let both : Some (view_after v x.op x.now) ≡ Some (view t) = sym (stepped.seen v shown.view_is).1 ∙ (shows_later.shows g t is).view_is in cc
 
-  -- the properties stay
-  props_after : (view_after v x.op x.now).present.props ≡ s.present.props
-  props_after =
+  -- it has as many commands as before
+  count_after : command_count (view_after v x.op x.now).present.props ≡ command_count s.present.props
+  count_after =
       let both : Some (view (step s x.op x.now).state) ≡ Some (view_after v x.op x.now) = sym (stepped.own s shown).view_is ∙ (stepped.seen v shown.view_is).1 in
       let is : view (step s x.op x.now).state ≡ view_after v x.op x.now = cc in
-      ap (λ (u : View). u.present.props) (sym is) ∙ props_kept s x.op x.now
+      ap (λ (u : View). command_count u.present.props) (sym is) ∙ count_kept s x.op x.now
 
   -- ---- a group that is not kept
 
@@ -291,7 +291,7 @@ module _ (service : SettingsView) (sel : Selection) (was now : GroupsView) (old 
           let e_like : e.like ≡ panel.like = sym home.2.like ∙ ap (λ (q : KeptPanel). q.like) mine ∙ sym st.like in
           let likes : Some liked.like ≡ Some like = sym liked.is ∙ ap (option_and_then (λ (d : Entry). slice_get service.groups d.like)) own_group.at ∙ ap (slice_get service.groups) e_like ∙ listed in
           let like_is : liked.like ≡ like = cc in
-          let count : command_count (view_after v x.op x.now).present.props ≡ command_count like.1 = ap command_count (props_after ∙ liked.props) ∙ ap (λ (l : List ℕ × GroupProps). command_count l.1) like_is in
+          let count : command_count (view_after v x.op x.now).present.props ≡ command_count like.1 = count_after ∙ liked.count ∙ ap (λ (l : List ℕ × GroupProps). command_count l.1) like_is in
           let stands : Stands (view_after v x.op x.now) panel = subst (Stands (view_after v x.op x.now)) panel_is did.1.2 in
           record { lanes = stands.count ∙ count; steps = stands.steps ∙ count })
       | inr differ ↦ (

@@ -17,7 +17,7 @@ keeps sel name = length sel.groups.items == 0 || list_any (λ g. bytes_eq g name
 abbrev pub most_lanes : ℕ
 most_lanes = 1_000
 
--- whose a panel is: that of the groups of the name which have the properties of the group of the settings at the place
+-- whose a panel is: that of the groups of the name which began with the properties of the group of the settings at the place
 pub record PanelName : Type 0 where
   pub name : List ℕ
   pub like : ℕ

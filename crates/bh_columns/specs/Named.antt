@@ -16,8 +16,8 @@ use Rattle.bh_columns.specs.Columns.{no_column}
 use Rattle.bh_columns.specs.Spans.{Fill}
 use Rattle.bh_columns.specs.Steps.{filled_with}
 
--- what is kept of the command of a number of the groups that have a name, and the properties of the group of the settings at a
--- place
+-- what is kept of the command of a number of the groups that have a name, and began with the properties of the group of the
+-- settings at a place
 abbrev pub NamedFills : Type 0
 NamedFills = List ℕ → ℕ → ℕ → Fill
 
@@ -25,7 +25,7 @@ NamedFills = List ℕ → ℕ → ℕ → Fill
 abbrev pub no_fills : NamedFills
 no_fills name like command a b = no_column
 
--- whether a group that is there has the name, and the properties of the group of the settings at the place
+-- whether a group that is there has the name, and began with the properties of the group of the settings at the place
 abbrev pub is_of : Option Entry → List ℕ → ℕ → Bool
 is_of None name like = false
 is_of (Some e) name like = bytes_eq e.name name && e.like == like

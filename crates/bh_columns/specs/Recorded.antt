@@ -1,4 +1,4 @@
--- What is kept of a script while its lines come: each group that is kept has the panel of its name and properties.
+-- What is kept of a script while its lines come: each group that is kept has the panel of its name and of the properties with which it began.
 use Rattle.std.specs.Prelude.{◌≡◌, ℕ, true, false, List, ◌++◌, length, Option, Some, None, Result, Ok, Err, slice_get}
 use Rattle.bh_base.specs.Commands.{command_count}
 use Rattle.bh_base.specs.Props.{GroupProps}
@@ -23,7 +23,7 @@ use Rattle.bh_columns.specs.declared.lane.KeptLane.{KeptLane}
 use Rattle.bh_columns.specs.declared.panel.KeptPanel.{KeptPanel}
 use Rattle.bh_columns.specs.declared.selection.Selection.{Selection}
 
--- the panel is that of the groups of the name which have the properties of the group of the settings at the place
+-- the panel is that of the groups of the name which began with the properties of the group of the settings at the place
 pub record IsPanelOf (name : List ℕ) (place : ℕ) (panel : KeptPanel) : Type 0 where
   pub group : panel.group ≡ name
   pub like : panel.like ≡ place

@@ -39,12 +39,13 @@ pub struct Chart {
     pub faults: u64,
 }
 
-/// The commands of the groups that had one name and the properties of one group of the settings, one behind the other.
+/// The commands of the groups that had one name and began with the properties of one group of the settings, one behind the
+/// other.
 #[derive(Drop)]
 pub struct Panel {
     /// The name of the group, and of its own command.
     pub group: Text<32>,
-    /// The place in the settings of the group whose properties it has: its own, unless lines registered it.
+    /// The place in the settings of the group with whose properties it began: its own, unless lines registered it.
     pub like: u64,
     /// A lane for each command, by their numbers.
     pub lanes: Vec<Lane>,
@@ -77,6 +78,8 @@ pub struct Life {
     pub end: Moment,
     /// Whether it was retired.
     pub retired: bool,
+    /// How often its steps gave a property another value than the settings do, with which it began.
+    pub changes: u64,
 }
 
 /// What was kept, in at most so many columns, of which 2 are always allowed: the narrowest columns of 1, 2 or 5 times a power

@@ -78,7 +78,7 @@ impl Kept {
         self.panels[panel].make_step(groups, step, reply)?;
         let moment = groups.core().latest(step.group);
         let since = began.unwrap_or(moment);
-        self.panels[panel].note_life(began.is_some(), moment)?;
+        self.panels[panel].note_life(began.is_some(), moment, is_tuned(reply))?;
         let when = When {
             since,
             moment,
@@ -101,6 +101,11 @@ fn clock(core: &Core, group: GroupId) -> Option<Moment>
         return None;
     }
     Some(core.latest(group))
+}
+
+/// Whether the step changed a property.
+fn is_tuned(reply: &Reply) -> bool {
+    matches!(reply, Reply::Tuned)
 }
 
 /// The command of the run that the operation ends, if it is under way.

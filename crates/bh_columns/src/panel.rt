@@ -1,4 +1,4 @@
-//! What is kept of the groups that have one name and one kind of properties, one behind the other.
+//! What is kept of the groups that have one name and began with the same properties, one behind the other.
 
 ghost use Rattle.std.specs.Prelude.{◌≡◌, ◌+◌, ℕ, min, All, is_some, length, slice_get, false, true, IfOk, OnOk, Some};
 ghost use Rattle.bh_base.specs.Commands.{command_count};
@@ -33,12 +33,12 @@ use bh_look::tally::Tally;
 use bh_port::groups::Groups;
 use std::alloc::{AllocError, Global};
 
-/// What is kept of the commands of the groups that have one name and the properties of one group of the settings, one
-/// behind the other.
+/// What is kept of the commands of the groups that have one name and began with the properties of one group of the
+/// settings, one behind the other.
 #[derive(Drop)]
 pub struct KeptPanel {
     pub group: Text<32>,
-    /// The place in the settings of the group whose properties they have.
+    /// The place in the settings of the group with whose properties they began.
     pub like: u64,
     /// What the step at hand told of each command, by their numbers.
     pub steps: Vec<Lane>,
@@ -111,7 +111,7 @@ impl KeptPanel {
         })
     }
 
-    /// Whether it is that of the groups of the name which have the properties of the group of the settings at the place.
+    /// Whether it is that of the groups of the name which began with the properties of the group of the settings at the place.
     pub(crate) fn is_of(&self, group: &Text<32>, like: u64) -> bool
         ensures own { result ≡ true → IsPanelOf group.now like self.now }
         ensures other { result ≡ false → IsPanelOf group.now like self.now → ⊥ }
@@ -129,8 +129,9 @@ impl KeptPanel {
         begin_all(&mut self.lanes);
     }
 
-    /// Notes a step of the life at the moment, which is its first where it has not begun. It fails only for want of memory.
-    pub fn note_life(&mut self, begun: bool, moment: Moment) -> Result<(), AllocError>
+    /// Notes a step of the life at the moment, which is its first where it has not begun, and whether it changed a property.
+    /// It fails only for want of memory.
+    pub fn note_life(&mut self, begun: bool, moment: Moment, tuned: bool) -> Result<(), AllocError>
         ensures lanes { self.new.lanes ≡ self.old.lanes }
         ensures steps { self.new.steps ≡ self.old.steps }
         ensures group { self.new.group ≡ self.old.group }
@@ -141,11 +142,13 @@ impl KeptPanel {
                 begin: moment,
                 end: moment,
                 retired: false,
+                changes: u64::from(tuned),
             })?;
             return Ok(());
         }
         if let Some(life) = self.lives.last_mut() {
             life.end = moment;
+            life.changes = life.changes.saturating_add(u64::from(tuned));
         }
         Ok(())
     }

@@ -4,6 +4,7 @@ ghost use Rattle.std.specs.Prelude.{◌≡◌, ◌⊎◌, IsErr};
 ghost use Rattle.bh_props.specs.SettingsFile.{settings_in};
 
 use crate::place::{Place, PlaceListener, leave, listen, made_at};
+use crate::record_file::{RecordFile, open_record};
 use crate::{explain, report};
 use bh_props::{Settings, SettingsError, settings_in};
 use bh_serve::{Acceptor, Door, Limits, Reports, serve_through};
@@ -46,7 +47,7 @@ enum Begun {
     Echo,
     Shared {
         sharing: Sharing,
-        record: Option<File>,
+        record: Option<RecordFile>,
     },
 }
 
@@ -167,7 +168,7 @@ where
                 record: None,
             });
         };
-        match File::create(self.rt, path) {
+        match open_record(self.rt, self.alloc, path) {
             Ok(file) => Some(Begun::Shared {
                 sharing,
                 record: Some(file),

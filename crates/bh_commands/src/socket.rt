@@ -1,25 +1,20 @@
 //! The file of a Unix socket that only its owner may open.
 
+use crate::folder::make_folder;
 use bh_serve::SocketListener;
 use std::alloc::{AllocError, Global};
-use std::fs::{DirBuilder, Files, Permissions};
+use std::fs::{Files, Permissions};
 use std::io::ErrorKind;
 use std::net::Net;
-use std::os::unix::fs::{DirBuilderExt, FileTypeExt, MetadataExt, PermissionsExt};
+use std::os::unix::fs::{FileTypeExt, MetadataExt, PermissionsExt};
 use std::os::unix::net::{UnixListener, UnixStream};
 use std::{fs, io};
 
 /// A path has so many bytes at most: the system takes 107, and the socket is made in a folder beside it.
 const LONGEST_PATH: usize = 96;
 
-/// The rights of the folder in which the socket is made: its owner alone may look into it.
-const FOLDER_MODE: u32 = 0o700;
-
 /// The rights of the socket: its owner alone may connect.
 const SOCKET_MODE: u32 = 0o600;
-
-/// So many names are tried for the folder, of which services that were killed may have left some.
-const MOST_FOLDERS: u32 = 100;
 
 /// Why there is no socket.
 #[derive(Debug, Drop)]
@@ -38,7 +33,10 @@ pub enum SocketFault {
 
 impl From<io::Error> for SocketFault {
     fn from(error: io::Error) -> SocketFault {
-        SocketFault::System(error)
+        match error.kind() {
+            ErrorKind::OutOfMemory => SocketFault::Memory,
+            _ => SocketFault::System(error),
+        }
     }
 }
 
@@ -86,23 +84,6 @@ pub fn file_at<R: Files>(rt: &R, path: &str) -> Option<FileId> {
 /// Takes the socket of a service that has ended away from the path.
 pub fn remove_socket<R: Files>(rt: &R, path: &str) {
     let _ = fs::remove_file(rt, path);
-}
-
-/// Makes a new folder beside the path.
-fn make_folder<R: Files>(rt: &R, alloc: Global, path: &str) -> Result<String, SocketFault> {
-    let mut last = io::Error::from(ErrorKind::AlreadyExists);
-    for number in 0..MOST_FOLDERS {
-        let folder = format!(in alloc; "{path}.{number}")?;
-        match DirBuilder::new()
-            .mode(FOLDER_MODE)
-            .create(rt, folder.as_str())
-        {
-            Ok(()) => return Ok(folder),
-            Err(error) if error.kind() == ErrorKind::AlreadyExists => last = error,
-            Err(error) => return Err(SocketFault::System(error)),
-        }
-    }
-    Err(SocketFault::System(last))
 }
 
 /// Makes the socket in the folder, and moves it to the path. Nothing is left in the folder then.

@@ -75,6 +75,10 @@ bulkhead share settings.toml --port 1 --socket s
 bulkhead share settings.toml --socket s --connections 65
 bulkhead share settings.toml --socket s --tickets 0
 bulkhead share settings.toml --socket s --tickets 4097
+bulkhead share settings.toml --socket s --contexts 4097
+bulkhead share settings.toml --socket s --contexts
+bulkhead share settings.toml --socket s --tunable yes
+bulkhead serve settings.toml --port 1 --tunable
 bulkhead share settings.toml --socket s --keep-serving";
 
 #[test]
@@ -98,7 +102,18 @@ fn refused_arguments_leave_status_2(rt: HostRuntime) {
         3,
     );
     assert_status(&rt, &rt, "bulkhead run --explain no-such-file", 3);
-    assert_status(&rt, &rt, "bulkhead share no-such-file --socket s", 3);
+    assert_status(
+        &rt,
+        &rt,
+        "bulkhead share no-such-file --socket s --contexts 0 --tunable",
+        3,
+    );
+    assert_status(
+        &rt,
+        &rt,
+        "bulkhead share no-such-file --port 1 --tunable",
+        3,
+    );
 }
 
 const NO_FILE: &str = "error: the following required arguments were not provided:

@@ -174,6 +174,18 @@ const LINES: &str = r#"{"op":"submit","group":"a","now":0,"arg":"x"}
 : arg has 65 bytes; it may have 64
 {"op":"submit","group":"a","now":2,"arg":"x","context":1,"key":"012345678901234567890123456789012"}
 : key has 33 bytes; it may have 32
+{"op":"tune","group":"a","now":2,"property":"coreSize"}
+: value is missing; it has to be a whole number, true or false
+{"op":"tune","group":"a","now":2,"property":"coreSize","value":"8"}
+: value is "8"; it has to be a whole number, true or false
+{"op":"tune","group":"a","now":2,"property":"coreSize","value":true}
+: value is true; for coreSize it has to be a whole number from 1 to 64
+{"op":"tune","group":"a","now":2,"property":"fallback.enabled","value":1}
+: value is 1; for fallback.enabled it has to be true or false
+{"op":"tune","group":"a","now":2,"property":"queueSizeRejectionThreshold","value":4294967296}
+: value is 4294967296; for queueSizeRejectionThreshold it has to be a whole number from 0 to 4294967295
+{"op":"tune","group":"a","now":2,"property":"maxQueueSize","value":8}
+: there is no property "maxQueueSize" that may change while a group runs
 {"op":"register","group":"t","like":"u"}
 : service.groups has no "u" for the new group to be like
 {"op":"register","group":"b","like":"a"}

@@ -31,3 +31,5 @@ mod settings;
 mod streams;
 #[cfg(test)]
 mod summaries;
+#[cfg(test)]
+mod tunes;

@@ -140,7 +140,15 @@ fn groups_come_and_go(rt: HostRuntime) {
 /// The settings of a service of the one group a.
 const ONE_GROUP: &str = "service.groups = [\"a\"]\n";
 
-const COMES: &str = "{\"op\":\"register\",\"group\":\"c\",\"like\":\"a\"}\n";
+const COMES_AND_IS_USED: &str = "{\"op\":\"register\",\"group\":\"c\",\"like\":\"a\"}
+{\"op\":\"submit\",\"group\":\"c\",\"now\":0,\"arg\":\"x\"}
+{\"op\":\"start\",\"group\":\"a\",\"now\":0}
+";
+
+const CAME_AND_WAS_USED: &str = "{\"group\":\"c\",\"reply\":\"registered\"}
+{\"reply\":\"queued\",\"ticket\":1}
+{\"reply\":\"idle\"}
+";
 
 const COMES_AND_GOES: &str = "{\"op\":\"register\",\"group\":\"c\",\"like\":\"a\"}
 {\"op\":\"retire\",\"group\":\"c\"}
@@ -159,9 +167,9 @@ fn times<R: Abort + AllocGlobal>(rt: &R, count: u64, text: &str, end: &str) -> S
 }
 
 #[test]
-fn ten_thousand_groups_come_in_all(rt: HostRuntime) {
-    let input = times(&rt, 9_999, COMES_AND_GOES, COMES);
-    let output = times(&rt, 9_999, CAME_AND_WENT, "{\"error\":\"groups\"}\n");
+fn more_groups_come_and_go_than_there_is_room_for_at_a_time(rt: HostRuntime) {
+    let input = times(&rt, 70_000, COMES_AND_GOES, COMES_AND_IS_USED);
+    let output = times(&rt, 70_000, CAME_AND_WENT, CAME_AND_WAS_USED);
     let mut reader: &[u8] = input.as_str().as_bytes();
     let (mut written, mut reported) = (Vec::new(rt.alloc()), Vec::new(rt.alloc()));
     let status = run_file(

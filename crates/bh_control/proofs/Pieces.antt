@@ -6,6 +6,8 @@ use Rattle.bh_lines.specs.declared.port_error.PortError.TheVariants.{Read, Write
 use Rattle.bh_lines.specs.Lines.{stopped, cut, has_line, lines_then}
 use Rattle.bh_lines.proofs.LinesThen.{lines_then-append, IsBehind-more}
 use Rattle.bh_faults.specs.declared.fault.Fault.{Fault}
+use Rattle.bh_in_force.specs.declared.properties.InForce.{InForce}
+use Rattle.bh_in_force.specs.PropertiesLine.{properties_data, properties_line}
 use Rattle.bh_replies.specs.FaultLine.{fault_line, fault_word, error_data}
 use Rattle.bh_replies.specs.ReplyLine.{reply_line, reply_data}
 use Rattle.serde_json.specs.Written.{compact_text}
@@ -17,7 +19,7 @@ use Rattle.bh_base.specs.declared.reply.Reply.TheVariants as reply
 use Rattle.bh_control.specs.declared.control_line.ControlLine.{ControlLine}
 use Rattle.bh_control.specs.declared.control_line.ControlLine.TheVariants as lines
 use Rattle.bh_control.specs.ControlLine.{control_line}
-use Rattle.bh_control.specs.AnswerLine.{Responder, Answers, IsAnswer, IsPut, groups_data, groups_line, answer_line}
+use Rattle.bh_control.specs.AnswerLine.{Responder, Answers, IsAnswer, IsPut, groups_data, groups_line, answer_line, in_force_line}
 use Rattle.bh_control.specs.Taken.{TakesAsked, IsLastAsked}
 use Rattle.bh_control.specs.Pieces.{AnswersEach, AnsweredUpTo, AnsweredLast, Refused, Each, UnlessEmpty, Fed}
 
@@ -95,6 +97,11 @@ reply_line-some : (r : Reply) → [] ≡ reply_line None r → ⊥
 unfolding reply_line
 reply_line-some r e = append-some (compact_text (reply_data None r)) 10 e
 
+in_force_line-some : (found : Option InForce) → [] ≡ in_force_line found → ⊥
+unfolding properties_line
+in_force_line-some (Some properties) e = append-some (compact_text (properties_data properties)) 10 e
+in_force_line-some None e = reply_line-some reply.NoGroup e
+
 groups_line-some : (names : List (List ℕ)) → [] ≡ groups_line names → ⊥
 unfolding groups_line
 groups_line-some names e = append-some (compact_text (groups_data names)) 10 e
@@ -116,6 +123,9 @@ is_answer-some who (Ok lines.Groups) h = groups_line-some who.names.groups h
 is_answer-some who (Ok (lines.Metrics group command)) h = reply_line-some h.0 h.2
 is_answer-some who (Ok (lines.Call group request)) h = answer_line-some h.0 h.2
 is_answer-some who (Ok (lines.Close group context)) h = reply_line-some h.0 h.2
+is_answer-some who (Ok (lines.Totals group command)) h = reply_line-some h.0 h.2
+is_answer-some who (Ok (lines.Tune group command t)) h = reply_line-some h.0 h.2
+is_answer-some who (Ok (lines.Properties group command)) h = in_force_line-some h.0 h.2
 
 -- no line is answered by nothing
 answers-some : (who : Responder) (bytes : List ℕ) → Answers who bytes [] → ⊥

@@ -9,7 +9,7 @@ use Rattle.bh_base.specs.declared.step.Request.{Request}
 use Rattle.bh_faults.specs.declared.fault.Fault.{Fault}
 use Rattle.bh_faults.specs.declared.fault.Fault.TheVariants as faults
 use Rattle.bh_lines.specs.Names.{Names}
-use Rattle.bh_lines.specs.StepLine.{◌>>=◌, or_fault, text_at, number_at, cache_of, command_of, command_in, is_short_name, group_number}
+use Rattle.bh_lines.specs.StepLine.{◌>>=◌, or_fault, text_at, number_at, cache_of, command_of, tuning_of, command_in, is_short_name, group_number}
 use Rattle.bh_control.specs.declared.control_line.ControlWord.{ControlWord}
 use Rattle.bh_control.specs.declared.control_line.ControlWord.TheVariants as words
 use Rattle.bh_control.specs.declared.control_line.ControlLine.{ControlLine}
@@ -21,7 +21,10 @@ control_word s =
     if bytes_eq s (codes "groups") then Some words.Groups else
     (if bytes_eq s (codes "metrics") then Some words.Metrics else
     (if bytes_eq s (codes "call") then Some words.Call else
-    (if bytes_eq s (codes "close") then Some words.Close else None)))
+    (if bytes_eq s (codes "close") then Some words.Close else
+    (if bytes_eq s (codes "totals") then Some words.Totals else
+    (if bytes_eq s (codes "tune") then Some words.Tune else
+    (if bytes_eq s (codes "properties") then Some words.Properties else None))))))
 
 -- the request of a call of the command of this number, unless its key is of over 32 bytes or its argument of over 64
 abbrev pub request_of : ℕ → Option (ℕ × List ℕ) → List ℕ → Result Request Fault
@@ -34,8 +37,9 @@ group_named names name = do
   number ← or_fault faults.Group (group_number names.groups name)
   Ok (record { 0 = number })
 
--- what an object asks of the groups with these names, its kind of line known: first what is missing, then whether
--- there is such a group, then whether it has such a command, then whether the texts are too long
+-- what an object asks of the groups with these names, its kind of line known: first what is missing, then whether the
+-- property may get the value, then whether there is such a group, then whether it has such a command, then whether the texts
+-- are too long
 abbrev pub control_line_for : Names → ControlWord → Data → Result ControlLine Fault
 control_line_for names words.Groups d = Ok lines.Groups
 control_line_for names words.Metrics d = do
@@ -58,6 +62,25 @@ control_line_for names words.Close d = do
   context ← or_fault faults.Field (number_at (codes "context") d)
   group ← group_named names name
   Ok (lines.Close group context)
+control_line_for names words.Totals d = do
+  name ← or_fault faults.Field (text_at (codes "group") d)
+  said ← command_of (get (codes "command") d)
+  group ← group_named names name
+  command ← command_in names group.0 said
+  Ok (lines.Totals group command)
+control_line_for names words.Tune d = do
+  name ← or_fault faults.Field (text_at (codes "group") d)
+  said ← command_of (get (codes "command") d)
+  t ← tuning_of d
+  group ← group_named names name
+  command ← command_in names group.0 said
+  Ok (lines.Tune group command t)
+control_line_for names words.Properties d = do
+  name ← or_fault faults.Field (text_at (codes "group") d)
+  said ← command_of (get (codes "command") d)
+  group ← group_named names name
+  command ← command_in names group.0 said
+  Ok (lines.Properties group command)
 
 -- what an object asks
 abbrev pub control_line_at : Names → Data → Result ControlLine Fault
@@ -81,3 +104,6 @@ IsOfGroups groups lines.Groups = Unit {0}
 IsOfGroups groups (lines.Metrics group command) = group.0 < groups
 IsOfGroups groups (lines.Call group request) = group.0 < groups
 IsOfGroups groups (lines.Close group context) = group.0 < groups
+IsOfGroups groups (lines.Totals group command) = group.0 < groups
+IsOfGroups groups (lines.Tune group command t) = group.0 < groups
+IsOfGroups groups (lines.Properties group command) = group.0 < groups

@@ -1,16 +1,19 @@
 //! The service that control lines are asked of, as a trait.
 
-ghost use Rattle.std.specs.Prelude.{◌≡◌, ◌<◌, ℕ, length, Result, Ok, Err, IfSome, MatchResult, option_map};
+ghost use Rattle.std.specs.Prelude.{◌≡◌, ◌<◌, ℕ, length, Option, Result, Ok, Err, IfSome, MatchResult, option_map};
+ghost use Rattle.bh_base.specs.declared.props.Tuning.{Tuning};
 ghost use Rattle.bh_base.specs.declared.step.GroupId.{GroupId};
 ghost use Rattle.bh_base.specs.declared.step.Request.{Request};
 ghost use Rattle.bh_base.specs.declared.reply.Reply.{Reply};
 ghost use Rattle.bh_base.specs.declared.reply.Reply.TheVariants as replies;
 ghost use Rattle.bh_base.specs.declared.reply.Answer.{Answer};
 ghost use Rattle.bh_base.specs.declared.reply.CallError.{CallError};
+ghost use Rattle.bh_in_force.specs.declared.properties.InForce.{InForce};
 ghost use Rattle.bh_lines.specs.Names.{Names, command_number};
 ghost use Rattle.bh_lines.specs.StepLine.{group_number};
 
-use bh_base::{Answer, CallError, GroupId, Reply, Request, Text};
+use bh_base::{Answer, CallError, GroupId, Reply, Request, Text, Tuning};
+use bh_in_force::InForce;
 
 /// A service that control lines are asked of. A group is meant by its place in `groups`, and a command by its number in its
 /// group, 0 for the group's own. No call changes the names of either.
@@ -29,6 +32,15 @@ pub trait Control {
 
     // The replies of a group in which a context ends.
     ghost may_close: { GroupId → ℕ → Reply → Type 0 };
+
+    // The replies of a group that is asked for the totals of its command of a number.
+    ghost may_total: { GroupId → ℕ → Reply → Type 0 };
+
+    // The replies of a group of which a property changes, in its command of a number.
+    ghost may_tune: { GroupId → ℕ → Tuning → Reply → Type 0 };
+
+    // What may be in force of a group's command of a number.
+    ghost may_force: { GroupId → ℕ → Option InForce → Type 0 };
 
     /// The names of the groups, in the order of their numbers.
     fn groups(&self) -> &[Text<32>]
@@ -74,6 +86,25 @@ pub trait Control {
         requires { group.0 < length (names self.old).groups }
         ensures reply { may_close group context result }
         ensures groups { names self.new ≡ names self.old };
+
+    /// How many events of each kind the group's command of the number has had in all, or why that is not told, as `Worn`.
+    fn totals(&mut self, group: GroupId, command: u8) -> Reply
+        requires { group.0 < length (names self.old).groups }
+        ensures reply { may_total group command result }
+        ensures groups { names self.new ≡ names self.old };
+
+    /// Changes the property of the group's command of the number, or of its thread pool: `Tuned`, or why it stays as it was,
+    /// as `Worn`.
+    fn tune(&mut self, group: GroupId, command: u8, tuning: Tuning) -> Reply
+        requires { group.0 < length (names self.old).groups }
+        ensures reply { may_tune group command tuning result }
+        ensures groups { names self.new ≡ names self.old };
+
+    /// The properties that are in force of the group's command of the number, for which no step is made; None where the group
+    /// is not registered any more.
+    fn in_force(&self, group: GroupId, command: u8) -> Option<InForce>
+        requires { group.0 < length (names self.now).groups }
+        ensures { may_force group command result };
 
     /// The group of the name, if there is one: the first that has it.
     ///

@@ -6,11 +6,11 @@ ghost use Rattle.bh_lines.specs.StepLine.{cache_view, command_in};
 ghost use Rattle.bh_control.specs.ControlLine.{control_word, request_of, control_line_for, control_line_at, group_named, control_line, IsOfGroups};
 
 use crate::control::Control;
-use bh_base::{GroupId, Request, Text};
+use bh_base::{GroupId, Request, Text, Tuning};
 use bh_faults::Fault;
 use bh_lines::flat::FlatObject;
 use bh_lines::members::{Members, value_if_json};
-use bh_lines::step_line::{cache_of, command_of, short_name};
+use bh_lines::step_line::{cache_of, command_of, short_name, tuning_of};
 use json::Scratch;
 use std::alloc::{AllocError, Global};
 
@@ -21,6 +21,9 @@ pub enum ControlWord {
     Metrics,
     Call,
     Close,
+    Totals,
+    Tune,
+    Properties,
 }
 
 /// What a control line asks. A group is meant by its place in the list of groups, from 0, and a command by its number in
@@ -30,11 +33,36 @@ pub enum ControlLine {
     /// The names of all groups.
     Groups,
     /// What the group's command of the number shows of itself.
-    Metrics { group: GroupId, command: u8 },
+    Metrics {
+        group: GroupId,
+        command: u8,
+    },
     /// The answer to a request.
-    Call { group: GroupId, request: Request },
+    Call {
+        group: GroupId,
+        request: Request,
+    },
     /// The end of a request context in a group.
-    Close { group: GroupId, context: u64 },
+    Close {
+        group: GroupId,
+        context: u64,
+    },
+    /// How many events of each kind the group's command of the number has had in all.
+    Totals {
+        group: GroupId,
+        command: u8,
+    },
+    /// The change of a property of the group's command of the number, or of its thread pool.
+    Tune {
+        group: GroupId,
+        command: u8,
+        tuning: Tuning,
+    },
+    /// The properties that are in force of the group's command of the number.
+    Properties {
+        group: GroupId,
+        command: u8,
+    },
 }
 
 /// What a line asks, or the first fault that it has.
@@ -77,6 +105,9 @@ fn control_line_at<C: Control>(control: &C, members: Members<'_>) -> Asked
         ControlWord::Metrics => metrics_at(control, members),
         ControlWord::Call => call_at(control, members),
         ControlWord::Close => close_at(control, members),
+        ControlWord::Totals => totals_at(control, members),
+        ControlWord::Tune => tune_at(control, members),
+        ControlWord::Properties => properties_at(control, members),
     }
 }
 
@@ -89,6 +120,9 @@ fn control_word(word: &str) -> Option<ControlWord>
         "metrics" => Some(ControlWord::Metrics),
         "call" => Some(ControlWord::Call),
         "close" => Some(ControlWord::Close),
+        "totals" => Some(ControlWord::Totals),
+        "tune" => Some(ControlWord::Tune),
+        "properties" => Some(ControlWord::Properties),
         _ => None,
     }
 }
@@ -129,6 +163,47 @@ fn close_at<C: Control>(control: &C, members: Members<'_>) -> Asked
     let context = members.number("context").ok_or(Fault::Field)?;
     let group = group_named(control, name)?;
     Ok(ControlLine::Close { group, context })
+}
+
+/// What a line for totals asks.
+fn totals_at<C: Control>(control: &C, members: Members<'_>) -> Asked
+    ensures asked { result ≡ control_line_for (C.names control.now) ControlWord.Totals (members_data members.entry) }
+    ensures group { IfOk result (IsOfGroups (length (C.names control.now).groups)) }
+{
+    let name = members.text("group").ok_or(Fault::Field)?;
+    let said = command_of(members)?;
+    let group = group_named(control, name)?;
+    let command = command_in(control, group, said)?;
+    Ok(ControlLine::Totals { group, command })
+}
+
+/// What a line that changes a property asks.
+fn tune_at<C: Control>(control: &C, members: Members<'_>) -> Asked
+    ensures asked { result ≡ control_line_for (C.names control.now) ControlWord.Tune (members_data members.entry) }
+    ensures group { IfOk result (IsOfGroups (length (C.names control.now).groups)) }
+{
+    let name = members.text("group").ok_or(Fault::Field)?;
+    let said = command_of(members)?;
+    let tuning = tuning_of(members)?;
+    let group = group_named(control, name)?;
+    let command = command_in(control, group, said)?;
+    Ok(ControlLine::Tune {
+        group,
+        command,
+        tuning,
+    })
+}
+
+/// What a line for the properties in force asks.
+fn properties_at<C: Control>(control: &C, members: Members<'_>) -> Asked
+    ensures asked { result ≡ control_line_for (C.names control.now) ControlWord.Properties (members_data members.entry) }
+    ensures group { IfOk result (IsOfGroups (length (C.names control.now).groups)) }
+{
+    let name = members.text("group").ok_or(Fault::Field)?;
+    let said = command_of(members)?;
+    let group = group_named(control, name)?;
+    let command = command_in(control, group, said)?;
+    Ok(ControlLine::Properties { group, command })
 }
 
 /// The request of the command of this number, unless a text is too long.

@@ -61,7 +61,7 @@ impl Conversation {
     pub fn feed<C: Control>(&mut self, piece: &[u8], control: &mut C) -> Result<Vec<u8>, PortError>
         ensures failed { IfSome self.old.fault (λ fault. (result ≡ Err fault) × (self.new ≡ self.old) × (control.new ≡ control.old)) }
         ensures fed { self.old.fault ≡ None →
-            Fed (responder (C.names control.old) C.may_show C.may_answer C.may_close) (self.old.rest ++ piece.now) result self.new.rest self.new.fault }
+            Fed (responder (C.names control.old) C.may_show C.may_answer C.may_close C.may_total C.may_tune C.may_force) (self.old.rest ++ piece.now) result self.new.rest self.new.fault }
         ensures groups { C.names control.new ≡ C.names control.old }
     {
         if let Some(fault) = self.fault {
@@ -91,7 +91,7 @@ impl Conversation {
     pub fn end<C: Control>(&mut self, control: &mut C) -> Result<Vec<u8>, PortError>
         ensures failed { IfSome self.old.fault (λ fault. (result ≡ Err fault) × (self.new.fault ≡ Some fault) × (control.new ≡ control.old)) }
         ensures ended { self.old.fault ≡ None →
-            Ended (responder (C.names control.old) C.may_show C.may_answer C.may_close) self.old.rest result self.new.fault }
+            Ended (responder (C.names control.old) C.may_show C.may_answer C.may_close C.may_total C.may_tune C.may_force) self.old.rest result self.new.fault }
         ensures kept { self.new.rest ≡ [] }
         ensures groups { C.names control.new ≡ C.names control.old }
     {
@@ -119,7 +119,7 @@ fn answer_each<C: Control>(
     control: &mut C,
     out: &mut Vec<u8>,
 ) -> Result<(), PortError>
-    ensures each { Each (responder (C.names control.old) C.may_show C.may_answer C.may_close) received.old out.old.items result received.new out.new.items }
+    ensures each { Each (responder (C.names control.old) C.may_show C.may_answer C.may_close C.may_total C.may_tune C.may_force) received.old out.old.items result received.new out.new.items }
     ensures groups { C.names control.new ≡ C.names control.old }
 {
     let mut answer = Vec::new(alloc);
@@ -151,7 +151,7 @@ fn answer_last<C: Control>(
 ) -> Result<(), PortError>
     requires line { has_line received.old ≡ false }
     requires held { out.old.items ≡ [] }
-    ensures last { EachLast (responder (C.names control.old) C.may_show C.may_answer C.may_close) received.old out.old.items result out.new.items }
+    ensures last { EachLast (responder (C.names control.old) C.may_show C.may_answer C.may_close C.may_total C.may_tune C.may_force) received.old out.old.items result out.new.items }
     ensures groups { C.names control.new ≡ C.names control.old }
 {
     let Some(asked) = received.last(control)? else {

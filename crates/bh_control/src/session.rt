@@ -86,12 +86,12 @@ pub fn converse<R: Read, W: Write, C: Control>(
     ensures groups { C.names control.new ≡ C.names control.old }
     ensures read { result ≡ Err PortError.Read → OneFailed reader.old reader.new ⊎ HasRead (2 ^ 64 - 1) reader.old reader.new }
     ensures not_failed { (result ≡ Err PortError.Read) ⊎ NoneFailed reader.old reader.new }
-    ensures answered { result ≡ Err PortError.Read → HasAnswered (responder (C.names control.old) C.may_show C.may_answer C.may_close)
+    ensures answered { result ≡ Err PortError.Read → HasAnswered (responder (C.names control.old) C.may_show C.may_answer C.may_close C.may_total C.may_tune C.may_force)
         (bytes_held W.contents writer.old) (bytes_held W.contents writer.new) (bytes_left R.remaining reader.old) (bytes_left R.remaining reader.new) }
     ensures write { result ≡ Err PortError.Write → OneRefused writer.old writer.new }
     ensures not_refused { (result ≡ Err PortError.Write) ⊎ NoneRefused writer.old writer.new }
     ensures answers { IfSome (bytes_left R.remaining reader.old) (λ input.
-        SessionOutcome (responder (C.names control.old) C.may_show C.may_answer C.may_close) (bytes_held W.contents writer.old) (bytes_held W.contents writer.new) (cut input) result) }
+        SessionOutcome (responder (C.names control.old) C.may_show C.may_answer C.may_close C.may_total C.may_tune C.may_force) (bytes_held W.contents writer.old) (bytes_held W.contents writer.new) (cut input) result) }
 {
     converse_in(&mut Buffers::new(alloc), alloc, reader, writer, control)
 }
@@ -109,12 +109,12 @@ pub fn converse_in<R: Read, W: Write, C: Control>(
     ensures groups { C.names control.new ≡ C.names control.old }
     ensures read { result ≡ Err PortError.Read → OneFailed reader.old reader.new ⊎ HasRead (2 ^ 64 - 1) reader.old reader.new }
     ensures not_failed { (result ≡ Err PortError.Read) ⊎ NoneFailed reader.old reader.new }
-    ensures answered { result ≡ Err PortError.Read → HasAnswered (responder (C.names control.old) C.may_show C.may_answer C.may_close)
+    ensures answered { result ≡ Err PortError.Read → HasAnswered (responder (C.names control.old) C.may_show C.may_answer C.may_close C.may_total C.may_tune C.may_force)
         (bytes_held W.contents writer.old) (bytes_held W.contents writer.new) (bytes_left R.remaining reader.old) (bytes_left R.remaining reader.new) }
     ensures write { result ≡ Err PortError.Write → OneRefused writer.old writer.new }
     ensures not_refused { (result ≡ Err PortError.Write) ⊎ NoneRefused writer.old writer.new }
     ensures answers { IfSome (bytes_left R.remaining reader.old) (λ input.
-        SessionOutcome (responder (C.names control.old) C.may_show C.may_answer C.may_close) (bytes_held W.contents writer.old) (bytes_held W.contents writer.new) (cut input) result) }
+        SessionOutcome (responder (C.names control.old) C.may_show C.may_answer C.may_close C.may_total C.may_tune C.may_force) (bytes_held W.contents writer.old) (bytes_held W.contents writer.new) (cut input) result) }
 {
     let mut piece = [0u8; READ_SIZE];
     let Buffers { received, answers } = buffers;
@@ -147,7 +147,7 @@ fn answer_piece<W: Write, C: Control>(
     ensures refused { result ≡ Err PortError.Write → OneRefused writer.old writer.new }
     ensures not_refused { (result ≡ Err PortError.Write) ⊎ NoneRefused writer.old writer.new }
     ensures none_held { OnOk result (answers.new.items ≡ []) }
-    ensures outcome { PieceOutcome (responder (C.names control.old) C.may_show C.may_answer C.may_close) (bytes_held W.contents writer.old) (bytes_held W.contents writer.new)
+    ensures outcome { PieceOutcome (responder (C.names control.old) C.may_show C.may_answer C.may_close C.may_total C.may_tune C.may_force) (bytes_held W.contents writer.old) (bytes_held W.contents writer.new)
         received.old result received.new }
 {
     match answer_lines(alloc, received, control, answers, writer) {
@@ -173,7 +173,7 @@ fn answer_lines<W: Write, C: Control>(
     ensures groups { C.names control.new ≡ C.names control.old }
     ensures refused { result ≡ Err PortError.Write → OneRefused writer.old writer.new }
     ensures not_refused { (result ≡ Err PortError.Write) ⊎ NoneRefused writer.old writer.new }
-    ensures outcome { LinesOutcome (responder (C.names control.old) C.may_show C.may_answer C.may_close) (bytes_held W.contents writer.old) (bytes_held W.contents writer.new)
+    ensures outcome { LinesOutcome (responder (C.names control.old) C.may_show C.may_answer C.may_close C.may_total C.may_tune C.may_force) (bytes_held W.contents writer.old) (bytes_held W.contents writer.new)
         received.old result received.new answers.new.items }
 {
     while let Some(asked) = received.next(control)? {
@@ -197,7 +197,7 @@ fn answer_last<W: Write, C: Control>(
     ensures groups { C.names control.new ≡ C.names control.old }
     ensures refused { result ≡ Err PortError.Write → OneRefused writer.old writer.new }
     ensures not_refused { (result ≡ Err PortError.Write) ⊎ NoneRefused writer.old writer.new }
-    ensures outcome { LastOutcome (responder (C.names control.old) C.may_show C.may_answer C.may_close) (bytes_held W.contents writer.old) (bytes_held W.contents writer.new) received.old result }
+    ensures outcome { LastOutcome (responder (C.names control.old) C.may_show C.may_answer C.may_close C.may_total C.may_tune C.may_force) (bytes_held W.contents writer.old) (bytes_held W.contents writer.new) received.old result }
 {
     let Some(asked) = received.last(control)? else {
         return Ok(());

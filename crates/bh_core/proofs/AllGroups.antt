@@ -13,7 +13,7 @@ use Rattle.bh_base.specs.Seen.{view_after, view_reply}
 use Rattle.bh_core.specs.declared.service.entry.Entry.{Entry}
 use Rattle.bh_core.specs.declared.service.entry.Entry.TheVariants as entry
 use Rattle.bh_core.specs.declared.service.entry.Registration.{Registration}
-use Rattle.bh_core.specs.GroupView.{GroupView, HasTickets, Leaves, view_in}
+use Rattle.bh_core.specs.GroupView.{GroupView, HasTickets, LeavesRoom, view_in}
 use Rattle.bh_core.specs.CoreView.{CoreView, Life, living, shown_by, slots_in, slots_of_life}
 use Rattle.bh_core.specs.Step.{IsStep}
 use Rattle.bh_core.specs.Stepping.{IsSteady}
@@ -73,7 +73,7 @@ sums_same (x ∷ xs) (y ∷ ys) same rooms =
     omega (arith, first, rest, sum_by-cons (λ (g : GroupTickets). g.room) x xs, sum_by-cons (λ (g : GroupTickets). g.room) y ys)
 
 -- a change of one group's tickets leaves the slots
-slots_left : (ts us : TicketsView) (g h : GroupView) → Leaves ts g us h → slots_of us ≡ slots_of ts
+slots_left : (ts us : TicketsView) (g h : GroupView) → LeavesRoom ts g us h → slots_of us ≡ slots_of ts
 slots_left ts us g h left = sums_same ts.groups us.groups (sym left.count) (λ i x y e f. elim (cases_eq i g.place) [
   | inl q ↦ sym (ap (λ (z : GroupTickets). z.room) (group_read us i y f)) ∙ ap (λ n. (group_at us n).room) q ∙ left.room ∙ ap (λ n. (group_at ts n).room) (sym q) ∙ ap (λ (z : GroupTickets). z.room) (group_read ts i x e)
   | inr differ ↦ (let both : Some y ≡ Some x = sym f ∙ left.others i differ ∙ e in ap (λ (z : GroupTickets). z.room) (one_of y x both))
@@ -114,7 +114,7 @@ pub life_same : (ts us : TicketsView) (e : Entry) → ((g : GroupView) → e ≡
 life_same ts us (entry.Live g) same = ap living (view_same ts us g (same g refl))
 life_same ts us (entry.Retired r) same = refl
 
-module _ (ts us : TicketsView) (es : List Entry) (i : ℕ) (g h : GroupView) (all : AreGroups ts es) (here : slice_get es i ≡ Some (entry.Live g)) (left : Leaves ts g us h) where
+module _ (ts us : TicketsView) (es : List Entry) (i : ℕ) (g h : GroupView) (all : AreGroups ts es) (here : slice_get es i ≡ Some (entry.Live g)) (left : LeavesRoom ts g us h) where
   -- the tickets of the others are as they were
   apart : (j : ℕ) (k : GroupView) → j ≢ i → slice_get es j ≡ Some (entry.Live k) → slice_get us.groups k.place ≡ slice_get ts.groups k.place
   apart j k differ e = left.others k.place (λ q. all.apart j i k g e here differ q)
@@ -129,7 +129,7 @@ module _ (ts us : TicketsView) (es : List Entry) (i : ℕ) (g h : GroupView) (al
   slots_after : slots_of us ≡ slots_in (lives_in us (set es i (entry.Live h)))
   slots_after =
       let sum = slots_set (lives_in ts es) i (living (view_in ts g)) (living (view_in us h)) (life_at ts es i (entry.Live g) here) in
-      let same : h.props.slots ≡ g.props.slots = ap (λ (p : GroupProps). p.slots) left.props in
+      let same : h.props.slots ≡ g.props.slots = left.slots in
       let after : slots_in (lives_in us (set es i (entry.Live h))) ≡ slots_in (set (lives_in ts es) i (living (view_in us h))) = ap slots_in lives_after in
       omega (arith, sum, same, after, slots_left ts us g h left, all.slots)
 
@@ -163,7 +163,7 @@ module _ (ts us : TicketsView) (es : List Entry) (i : ℕ) (g h : GroupView) (al
       | inr differ ↦ tickets_same ts us k (omega (arith, left.count)) (apart j k differ (other j k differ e)) (all.tickets j k (other j k differ e))
     ];
     some = λ j k e. elim (cases_eq j i) [
-      | inl q ↦ subst (λ (p : GroupProps). 0 < p.slots) (sym (ap (λ (x : GroupView). x.props) (changed j k q e) ∙ left.props)) (all.some i g here)
+      | inl q ↦ omega (arith, ap (λ (x : GroupView). x.props.slots) (changed j k q e), left.slots, all.some i g here)
       | inr differ ↦ all.some j k (other j k differ e)
     ];
     steady = λ j k e. elim (cases_eq j i) [
@@ -174,7 +174,7 @@ module _ (ts us : TicketsView) (es : List Entry) (i : ℕ) (g h : GroupView) (al
   }
 
 -- a step of its group is a step of all
-pub groups_step : (ts us : TicketsView) (es : List Entry) (g h : GroupView) (x : Step) (r : Reply) → AreGroups ts es → slice_get es x.group.0 ≡ Some (entry.Live g) → Leaves ts g us h
+pub groups_step : (ts us : TicketsView) (es : List Entry) (g h : GroupView) (x : Step) (r : Reply) → AreGroups ts es → slice_get es x.group.0 ≡ Some (entry.Live g) → LeavesRoom ts g us h
     → r ≡ view_reply (view_in ts g) x.op x.now → view_in us h ≡ view_after (view_in ts g) x.op x.now → IsStep (groups_in ts es) x r (groups_in us (set es x.group.0 (entry.Live h)))
 groups_step ts us es g h x r all here left said did =
     subst (IsStep (groups_in ts es) x r) (sym (groups_after ts us es x.group.0 g h all here left))

@@ -11,6 +11,7 @@ use Rattle.bh_base.specs.Circuit.{AreBefore, Circuit, new_circuit}
 use Rattle.bh_base.specs.Commands.{each_from}
 use Rattle.bh_base.specs.History.{bucket_of, count_in, is_of_health, new_past, past_view, window_of}
 use Rattle.bh_base.proofs.Views.{rolling_by_same}
+use Rattle.bh_base.specs.Tables.{totals_with}
 use Rattle.bh_base.specs.Seen.{no_past_view, past_view_rolling, past_view_with}
 use Rattle.bh_core.specs.declared.command.Command.{Command}
 use Rattle.bh_core.specs.Command.{IsCommandUpTo, circuit_in, new_command, past_in, window_in}
@@ -59,7 +60,7 @@ none_moved : (latest moment : ℕ) → past_view_rolling moment no_past_view mom
 none_moved latest moment =
     let before : ℕ = no_past_view.window.buckets - (bucket_of no_past_view.window moment - bucket_of no_past_view.window latest) in
     let now : ℕ = no_past_view.window.buckets - (bucket_of no_past_view.window moment - bucket_of no_past_view.window moment) in
-    rolling_by_same _ _ _ _ (λ k. same k now before) (λ k. same k now before)
+    rolling_by_same _ _ _ _ _ _ (λ k. same k now before) (λ k. same k now before) refl
   where
     same : (k : EventKind) (a b : ℕ) → sum_by (λ c. count_in c k) (take a []) ≡ sum_by (λ c. count_in c k) (take b [])
     same k a b = ap (sum_by (λ c. count_in c k)) (take_none a ∙ sym (take_none b))
@@ -118,7 +119,7 @@ recorded_up_to moment k x y same did ok = record {
   history = subst (IsUpTo moment) (sym did) (at (is_of_health k));
 }
   where
-    at : (b : Bool) → IsUpTo moment (record { reported = ring_recorded moment k x.history.reported; health = if b then ring_recorded moment k x.history.health else x.history.health })
+    at : (b : Bool) → IsUpTo moment (record { reported = ring_recorded moment k x.history.reported; health = (if b then ring_recorded moment k x.history.health else x.history.health); totals = totals_with (k ∷ []) x.history.totals })
     at true = record { some = ok.history.some; window = ok.history.window; reported = omega arith; health = omega arith }
     at false = record { some = ok.history.some; window = ok.history.window; reported = omega arith; health = ok.history.health }
 

@@ -7,8 +7,8 @@ use Rattle.bh_base.specs.declared.event.Counts.{Counts}
 use Rattle.bh_base.specs.declared.event.EventKind.{EventKind}
 use Rattle.bh_base.specs.declared.event.EventKind.TheVariants as kind
 use Rattle.bh_base.specs.declared.event.Window.{Window}
-use Rattle.bh_base.specs.History.{PastView, counts_by, is_kind, is_of_health}
-use Rattle.bh_base.specs.Tables.{no_rows, sum_in, later_table}
+use Rattle.bh_base.specs.History.{PastView, count_in, counts_by, is_kind, is_of_health}
+use Rattle.bh_base.specs.Tables.{no_counts, no_rows, sum_in, later_table, totals_with}
 use Rattle.bh_base.specs.Commands.{each_from}
 use Rattle.bh_base.specs.Machine.{CommandEvent, Outcome}
 use Rattle.bh_base.specs.Runs.{View}
@@ -62,6 +62,9 @@ one-each kind.Success = refl
 one-each kind.ThreadPoolRejected = refl
 one-each kind.Timeout = refl
 
+none-each : total (counts_by (each [])) ≡ 0
+none-each = refl
+
 health-each : (k : EventKind) → total (counts_by (each (filter is_of_health (k ∷ [])))) ≤ 1
 health-each kind.BadRequest = omega arith
 health-each kind.ExceptionThrown = omega arith
@@ -85,10 +88,14 @@ counted_in-moved : (w : Window) (latest moment : ℕ) (rows : List Counts) → 0
 counted_in-moved w latest moment rows some =
     omega (arith, counted_in-later w latest moment rows [] some, total-le _ _ (λ k. sum_in-le w latest moment rows k))
 
--- the two sums that a command's count is made of
-pub counted-past : (moment : ℕ) (p : PastView) → counted_past moment p ≡ counted_in p.window moment p.table + counted_in p.window moment p.health
+-- the three sums that a command's count is made of
+pub counted-past : (moment : ℕ) (p : PastView) → counted_past moment p ≡ counted_in p.window moment p.table + counted_in p.window moment p.health + total p.totals
 unfolding counted_past
 counted-past moment p = refl
+
+-- the totals with events added have so many more
+total-with : (kinds : List EventKind) (c : Counts) → total (totals_with kinds c) ≡ total c + total (counts_by (each kinds))
+total-with kinds c = total-sum _ (count_in c) (each kinds) (λ k. refl)
 
 -- a past that is moved on counts no more
 past-moved : (latest moment : ℕ) (p : PastView) → 0 < p.window.buckets → counted_past moment (past_view_with latest moment [] false p) ≤ counted_past latest p
@@ -99,10 +106,12 @@ past-moved latest moment p some =
       counted-past latest p,
       counted_in-moved p.window latest moment p.table some,
       counted_in-moved p.window latest moment p.health some,
+      total-with [] p.totals,
+      none-each,
     )
 
--- one more event is counted at most twice
-past-event : (moment : ℕ) (k : EventKind) (p : PastView) → 0 < p.window.buckets → counted_past moment (past_view_with moment moment (k ∷ []) false p) ≤ counted_past moment p + 2
+-- one more event is counted at most three times
+past-event : (moment : ℕ) (k : EventKind) (p : PastView) → 0 < p.window.buckets → counted_past moment (past_view_with moment moment (k ∷ []) false p) ≤ counted_past moment p + 3
 past-event moment k p some =
     omega (
       arith,
@@ -110,6 +119,7 @@ past-event moment k p some =
       counted-past moment p,
       counted_in-later p.window moment moment p.table (k ∷ []) some,
       counted_in-later p.window moment moment p.health (filter is_of_health (k ∷ [])) some,
+      total-with (k ∷ []) p.totals,
       one-each k,
       health-each k,
     )
@@ -123,8 +133,8 @@ past-restarted : (moment : ℕ) (p : PastView) → counted_past moment (health_r
 past-restarted moment p = omega (arith, counted-past moment (health_restarted p), counted-past moment p, none-counted p.window moment)
 
 -- a new past counts none
-pub past-none : (w : Window) → counted_past 0 (record { window = w; table = no_rows w; health = no_rows w }) ≡ 0
-past-none w = omega (arith, counted-past 0 (record { window = w; table = no_rows w; health = no_rows w }), none-counted w 0)
+pub past-none : (w : Window) → counted_past 0 (record { window = w; table = no_rows w; health = no_rows w; totals = no_counts }) ≡ 0
+past-none w = omega (arith, counted-past 0 (record { window = w; table = no_rows w; health = no_rows w; totals = no_counts }), none-counted w 0)
 
 -- each window has buckets
 abbrev pub HaveBuckets : List PastView → Type 0
@@ -145,14 +155,14 @@ set-buckets change [] i same some = tt
 set-buckets change (p ∷ ps) zero same some = (omega (arith, some.0, ap (λ (w : Window). w.buckets) (same p)), some.1)
 set-buckets change (p ∷ ps) (suc i) same some = (some.0, set-buckets change ps i same some.1)
 
--- one more event is counted at most twice among all
-pub counted-event : (moment : ℕ) (e : CommandEvent) (ps : List PastView) → HaveBuckets ps → counted_pasts moment (pasts_with_event moment e ps) ≤ counted_pasts moment ps + 2
-counted-event moment e ps some = set-counted moment 2 (past_view_with moment moment (e.kind ∷ []) false) ps e.command (λ p buckets. past-event moment e.kind p buckets) some
+-- one more event is counted at most three times among all
+pub counted-event : (moment : ℕ) (e : CommandEvent) (ps : List PastView) → HaveBuckets ps → counted_pasts moment (pasts_with_event moment e ps) ≤ counted_pasts moment ps + 3
+counted-event moment e ps some = set-counted moment 3 (past_view_with moment moment (e.kind ∷ []) false) ps e.command (λ p buckets. past-event moment e.kind p buckets) some
 
 event-buckets : (moment : ℕ) (e : CommandEvent) (ps : List PastView) → HaveBuckets ps → HaveBuckets (pasts_with_event moment e ps)
 event-buckets moment e ps some = set-buckets (past_view_with moment moment (e.kind ∷ []) false) ps e.command (λ p. refl) some
 
-counted-events : (moment : ℕ) (es : List CommandEvent) (ps : List PastView) → HaveBuckets ps → counted_pasts moment (pasts_with_events moment es ps) ≤ counted_pasts moment ps + 2 * length es
+counted-events : (moment : ℕ) (es : List CommandEvent) (ps : List PastView) → HaveBuckets ps → counted_pasts moment (pasts_with_events moment es ps) ≤ counted_pasts moment ps + 3 * length es
 counted-events moment [] ps some = omega arith
 counted-events moment (e ∷ es) ps some = omega (arith, counted-event moment e ps some, counted-events moment es (pasts_with_event moment e ps) (event-buckets moment e ps some))
 
@@ -164,8 +174,8 @@ closed-counted : (moment : ℕ) (closed : Option ℕ) (ps : List PastView) → H
 closed-counted moment None ps some = omega arith
 closed-counted moment (Some command) ps some = omega (arith, set-counted moment 0 health_restarted ps command (λ p buckets. omega (arith, past-restarted moment p)) some)
 
--- the end of an operation counts no more than its events twice
-pub counted-done : (v : View) (out : Outcome) → HaveBuckets v.pasts → Keeps v.present out.present → counted (done v out) ≤ counted v + 2 * length out.events
+-- the end of an operation counts no more than its events three times
+pub counted-done : (v : View) (out : Outcome) → HaveBuckets v.pasts → Keeps v.present out.present → counted (done v out) ≤ counted v + 3 * length out.events
 counted-done v out some keeps =
     let m = v.present.latest in
     let at_end : counted (done v out) ≡ counted_pasts m (done v out).pasts = ap (λ n. counted_pasts n (done v out).pasts) keeps.latest in

@@ -3,10 +3,10 @@ use Rattle.std.proofs.Common.{◌≡◌, ℕ, ◌<◌, ◌≤◌, Bool, true, fa
 use Rattle.bh_base.specs.declared.event.EventKind.{EventKind}
 use Rattle.bh_base.specs.declared.event.Rolling.{Rolling}
 use Rattle.bh_base.specs.declared.event.Window.{Window}
-use Rattle.bh_base.specs.History.{health_by, is_of_health}
-use Rattle.bh_base.specs.Tables.{no_rows, sum_in, later_table}
+use Rattle.bh_base.specs.History.{count_in, counts_by, health_by, is_of_health}
+use Rattle.bh_base.specs.Tables.{no_counts, no_rows, sum_in, later_table, totals_with}
 use Rattle.bh_base.proofs.LaterTables.{later_table-later, later_table-none, sum_in-later}
-use Rattle.bh_base.proofs.Tables.{later_table-again}
+use Rattle.bh_base.proofs.Tables.{later_table-again, totals_with-none}
 use Rattle.bh_base.proofs.Views.{rolling_by_same}
 use Rattle.bh_rolling.specs.RingView.{RingView, ring_count, ring_recorded, ring_table}
 use Rattle.bh_base.specs.Seen.{past_view_rolling, past_view_with}
@@ -43,11 +43,11 @@ ring_same r moment = sym (later_table-again r.window r.latest moment r.table [] 
 
 -- equal counts of each kind make equal health
 health_same : (f g : EventKind → ℕ) → ((k : EventKind) → f k ≡ g k) → health_by f ≡ health_by g
-health_same f g h = ap (λ (r : Rolling). r.health) (rolling_by_same f f f g (λ k. refl) h)
+health_same f g h = ap (λ (r : Rolling). r.health) (rolling_by_same f f f g (counts_by f) (counts_by f) (λ k. refl) h refl)
 
 -- a new history is at the moment 0 seen as one that has no event
-pub opened_seen : (w : Window) → history_seen 0 (history_opened w) ≡ record { window = w; table = no_rows w; health = no_rows w }
-opened_seen w = λ i. record { window = w; table = later_table-none w 0 0 i; health = later_table-none w 0 0 i }
+pub opened_seen : (w : Window) → history_seen 0 (history_opened w) ≡ record { window = w; table = no_rows w; health = no_rows w; totals = no_counts }
+opened_seen w = λ i. record { window = w; table = later_table-none w 0 0 i; health = later_table-none w 0 0 i; totals = no_counts }
 
 module _ (h : History) (latest : ℕ) (ok : IsUpTo latest h) where
   -- read at a later moment, it is what was seen then, with no event added
@@ -56,6 +56,7 @@ module _ (h : History) (latest : ℕ) (ok : IsUpTo latest h) where
     window = h.reported.window;
     table = ring_moved h.reported latest moment ok.reported later i;
     health = (ring_moved h.health latest moment ok.health later ∙ ap (λ w. later_table w latest (ring_table h.health latest) moment []) ok.window) i;
+    totals = sym (totals_with-none h.totals) i;
   }
 
   -- the ring of health gets events of its kinds alone
@@ -64,6 +65,7 @@ module _ (h : History) (latest : ℕ) (ok : IsUpTo latest h) where
     window = h.reported.window;
     table = ring_with h.reported latest k i;
     health = (of_kind (is_of_health k) ∙ ap (λ w. later_table w latest (ring_table h.health latest) latest (filter is_of_health (k ∷ []))) ok.window) i;
+    totals = totals_with (k ∷ []) h.totals;
   }
     where
       of_kind : (yes : Bool) → ring_table (if yes then ring_recorded latest k h.health else h.health) latest ≡ later_table h.health.window latest (ring_table h.health latest) latest (cond yes (k ∷ []) [])
@@ -89,9 +91,14 @@ module _ (h : History) (latest : ℕ) (ok : IsUpTo latest h) where
   health_within most k few =
       omega (arith, counted-past latest (history_seen latest h), health_now k, kind-le-total (sum_in h.reported.window latest (ring_table h.health latest) latest) k)
 
+  -- and so is each of all events
+  pub totals_within : (most : ℕ) (k : EventKind) → counted_past latest (history_seen latest h) < most → count_in h.totals k < most
+  totals_within most k few =
+      omega (arith, counted-past latest (history_seen latest h), kind-le-total (count_in h.totals) k)
+
   -- what the rings count is what the tables say
   pub rolling_seen : history_rolling latest h ≡ past_view_rolling latest (history_seen latest h) latest
-  rolling_seen = rolling_by_same _ _ _ _ (λ k. sym (ring_now h.reported latest k ok.some)) (λ k. health_now k)
+  rolling_seen = rolling_by_same _ _ _ _ _ _ (λ k. sym (ring_now h.reported latest k ok.some)) (λ k. health_now k) refl
 
   -- the ring of health at a later moment
   moved_health : (moment : ℕ) (k : EventKind) → latest ≤ moment → sum_in h.reported.window moment (ring_table h.health moment) moment k ≡ sum_in h.reported.window latest (ring_table h.health latest) moment k
@@ -106,4 +113,4 @@ module _ (h : History) (latest : ℕ) (ok : IsUpTo latest h) where
   -- what is seen at a later moment counts then as what was seen before
   pub moved_rolling : (moment : ℕ) → latest ≤ moment → past_view_rolling moment (history_seen moment h) moment ≡ past_view_rolling latest (history_seen latest h) moment
   moved_rolling moment later =
-      rolling_by_same _ _ _ _ (λ k. ring_moved-count h.reported latest moment k ok.some ok.reported later) (λ k. moved_health moment k later)
+      rolling_by_same _ _ _ _ _ _ (λ k. ring_moved-count h.reported latest moment k ok.some ok.reported later) (λ k. moved_health moment k later) refl

@@ -8,6 +8,7 @@ pub mod Pool  -- how many runs of a group's tickets its thread pool has
 pub mod Below  -- the due tickets of the first commands of a group, and of one command more
 pub mod Timeouts  -- what an Expire does, part by part
 pub mod Joining  -- a submit, part by part
+pub mod Tuned  -- a group whose properties were changed by a Tune
 -- One step of one group:
 pub mod Stepping  -- the events of a step one by one are all of them at once
 pub mod Steady  -- a step keeps the bounds that hold between steps

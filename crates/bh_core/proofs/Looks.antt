@@ -38,6 +38,8 @@ never_worn (op.Collect serial) = refl
 never_worn (op.FallbackDone serial e) = refl
 never_worn (op.Close context) = refl
 never_worn (op.Read command) = refl
+never_worn (op.Totals command) = refl
+never_worn (op.Tune command t) = refl
 
 not_worn_out : (o : Op) (r : Reply) → is_answer_to o r ≡ true → is_worn_out r ≡ false
 not_worn_out o (reply.Queued n) ever = refl
@@ -58,6 +60,9 @@ not_worn_out o reply.NoTicket ever = refl
 not_worn_out o reply.NotInFallback ever = refl
 not_worn_out o (reply.Closed n) ever = refl
 not_worn_out o (reply.Metrics m) ever = refl
+not_worn_out o (reply.Totals c) ever = refl
+not_worn_out o reply.Tuned ever = refl
+not_worn_out o reply.OutOfRange ever = refl
 not_worn_out o reply.NoGroup ever = refl
 not_worn_out o reply.NoCommand ever = refl
 not_worn_out o reply.Worn ever = absurd (let both : true ≡ false = sym ever ∙ never_worn o in cc)

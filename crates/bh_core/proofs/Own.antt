@@ -12,7 +12,7 @@ use Rattle.bh_base.specs.Order.{AreKnown}
 use Rattle.bh_base.specs.Machine.{changed}
 use Rattle.bh_base.specs.Tickets.{changed_first, is_held_at, is_kept}
 use Rattle.bh_core.proofs.Ops.{with_present}
-use Rattle.bh_core.specs.GroupView.{GroupView, HasTickets, Leaves, view_in}
+use Rattle.bh_core.specs.GroupView.{GroupView, HasTickets, Leaves, LeavesRoom, view_in}
 use Rattle.bh_core.specs.Stepping.{released_view}
 use Rattle.bh_tickets.specs.TicketsView.{GroupTickets, IsFirstAt, TicketsView, group_at, in_slot, no_tickets_in}
 
@@ -139,3 +139,27 @@ view_changed ts us g p f items next = λ i. record (view_in ts g) { present = re
 -- tickets of the group that nobody needs are gone, and nothing else of it was changed
 pub view_released : (ts us : TicketsView) (g : GroupView) → (group_at us g.place).items ≡ filter is_kept (group_at ts g.place).items → (group_at us g.place).next ≡ (group_at ts g.place).next → view_in us g ≡ released_view (view_in ts g)
 view_released ts us g items next = λ i. record (view_in ts g) { present = record (view_in ts g).present { tickets = items i; serial = next i } }
+
+-- who leaves the properties leaves the slots
+pub leaves_room : (ts us : TicketsView) (g h : GroupView) → Leaves ts g us h → LeavesRoom ts g us h
+leaves_room ts us g h l = record {
+  place = l.place;
+  slots = ap (λ (p : GroupProps). p.slots) l.props;
+  limit = l.limit;
+  others = l.others;
+  count = l.count;
+  room = l.room;
+  serial = l.serial;
+}
+
+-- one change after another, where the second may be a Tune
+pub rooms_twice : (ts us vs : TicketsView) (g h k : GroupView) → LeavesRoom ts g us h → LeavesRoom us h vs k → LeavesRoom ts g vs k
+rooms_twice ts us vs g h k l m = record {
+  place = m.place ∙ l.place;
+  slots = m.slots ∙ l.slots;
+  limit = m.limit ∙ l.limit;
+  others = λ i differ. m.others i (λ e. differ (e ∙ l.place)) ∙ l.others i differ;
+  count = m.count ∙ l.count;
+  room = ap (λ n. (group_at vs n).room) (sym l.place) ∙ m.room ∙ ap (λ n. (group_at us n).room) l.place ∙ l.room;
+  serial = λ few. subst (λ n. (group_at vs n).next ≤ k.steps + 1) l.place (m.serial (subst (λ n. (group_at us n).next ≤ h.steps + 1) (sym l.place) (l.serial few)));
+}

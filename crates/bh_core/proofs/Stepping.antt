@@ -15,7 +15,7 @@ use Rattle.bh_base.specs.Machine.{CommandEvent, Present, Outcome, outcome}
 use Rattle.bh_base.specs.Runs.{View, begun, is_worn, released, kinds_of, is_closed}
 use Rattle.bh_base.specs.Seen.{no_past_view, past_view_of, past_view_rolling, past_view_with, past_view_after, view_after, view_outcome, view_recorded, view_reply}
 use Rattle.bh_base.proofs.Kept.{Keeps, outcome_keeps}
-use Rattle.bh_base.proofs.Tables.{later_table-again}
+use Rattle.bh_base.proofs.Tables.{later_table-again, totals_with-again}
 use Rattle.bh_core.specs.Stepping.{Begins, done, outcome_now, pasts_begun, pasts_with_event, pasts_with_events, health_restarted, with_closed}
 
 -- functions that are the same from a number on
@@ -50,6 +50,7 @@ past-again latest moment kinds more p = λ i. record {
   window = p.window;
   table = later_table-again p.window latest moment p.table kinds more i;
   health = (later_table-again p.window latest moment p.health (filter is_of_health kinds) (filter is_of_health more) ∙ ap (later_table p.window latest p.health moment) (sym (filter-append is_of_health kinds more))) i;
+  totals = totals_with-again kinds more p.totals i;
 }
 
 -- each past with its events so far

@@ -1,11 +1,11 @@
 -- What callers see of all groups, and of the replies to many steps.
-use Rattle.std.specs.Prelude.{◌≡◌, ℕ, ◌==◌, Bool, false, true, List, [], ◌∷◌, sum_by, Option, Some, None, slice_get, slice_set, if◌then◌else◌}
+use Rattle.std.specs.Prelude.{◌≡◌, ℕ, ◌^◌, ◌==◌, Bool, false, true, List, [], ◌∷◌, sum_by, Option, Some, None, slice_get, slice_set, if◌then◌else◌}
 use Rattle.bh_base.specs.declared.step.Step.{Step}
 use Rattle.bh_base.specs.declared.reply.Reply.{Reply}
 use Rattle.bh_base.specs.Props.{GroupProps}
 use Rattle.bh_base.specs.Runs.{State, View, IsSound, view}
 
--- a group, from its registration on: what it shows, and once it is retired, with what it was registered
+-- a group, from its registration on: what it shows, and once it is retired, the properties that it had at last and its step limit
 pub data Life : Type 0 where
   living : View → Life
   retired : GroupProps → ℕ → Life
@@ -30,10 +30,10 @@ pub record Shows (groups : CoreView) (group : ℕ) (s : State) : Type 0 where
   pub sound : IsSound s
   pub view_is : view_at groups group ≡ Some (view s)
 
--- with what a group was registered: its properties, and how many steps it may do
-abbrev pub registered_as : Life → GroupProps × ℕ
-registered_as (living v) = (v.present.props, v.present.limit)
-registered_as (retired props limit) = (props, limit)
+-- the properties of a group that are in force, or were when it was retired, and how many steps it may do
+abbrev pub in_force : Life → GroupProps × ℕ
+in_force (living v) = (v.present.props, v.present.limit)
+in_force (retired props limit) = (props, limit)
 
 abbrev pub is_retired : Life → Bool
 is_retired (living v) = false
@@ -56,7 +56,7 @@ slots_in lives = sum_by slots_of_life lives
 
 -- how many groups may be registered in all, retired ones included
 abbrev pub most_groups : ℕ
-most_groups = 10_000
+most_groups = 2 ^ 40
 
 -- with the group retired
 abbrev pub with_retired : ℕ → View → CoreView → CoreView

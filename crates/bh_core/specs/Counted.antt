@@ -1,4 +1,4 @@
--- How many events the tables of a group have: the number by which it is shown that no count wraps.
+-- How many events the tables and the totals of a group have: the number by which it is shown that no count wraps.
 use Rattle.std.specs.Prelude.{ℕ, ◌+◌, List, sum_by}
 use Rattle.bh_base.specs.declared.event.Counts.{Counts}
 use Rattle.bh_base.specs.declared.event.Window.{Window}
@@ -14,9 +14,9 @@ total c = c.bad_request + c.exception_thrown + c.failure + c.fallback_failure + 
 abbrev pub counted_in : Window → ℕ → List Counts → ℕ
 counted_in w moment table = total (counts_by (sum_in w moment table moment))
 
--- those that both tables of a command have together
+-- those that both tables of a command have together with all that there were
 unfoldable pub counted_past : ℕ → PastView → ℕ
-counted_past moment p = counted_in p.window moment p.table + counted_in p.window moment p.health
+counted_past moment p = counted_in p.window moment p.table + counted_in p.window moment p.health + total p.totals
 
 -- and those of all commands
 abbrev pub counted_pasts : ℕ → List PastView → ℕ

@@ -57,7 +57,17 @@ pub record HasTickets (ts : TicketsView) (g : GroupView) : Type 0 where
   pub few : length (group_at ts g.place).items ≤ g.props.slots
   pub serial : (group_at ts g.place).next ≤ g.steps + 1
 
--- the tickets of other groups are as they were, and so is what the group's own rest on
+-- the tickets of other groups are as they were, and so is what the group's own rest on; what a whole step leaves
+pub record LeavesRoom (ts : TicketsView) (g : GroupView) (us : TicketsView) (h : GroupView) : Type 0 where
+  pub place : h.place ≡ g.place
+  pub slots : h.props.slots ≡ g.props.slots
+  pub limit : us.limit ≡ ts.limit
+  pub others : (i : ℕ) → i ≢ g.place → slice_get us.groups i ≡ slice_get ts.groups i
+  pub count : length us.groups ≡ length ts.groups
+  pub room : (group_at us g.place).room ≡ (group_at ts g.place).room
+  pub serial : (group_at ts g.place).next ≤ g.steps + 1 → (group_at us g.place).next ≤ h.steps + 1
+
+-- and the properties too: what every operation but a Tune leaves
 pub record Leaves (ts : TicketsView) (g : GroupView) (us : TicketsView) (h : GroupView) : Type 0 where
   pub place : h.place ≡ g.place
   pub props : h.props ≡ g.props

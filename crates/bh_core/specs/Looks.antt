@@ -4,9 +4,10 @@ use Rattle.std.specs.List.{list_any}
 use Rattle.bh_base.specs.Commands.{command_count}
 use Rattle.bh_base.specs.Machine.{circuit_of}
 use Rattle.bh_base.specs.Runs.{View}
-use Rattle.bh_base.specs.Seen.{view_outcome}
+use Rattle.bh_base.specs.Seen.{past_view_of, view_outcome}
 use Rattle.bh_base.specs.Tickets.{is_busy_at, is_held_at, is_in_fallback_at}
 use Rattle.bh_base.specs.declared.circuit.CircuitState.{CircuitState}
+use Rattle.bh_base.specs.declared.event.Counts.{Counts}
 use Rattle.bh_base.specs.declared.reply.Metrics.{Metrics}
 use Rattle.bh_base.specs.declared.step.Op.{Op}
 use Rattle.bh_base.specs.declared.step.Op.TheVariants as op
@@ -45,6 +46,11 @@ metrics_told _ = None
 abbrev pub metrics_shown : ℕ → ℕ → View → Option Metrics
 metrics_shown command now v =
     if nat_lt command (command_count v.present.props) then metrics_told (view_outcome v (op.Read command) now).reply else None
+
+-- how many events of each kind the command had since the group was registered, where the group has the command
+abbrev pub totals_shown : ℕ → View → Option Counts
+totals_shown command v =
+    if nat_lt command (command_count v.present.props) then Some (past_view_of command v).totals else None
 
 -- the state of the command's circuit breaker, where the group has the command
 abbrev pub circuit_shown : ℕ → View → Option CircuitState

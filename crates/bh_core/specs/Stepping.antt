@@ -47,9 +47,9 @@ pub record Begins (old : View) (now : ℕ) (new : View) : Type 0 where
   pub pasts : new.pasts ≡ pasts_begun old.present.latest new.present.latest old.pasts
   pub rolling : (command : ℕ) → rolling_now new command ≡ rolling_then old command new.present.latest
 
--- the most that the tables of a group can grow by in a step: each of its events may stand in both
+-- the most that the tables and the totals of a group can grow by in a step: each of its events may stand in all three
 abbrev pub step_growth : ℕ
-step_growth = 2 * (4096 + 2)
+step_growth = 3 * (4096 + 2)
 
 -- in a step that has begun no count can wrap: few events are counted, and there were as many steps as serials and
 -- holders; and each ticket is of a command that the group has

@@ -6,7 +6,7 @@ ghost use Rattle.bh_base.specs.Commands.{command_count, is_known};
 ghost use Rattle.bh_base.specs.Machine.{metrics};
 ghost use Rattle.bh_base.specs.Seen.{view_after, view_reply};
 ghost use Rattle.bh_core.specs.Command.{new_command};
-ghost use Rattle.bh_core.specs.GroupView.{HasTickets, Leaves, counted_of, new_group, view_in};
+ghost use Rattle.bh_core.specs.GroupView.{HasTickets, Leaves, LeavesRoom, counted_of, new_group, view_in};
 ghost use Rattle.bh_core.specs.Stepping.{Begins, IsBounded, IsDone, IsServed, IsSteady, rolling_then, view_ended, with_event, released_view};
 ghost use Rattle.bh_tickets.specs.TicketsView.{TicketsView, group_at};
 
@@ -15,6 +15,7 @@ mod fallback;
 mod looks;
 mod runs;
 mod submit;
+mod tune;
 mod written;
 
 use crate::command::Command;
@@ -89,7 +90,7 @@ impl Group {
         ensures steady { IsSteady (view_in tickets.new self.new) }
         ensures reply { reply.new ≡ view_reply (view_in tickets.old self.old) op.now now }
         ensures view { view_in tickets.new self.new ≡ view_after (view_in tickets.old self.old) op.now now }
-        ensures left { Leaves tickets.old self.old tickets.new self.new }
+        ensures left { LeavesRoom tickets.old self.old tickets.new self.new }
     {
         if !self.is_known(op) {
             *reply = Reply::NoCommand;
@@ -133,6 +134,8 @@ impl Group {
         match op {
             Op::Submit(request) => request.command < self.command_count(),
             Op::Read { command } => *command < self.command_count(),
+            Op::Totals { command } => *command < self.command_count(),
+            Op::Tune { command, .. } => *command < self.command_count(),
             _ => true,
         }
     }
@@ -154,7 +157,7 @@ impl Group {
         requires bounded { IsBounded (view_in tickets.old self.old) }
         requires known { is_known op.now self.old.props ≡ true }
         ensures done { IsDone (view_in tickets.old self.old) op.now reply.new (view_in tickets.new self.new) }
-        ensures left { Leaves tickets.old self.old tickets.new self.new }
+        ensures left { LeavesRoom tickets.old self.old tickets.new self.new }
     {
         match op {
             Op::Submit(request) => self.submit(tickets, request, reply),
@@ -166,6 +169,8 @@ impl Group {
             Op::FallbackDone { serial, end } => self.fallback_done(tickets, *serial, end, reply),
             Op::Close { context } => self.close(tickets, *context, reply),
             Op::Read { command } => self.read(tickets, *command, reply),
+            Op::Totals { command } => self.read_totals(tickets, *command, reply),
+            Op::Tune { command, tuning } => self.tune(*command, tuning, reply),
         }
     }
 
@@ -185,6 +190,15 @@ impl Group {
         ensures { IsDone (view_in tickets.now self.now) (op.Read command) reply.new (view_in tickets.now self.now) }
     {
         *reply = Reply::Metrics(self.metrics_at(tickets, command, self.latest));
+    }
+
+    /// The numbers of all events of the command.
+    fn read_totals(&self, tickets: &Tickets, command: u8, reply: &mut Reply)
+        requires has { HasTickets tickets.now self.now }
+        requires known { command < command_count self.now.props }
+        ensures { IsDone (view_in tickets.now self.now) (op.Totals command) reply.new (view_in tickets.now self.now) }
+    {
+        *reply = Reply::Totals(self.commands[command as usize].history.totals());
     }
 
     /// The metrics of the command at a moment that is no earlier than the latest.
@@ -213,7 +227,7 @@ impl Group {
         requires known { command < command_count self.old.props }
         requires few { counted_of self.old < 2 ^ 60 }
         ensures view { (ts : TicketsView) → view_in ts self.new ≡ with_event command kind (view_in ts self.old) }
-        ensures counted { counted_of self.new ≤ counted_of self.old + 2 }
+        ensures counted { counted_of self.new ≤ counted_of self.old + 3 }
         ensures left { (ts : TicketsView) → Leaves ts self.old ts self.new }
     {
         self.commands[command as usize]

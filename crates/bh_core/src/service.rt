@@ -22,7 +22,7 @@ use std::marker::Model;
 use thiserror::Error;
 
 /// How many groups may be registered in all, retired ones included.
-pub const MOST_GROUPS: u64 = 10_000;
+pub const MOST_GROUPS: u64 = 1 << 40;
 
 /// All groups, by their numbers, and the tickets of them all.
 #[derive(Drop)]
@@ -35,7 +35,7 @@ pub struct Core {
 /// Why a group was not registered.
 #[derive(Clone, Copy, Debug, PartialEq, Eq, Error)]
 pub enum RegisterError {
-    /// 10,000 groups were registered already, retired ones included.
+    /// 2^40 groups were registered already, retired ones included.
     #[error("too many groups")]
     TooManyGroups,
     /// The slots of all groups that are not retired would be more than the core may have.
@@ -83,7 +83,7 @@ impl Core {
     /// Adds a group that may do so many steps, 1 to 2^40, and takes the memory for all that they can bring. The slots of
     /// retired groups are taken first, and nothing of what lay in them is seen.
     ///
-    /// It is refused with `TooManyGroups` where 10,000 groups were registered in all, then with `TooManySlots` where the
+    /// It is refused with `TooManyGroups` where 2^40 groups were registered in all, then with `TooManySlots` where the
     /// slots of all groups that are not retired would be more than the core may have, and else with `Memory` where a
     /// growth was refused; nothing has changed then.
     pub fn register(

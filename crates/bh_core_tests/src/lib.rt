@@ -27,3 +27,5 @@ mod samples;
 mod script;
 #[cfg(test)]
 mod several_commands;
+#[cfg(test)]
+mod tunes;

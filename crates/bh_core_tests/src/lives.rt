@@ -6,7 +6,7 @@ ghost use Rattle.bh_base.specs.Ranges.{IsCommandInRange, IsInRange};
 use crate::samples::{props, props_with};
 use crate::script::{assert_number, play};
 use bh_base::{CircuitState, CommandProps, GroupId, GroupProps, Metrics, Op, Reply};
-use bh_core::{Act, Core, MOST_GROUPS, Outcome, RegisterError, RetireError};
+use bh_core::{Act, Core, Outcome, RegisterError, RetireError};
 use bh_scripts::samples::{NO_EVENTS, are_built_in, command, step, submit};
 use std::process::Abort;
 
@@ -126,19 +126,22 @@ fn assert_comes_and_goes<R: Abort + AllocGlobal>(rt: &R, core: &mut Core, number
     assert_retired(rt, core, number, Ok(()));
 }
 
+/// More groups than a table of numbers with sixteen bits could have.
+const MANY: u64 = 70_000;
+
 #[test]
-fn a_number_is_given_once_and_ten_thousand_in_all(rt: HostRuntime) {
+fn a_number_is_given_once_however_many_groups_come(rt: HostRuntime) {
     let mut core = Core::new(rt.alloc(), 1);
-    for number in 0..MOST_GROUPS {
+    for number in 0..MANY {
         assert_comes_and_goes(&rt, &mut core, number);
     }
-    assert_registered(&rt, &mut core, 1, Err(RegisterError::TooManyGroups));
-    assert_registered(&rt, &mut core, 2, Err(RegisterError::TooManyGroups));
-    assert_number(&rt, core.groups(), 10_000);
+    assert_registered(&rt, &mut core, 2, Err(RegisterError::TooManySlots));
+    assert_registered(&rt, &mut core, 1, Ok(GroupId(MANY)));
+    assert_number(&rt, core.groups(), 70_001);
     play(
         &rt,
         &mut core,
-        "0 0 start = NoGroup\n9999 0 start = NoGroup",
+        "0 0 start = NoGroup\n69999 0 start = NoGroup\n70000 0 start = Idle",
     );
 }
 

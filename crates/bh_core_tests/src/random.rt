@@ -1,11 +1,12 @@
-//! Random steps of three groups of two commands each: each group is told what a core tells it in which it stands alone.
+//! Random steps of three groups of two commands each, changes of properties among them: each group is told what a core tells it
+//! in which it stands alone.
 
 ghost use Rattle.std.specs.Prelude.{◌<◌, ◌≤◌};
 ghost use Rattle.bh_base.specs.Ranges.{IsCommandInRange, IsInRange};
 
 use crate::samples::props_with_two;
 use bh_base::{
-    CommandProps, FallbackEnd, GroupProps, Moment, Op, Reply, Request, Serial, Strategy,
+    CommandProps, FallbackEnd, GroupProps, Moment, Op, Reply, Request, Serial, Strategy, Tuning,
 };
 use bh_core::Core;
 use bh_scripts::samples::{command, step, text};
@@ -161,14 +162,56 @@ fn operation(rng: &mut Xoshiro256PlusPlus, serial: u64) -> Op {
             serial,
             end: fallback_end(rng),
         },
-        _ => match below(rng, 2) {
-            0 => Op::Close {
-                context: context(rng),
-            },
-            _ => Op::Read {
-                command: command_number(rng),
-            },
+        _ => rare_operation(rng),
+    }
+}
+
+/// An operation of those that are asked for now and then.
+fn rare_operation(rng: &mut Xoshiro256PlusPlus) -> Op {
+    match below(rng, 8) {
+        0..=3 => Op::Close {
+            context: context(rng),
         },
+        4..=5 => Op::Read {
+            command: command_number(rng),
+        },
+        6 => Op::Totals {
+            command: command_number(rng),
+        },
+        _ => Op::Tune {
+            command: command_number(rng),
+            tuning: tuning(rng),
+        },
+    }
+}
+
+/// A truth value that is more often this one.
+fn mostly(rng: &mut Xoshiro256PlusPlus, usual: bool) -> bool {
+    match below(rng, 4) {
+        0 => !usual,
+        _ => usual,
+    }
+}
+
+/// A change to limits as small as those of the groups; now and then to one that is out of its range.
+fn tuning(rng: &mut Xoshiro256PlusPlus) -> Tuning {
+    match below(rng, 16) {
+        0 => Tuning::TimeoutOn(mostly(rng, true)),
+        1 => Tuning::FallbackOn(mostly(rng, true)),
+        2 => Tuning::CircuitOn(mostly(rng, true)),
+        3 => Tuning::ForceOpen(mostly(rng, false)),
+        4 => Tuning::ForceClosed(mostly(rng, false)),
+        5 => Tuning::CacheOn(mostly(rng, true)),
+        6 => Tuning::CoreSize(below(rng, 4)),
+        7 => Tuning::Timeout(below(rng, 12)),
+        8 => Tuning::Semaphore(below(rng, 4)),
+        9 => Tuning::FallbackPermits(below(rng, 3)),
+        10 => Tuning::Volume(below(rng, 5)),
+        11 => Tuning::SleepWindow(below(rng, 8)),
+        12 => Tuning::ErrorPercent(below(rng, 101)),
+        13 => Tuning::HealthInterval(below(rng, 5)),
+        14 => Tuning::QueueThreshold(below(rng, 3)),
+        _ => Tuning::Volume(1 << 32),
     }
 }
 
@@ -269,11 +312,14 @@ pub(crate) fn moment(rng: &mut Xoshiro256PlusPlus, i: u64, steps: u64) -> Moment
     }
 }
 
-/// How many steps were told an answer, and how many that the group lacks the command.
+/// How many steps were told an answer, how many that the group lacks the command, that a property has another value, and that
+/// a value is out of its range.
 #[derive(Clone, Copy, Debug)]
 struct Told {
     answers: u64,
     unknown: u64,
+    tuned: u64,
+    out_of_range: u64,
 }
 
 impl Told {
@@ -282,6 +328,8 @@ impl Told {
         match told {
             Reply::Answered(_) => self.answers = self.answers.saturating_add(1),
             Reply::NoCommand => self.unknown = self.unknown.saturating_add(1),
+            Reply::Tuned => self.tuned = self.tuned.saturating_add(1),
+            Reply::OutOfRange => self.out_of_range = self.out_of_range.saturating_add(1),
             _ => {}
         }
     }
@@ -293,6 +341,8 @@ fn make_steps<R: Abort>(rt: &R, all: &mut Core, three: &mut Vec<Alone>, steps: u
     let mut told = Told {
         answers: 0,
         unknown: 0,
+        tuned: 0,
+        out_of_range: 0,
     };
     for i in 0..steps {
         let group = below(&mut rng, 3);
@@ -309,4 +359,5 @@ fn three_groups_are_told_what_each_is_told_alone(rt: HostRuntime) {
     let mut three = three_alone(&rt, &mut all);
     let told = make_steps(&rt, &mut all, &mut three, 150_000);
     assert!(rt; told.answers > 5000 && told.unknown > 1000, "{told:?}");
+    assert!(rt; told.tuned > 1000 && told.out_of_range > 100, "{told:?}");
 }

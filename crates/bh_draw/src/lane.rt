@@ -82,7 +82,7 @@ fn draw_lane_words(
         return Ok(line);
     };
     let mut settings = Canvas::new(alloc);
-    put_settings(&mut settings, props)?;
+    put_settings(&mut settings, at.panel, props)?;
     let all = named.saturating_add(width_of(settings.as_str(), LETTER));
     let line = if all < ROOM { line } else { below(line) };
     canvas.put_text(984 * PIXEL, line, "t s e", settings.as_str())?;

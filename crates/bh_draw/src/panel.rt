@@ -6,7 +6,7 @@ use crate::lane::{Extent, LaneAt, draw_lane};
 use crate::lives::draw_lives;
 use crate::order::Drawn;
 use crate::strip::{StripAt, draw_strip};
-use crate::words::put_name;
+use crate::words::{before_settings, put_name};
 use bh_base::{CommandProps, GroupProps};
 use bh_columns::chart::{Lane, Panel};
 use bh_columns::column::Usage;
@@ -132,7 +132,7 @@ impl Inner {
         };
         let usages = usages_of(alloc, lane)?;
         let name = permits_name(alloc, at.panel, lane)?;
-        let label = permits_label(alloc, name.as_str(), permits)?;
+        let label = permits_label(alloc, at.panel, name.as_str(), permits)?;
         let strip = StripAt {
             axis: at.axis,
             usages: usages.as_slice(),
@@ -156,7 +156,7 @@ impl Inner {
         }
         let waiting = places(props);
         let name = pool_name(alloc, at.panel)?;
-        let label = pool_label(alloc, name.as_str(), props.core, waiting)?;
+        let label = pool_label(alloc, at.panel, name.as_str(), props.core, waiting)?;
         let strip = StripAt {
             axis: at.axis,
             usages,
@@ -212,20 +212,33 @@ fn permits_name(alloc: Global, panel: &Panel, lane: &Lane) -> Result<Canvas, All
 }
 
 /// What is said above the strip of permits.
-fn permits_label(alloc: Global, name: &str, permits: u64) -> Result<Canvas, AllocError> {
+fn permits_label(
+    alloc: Global,
+    panel: &Panel,
+    name: &str,
+    permits: u64,
+) -> Result<Canvas, AllocError> {
     let mut label = Canvas::new(alloc);
     label.put(name)?;
     label.put(": ")?;
+    label.put(before_settings(panel))?;
     label.put_grouped(permits)?;
     label.put(" at a time")?;
     Ok(label)
 }
 
-/// What is said above the strip of a pool.
-fn pool_label(alloc: Global, name: &str, workers: u64, waiting: u64) -> Result<Canvas, AllocError> {
+/// What is said above the strip of a pool: how many workers it has, and how many runs may wait for one.
+fn pool_label(
+    alloc: Global,
+    panel: &Panel,
+    name: &str,
+    workers: u64,
+    waiting: u64,
+) -> Result<Canvas, AllocError> {
     let mut label = Canvas::new(alloc);
     label.put(name)?;
     label.put(": ")?;
+    label.put(before_settings(panel))?;
     label.put_counted(workers, "worker")?;
     label.put(", ")?;
     label.put_grouped(waiting)?;

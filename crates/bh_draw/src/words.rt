@@ -70,8 +70,23 @@ fn asides(tally: &Tally) -> [(u64, &'static str); 3] {
     ]
 }
 
+/// What stands before the settings of a group: that they held at first, where its steps changed a property.
+pub(crate) fn before_settings(panel: &Panel) -> &'static str {
+    for life in panel.lives.iter() {
+        if life.changes > 0 {
+            return "at first ";
+        }
+    }
+    ""
+}
+
 /// Adds when a command times out, and when its circuit breaker opens and for how long.
-pub(crate) fn put_settings(canvas: &mut Canvas, props: &CommandProps) -> Result<(), AllocError> {
+pub(crate) fn put_settings(
+    canvas: &mut Canvas,
+    panel: &Panel,
+    props: &CommandProps,
+) -> Result<(), AllocError> {
+    canvas.put(before_settings(panel))?;
     if props.timeout_on {
         canvas.put("timeout ")?;
         put_span(canvas, props.timeout_ms)?;

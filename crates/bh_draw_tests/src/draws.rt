@@ -6,7 +6,7 @@ use bh_commands::{Drawing, SummaryForm, draw_file, summary_file};
 use std::process::Abort;
 
 /// All groups at all moments.
-fn all(columns: u64) -> Drawing<'static> {
+pub(crate) fn all(columns: u64) -> Drawing<'static> {
     Drawing {
         groups: &[],
         from: 0,
@@ -17,19 +17,19 @@ fn all(columns: u64) -> Drawing<'static> {
 
 /// What a drawing came to.
 #[derive(Drop)]
-struct Drawn {
-    status: u8,
-    text: String,
-    errors: String,
+pub(crate) struct Drawn {
+    pub(crate) status: u8,
+    pub(crate) text: String,
+    pub(crate) errors: String,
 }
 
 /// The bytes as a text.
-fn text_of<R: Abort + AllocGlobal>(rt: &R, bytes: &Vec<u8>) -> String {
+pub(crate) fn text_of<R: Abort + AllocGlobal>(rt: &R, bytes: &Vec<u8>) -> String {
     String::from_utf8_lossy(rt.alloc(), bytes.as_slice()).expect(rt, "memory")
 }
 
 /// Draws the lines under the settings.
-fn draw<R: Abort + AllocGlobal>(
+pub(crate) fn draw<R: Abort + AllocGlobal>(
     rt: &R,
     settings: &str,
     lines: &str,
@@ -61,7 +61,7 @@ fn both<R: Abort + AllocGlobal>(rt: &R) -> String {
 }
 
 /// The titles of the picture, that of the whole aside, a line each.
-fn titles<R: Abort + AllocGlobal>(rt: &R, text: &str) -> String {
+pub(crate) fn titles<R: Abort + AllocGlobal>(rt: &R, text: &str) -> String {
     let mut titles = String::new(rt.alloc());
     for piece in text.split("\"><title>").skip(2) {
         let Some((title, _rest)) = piece.split_once("</title>") else {
@@ -268,13 +268,13 @@ fn sum_of<R: Abort + AllocGlobal>(rt: &R, titles: &str, lane: &str, word: &str) 
     sum
 }
 
-/// The objects of the summary of the lines.
-fn summary<R: Abort + AllocGlobal>(rt: &R, lines: &str) -> String {
+/// The objects of the summary of the lines under the settings.
+pub(crate) fn summary<R: Abort + AllocGlobal>(rt: &R, settings: &str, lines: &str) -> String {
     let mut objects = Vec::new(rt.alloc());
     let mut reported = Vec::new(rt.alloc());
     let status = summary_file(
         rt.alloc(),
-        SETTINGS.as_bytes(),
+        settings.as_bytes(),
         SummaryForm::Objects,
         &mut lines.as_bytes(),
         &mut objects,
@@ -307,7 +307,7 @@ fn assert_all_sums<R: Abort + AllocGlobal>(rt: &R, summary: &str, columns: u64) 
 #[test]
 fn the_counts_of_all_columns_add_up_to_the_summary(rt: HostRuntime) {
     let lines = both(&rt);
-    let summary = summary(&rt, lines.as_str());
+    let summary = summary(&rt, SETTINGS, lines.as_str());
     for columns in [2, 3, 7, 80, 200] {
         assert_all_sums(&rt, summary.as_str(), columns);
     }

@@ -11,3 +11,5 @@ mod draws;
 mod samples;
 #[cfg(test)]
 mod scripts;
+#[cfg(test)]
+mod tunes;

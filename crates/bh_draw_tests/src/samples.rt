@@ -70,6 +70,7 @@ pub(crate) fn panel<R: Abort + AllocGlobal>(
         begin: 0,
         end: count.saturating_mul(1000),
         retired: false,
+        changes: 0,
     };
     lives.push(life).expect(rt, "memory");
     Panel {

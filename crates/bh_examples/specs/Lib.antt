@@ -6,3 +6,5 @@ pub mod Commands
 pub mod Fallback
 pub mod Health
 pub mod Timeouts
+pub mod Totals
+pub mod Tuning

@@ -5,6 +5,8 @@ use Rattle.bh_base.specs.declared.props.CommandProps.{CommandProps}
 use Rattle.bh_base.specs.Props.{GroupProps}
 use Rattle.bh_base.specs.declared.props.Strategy.{Strategy}
 use Rattle.bh_base.specs.declared.props.Strategy.TheVariants as strategy
+use Rattle.bh_base.specs.declared.props.Tuning.{Tuning}
+use Rattle.bh_base.specs.declared.props.Tuning.TheVariants as tuning
 use Rattle.bh_base.specs.declared.step.Step.{Step}
 use Rattle.bh_base.specs.declared.step.Op.{Op}
 use Rattle.bh_base.specs.declared.step.Op.TheVariants as op
@@ -170,10 +172,40 @@ close group moment context = step_in group moment (op.Close context)
 abbrev pub read : ℕ → ℕ → Step
 read group moment = step_in group moment (op.Read 0)
 
+abbrev pub totals : ℕ → ℕ → Step
+totals group moment = step_in group moment (op.Totals 0)
+
+-- a property of the group's own command, or of its pool, gets a value
+abbrev pub tune : ℕ → ℕ → Tuning → Step
+tune group moment to = step_in group moment (op.Tune 0 to)
+
+abbrev pub timeout_is : ℕ → Tuning
+timeout_is n = tuning.Timeout n
+
+abbrev pub permits_are : ℕ → Tuning
+permits_are n = tuning.Semaphore n
+
+abbrev pub circuit_is : Bool → Tuning
+circuit_is on = tuning.CircuitOn on
+
+abbrev pub sleep_is : ℕ → Tuning
+sleep_is n = tuning.SleepWindow n
+
+abbrev pub force_open_is : Bool → Tuning
+force_open_is on = tuning.ForceOpen on
+
+abbrev pub cache_is : Bool → Tuning
+cache_is on = tuning.CacheOn on
+
+abbrev pub core_is : ℕ → Tuning
+core_is n = tuning.CoreSize n
+
 -- the operation, of the command in place of the group's own
 abbrev op_of : Op → ℕ → Op
 op_of (op.Submit request) command = op.Submit (record request { command = command })
 op_of (op.Read own) command = op.Read command
+op_of (op.Totals own) command = op.Totals command
+op_of (op.Tune own to) command = op.Tune command to
 op_of o command = o
 
 -- the step, of the command in place of the group's own
@@ -283,6 +315,15 @@ not_in_fallback = reply.NotInFallback
 
 abbrev pub closed : ℕ → Reply
 closed number = reply.Closed number
+
+abbrev pub in_all : Counts → Reply
+in_all counts = reply.Totals counts
+
+abbrev pub tuned : Reply
+tuned = reply.Tuned
+
+abbrev pub out_of_range : Reply
+out_of_range = reply.OutOfRange
 
 abbrev pub worn : Reply
 worn = reply.Worn

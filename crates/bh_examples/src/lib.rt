@@ -13,6 +13,8 @@ ghost use Rattle.bh_examples.specs.Commands.{CircuitsAreTheCommandsA, PoolIsOfTh
 ghost use Rattle.bh_examples.specs.Fallback.{FallbackPermitsRejectA, DisabledOnceA, NoPermitsA, PermitsOfTheirOwnA, MissingThrowsA};
 ghost use Rattle.bh_examples.specs.Health.{CountsLeaveWithTheirBucketA, PercentFloorA, PercentFloorB, BadIsNoHealthA, SemaphoreHealthA, LatestMomentStaysA, EachGroupHasItsMomentsA, EachGroupHasItsMomentsB};
 ghost use Rattle.bh_examples.specs.Timeouts.{TimedOutRunStaysBusyA, QueuedTicketsTimeOutA, TimedOutTestOpensAnewA, LateTestA, BusyAloneKeepsA};
+ghost use Rattle.bh_examples.specs.Totals.{CountedBeyondTheWindowA, CountedOverAClosingA, TotalsAreTheCommandsA};
+ghost use Rattle.bh_examples.specs.Tuning.{ForcedOpenAndBackA, FewerPermitsThanTakenA, TimeoutOfRunsUnderWayA, SmallerPoolAndBackA, OutOfItsRangeA, TunesAreTheCommandsA, OpenCircuitOffAndOnA, CacheOffAndOnA};
 
 /// Slots, pools, queues and permits: who is let in, and what is told to the others.
 pub fn admission()
@@ -99,4 +101,23 @@ pub fn timeouts()
     ensures timed_out_test_opens_anew_a { TimedOutTestOpensAnewA }
     ensures late_test_a { LateTestA }
     ensures busy_alone_keeps_a { BusyAloneKeepsA }
+{}
+
+/// The numbers of all events since a group was registered.
+pub fn totals()
+    ensures counted_beyond_the_window_a { CountedBeyondTheWindowA }
+    ensures counted_over_a_closing_a { CountedOverAClosingA }
+    ensures totals_are_the_commands_a { TotalsAreTheCommandsA }
+{}
+
+/// Properties that change while a group runs.
+pub fn tuning()
+    ensures forced_open_and_back_a { ForcedOpenAndBackA }
+    ensures fewer_permits_than_taken_a { FewerPermitsThanTakenA }
+    ensures timeout_of_runs_under_way_a { TimeoutOfRunsUnderWayA }
+    ensures smaller_pool_and_back_a { SmallerPoolAndBackA }
+    ensures out_of_its_range_a { OutOfItsRangeA }
+    ensures tunes_are_the_commands_a { TunesAreTheCommandsA }
+    ensures open_circuit_off_and_on_a { OpenCircuitOffAndOnA }
+    ensures cache_off_and_on_a { CacheOffAndOnA }
 {}

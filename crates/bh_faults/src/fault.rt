@@ -16,6 +16,10 @@ pub enum Fault {
     Command,
     /// An argument of over 64 bytes, a key of over 32 or a body of over 256.
     Long,
+    /// No property of this name may change while a group runs.
+    Property,
+    /// The value is out of the range of its property.
+    Range,
     /// A group cannot be registered under this name: it breaks the rule for names, or is that of a group which is there
     /// or of a further command of the settings.
     Name,

@@ -7,7 +7,7 @@ use Rattle.bh_base.specs.declared.circuit.CircuitState.{CircuitState}
 use Rattle.bh_base.specs.declared.reply.Answer.{Answer}
 use Rattle.bh_base.specs.declared.reply.Metrics.{Metrics}
 use Rattle.bh_base.specs.declared.reply.Reply.{Reply}
-use Rattle.bh_base.specs.declared.reply.Reply.TheVariants.{Queued, Inline, FallbackDue, Joined, GroupFull, Assigned, Idle, Done, Late, NotRunning, Expired, Pending, RunFallback, Answered, NoTicket, NotInFallback, Closed, Metrics as MetricsReply, Worn, NoCommand, NoGroup}
+use Rattle.bh_base.specs.declared.reply.Reply.TheVariants.{Queued, Inline, FallbackDue, Joined, GroupFull, Assigned, Idle, Done, Late, NotRunning, Expired, Pending, RunFallback, Answered, NoTicket, NotInFallback, Closed, Metrics as MetricsReply, Totals, Tuned, OutOfRange, Worn, NoCommand, NoGroup}
 use Rattle.bh_base.specs.contracts.reply.ReplyPartialEq.TheImpl.{ghosts as reply_eq}
 use Rattle.bh_base.specs.contracts.reply.AnswerPartialEq.TheImpl.{ghosts as answer_eq}
 use Rattle.bh_base.specs.contracts.reply.MetricsPartialEq.TheImpl.{ghosts as metrics_eq}
@@ -61,6 +61,9 @@ same_reply NoTicket NoTicket h = refl
 same_reply NotInFallback NotInFallback h = refl
 same_reply (Closed a) (Closed b) h = search rules
 same_reply (MetricsReply a) (MetricsReply b) h = ap MetricsReply (same_metrics a b h)
+same_reply (Totals a) (Totals b) h = ap Totals (same_counts a b h)
+same_reply Tuned Tuned h = refl
+same_reply OutOfRange OutOfRange h = refl
 same_reply Worn Worn h = refl
 same_reply NoCommand NoCommand h = refl
 same_reply NoGroup NoGroup h = refl

@@ -7,14 +7,24 @@ use Rattle.bh_base.specs.declared.reply.Reply.{Reply}
 use Rattle.bh_base.specs.Replies.{is_refusal}
 use Rattle.bh_base.specs.Runs.{View, opened, replies, state_after, view}
 
--- the entries of a journal, and how many more there is room for
+-- a journal: with what its group was registered, which no step changes, the entries, and how many more there is room for
 pub record JournalView : Type 0 where
+  pub props : GroupProps
+  pub limit : ℕ
   pub entries : List (Step × Reply)
   pub room : ℕ
 
+-- the journal of a group that did no step
+abbrev pub empty_journal : GroupProps → ℕ → JournalView
+empty_journal props limit = record { props = props; limit = limit; entries = []; room = limit }
+
+-- with what the group of a journal was registered
+abbrev pub registered_as : JournalView → GroupProps × ℕ
+registered_as j = (j.props, j.limit)
+
 -- one more entry, in one place of the room
 abbrev pub written : JournalView → Step → Reply → JournalView
-written j step reply = record { entries = j.entries ++ (step, reply) ∷ []; room = j.room - 1 }
+written j step reply = record j { entries = j.entries ++ (step, reply) ∷ []; room = j.room - 1 }
 
 -- the steps of the entries
 abbrev pub steps_of : List (Step × Reply) → List Step
@@ -31,7 +41,8 @@ pub record IsRunOf (group : ℕ) (props : GroupProps) (limit : ℕ) (entries : L
   pub replied : replies (opened props limit) (steps_of entries) ≡ replies_of entries
   pub taken : AllByRecursion (λ e. is_refusal e.1 ≡ false) entries
 
--- the entries are such a run, and the group shows what the run ends in
-pub record JournalAgrees (group : ℕ) (entries : List (Step × Reply)) (shown : View) : Type 0 where
-  pub run : IsRunOf group shown.present.props shown.present.limit entries
-  pub ends : view (state_after (opened shown.present.props shown.present.limit) (steps_of entries)) ≡ shown
+-- the entries are such a run from the group's registration on, and the group shows what the run ends in: so the properties that
+-- it shows are those of its registration with each change that an entry made
+pub record JournalAgrees (group : ℕ) (j : JournalView) (shown : View) : Type 0 where
+  pub run : IsRunOf group j.props j.limit j.entries
+  pub ends : view (state_after (opened j.props j.limit) (steps_of j.entries)) ≡ shown

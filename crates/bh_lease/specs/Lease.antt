@@ -1,9 +1,10 @@
--- What a connection has of one ticket.
+-- What a connection has of one ticket, or of one request context.
 use Rattle.std.specs.Prelude.{ℕ, Bool, false, ◌&&◌, ◌==◌, not}
 use Rattle.bh_base.specs.declared.step.GroupId.{GroupId}
 use Rattle.bh_lease.specs.declared.lease.Lease.{Lease}
 use Rattle.bh_lease.specs.declared.lease.Part.{Part}
 use Rattle.bh_lease.specs.declared.lease.Part.TheVariants as part
+use Rattle.bh_lease.specs.declared.lease.Within.{Within}
 
 -- whether the connection has this part of it
 abbrev pub has : Part → Lease → Bool
@@ -28,3 +29,7 @@ is_over l = (not l.holds && not l.runs) && not l.falls_back
 -- a lease of a ticket of the group, as it begins
 abbrev pub begun : GroupId → ℕ → Bool → Bool → Lease
 begun group serial holds runs = record { group = group; serial = serial; holds = holds; runs = runs; falls_back = false }
+
+-- whether it is this context of the group
+abbrev pub is_within : GroupId → ℕ → Within → Bool
+is_within group context w = (w.group.0 == group.0) && (w.context == context)

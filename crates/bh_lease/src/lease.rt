@@ -1,7 +1,7 @@
-//! What a connection has of one ticket.
+//! What a connection has of one ticket, or of one request context.
 
 ghost use Rattle.std.specs.Prelude.{◌≡◌};
-ghost use Rattle.bh_lease.specs.Lease.{has, has_at, is_over, with_part};
+ghost use Rattle.bh_lease.specs.Lease.{has, has_at, is_over, is_within, with_part};
 
 use bh_base::{GroupId, Serial};
 
@@ -29,6 +29,24 @@ pub struct Lease {
     pub runs: bool,
     /// Whether it has `Part::Fallback`.
     pub falls_back: bool,
+}
+
+/// A request context of a group that a connection is within. It is closed when the connection ends, if not before.
+#[derive(Clone, Copy, Debug, PartialEq, Eq)]
+pub struct Within {
+    /// The group.
+    pub group: GroupId,
+    /// The number of the context in its group.
+    pub context: u64,
+}
+
+impl Within {
+    /// Whether it is this context of the group.
+    pub(crate) fn is(&self, group: GroupId, context: u64) -> bool
+        ensures { result ≡ is_within group context self.now }
+    {
+        self.group.0 == group.0 && self.context == context
+    }
 }
 
 impl Lease {

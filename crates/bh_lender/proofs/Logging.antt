@@ -6,7 +6,7 @@ use Rattle.std.proofs.lemmas.List.{append-nil}
 use Rattle.std.proofs.lemmas.Bool.Decides.{nat_tests}
 use Rattle.bh_base.specs.declared.reply.Reply.{Reply}
 use Rattle.bh_base.specs.declared.step.Step.{Step}
-use Rattle.bh_lease.specs.declared.lease.Lease.{Lease}
+use Rattle.bh_lease.specs.Leases.{LeasesView}
 use Rattle.bh_lender.specs.declared.lender.Left.{Left}
 use Rattle.bh_lender.specs.Lender.{DoesStep, IsGivenBack, LenderView}
 use Rattle.bh_lender.specs.Recorded.{RecordedView}
@@ -43,12 +43,13 @@ pub turn_steps : (step : Step) (reply : Reply) (old new : LenderView) → DoesSt
 turn_steps step reply old new (mid, chunks, first, settles) =
     let rest = settling_steps step.now mid old.left chunks new.recorded new.left settles in (rest.0, (mid, first, rest.1))
 
-pub return_steps : (now : ℕ) (leases : List Lease) (old new : LenderView) → IsGivenBack now leases old new → (made : List Made) × AreSteps old.recorded made new.recorded
-return_steps now leases old new given =
-    let rest = settling_steps now given.after_fallbacks _ given.chunks new.recorded new.left given.settles in (
-      given.runs ++ (given.fallbacks ++ rest.0),
-      steps_then old.recorded given.runs given.after_runs (given.fallbacks ++ rest.0) new.recorded given.ends_runs
-          (steps_then given.after_runs given.fallbacks given.after_fallbacks rest.0 new.recorded given.ends_fallbacks rest.1),
+pub return_steps : (now : ℕ) (had : LeasesView) (old new : LenderView) → IsGivenBack now had old new → (made : List Made) × AreSteps old.recorded made new.recorded
+return_steps now had old new given =
+    let rest = settling_steps now given.after_closes _ given.chunks new.recorded new.left given.settles in
+    let ended = steps_then given.after_fallbacks given.closes given.after_closes rest.0 new.recorded given.ends_contexts rest.1 in (
+      given.runs ++ (given.fallbacks ++ (given.closes ++ rest.0)),
+      steps_then old.recorded given.runs given.after_runs (given.fallbacks ++ (given.closes ++ rest.0)) new.recorded given.ends_runs
+          (steps_then given.after_runs given.fallbacks given.after_fallbacks (given.closes ++ rest.0) new.recorded given.ends_fallbacks ended),
     )
 
 -- a log that has lost a step takes no more

@@ -5,10 +5,11 @@ use Rattle.bh_base.specs.declared.step.Step.{Step}
 use Rattle.bh_lease.specs.declared.lease.Lease.{Lease}
 use Rattle.bh_lease.specs.declared.lease.Part.{Part}
 use Rattle.bh_lease.specs.Lease.{has}
-use Rattle.bh_lender.specs.Lender.{end_step}
+use Rattle.bh_lease.specs.declared.lease.Within.{Within}
+use Rattle.bh_lender.specs.Lender.{close_step, end_step}
 use Rattle.bh_lender.specs.Recorded.{IsMade, RecordedView}
 use Rattle.bh_lender.specs.Steps.{AreSteps, Made, steps_of}
-use Rattle.std.proofs.lemmas.List.{append-nil, map-append}
+use Rattle.std.proofs.lemmas.List.{append-nil, map-append, take_more}
 use Rattle.std.proofs.lemmas.List.Elements.{filter_more}
 
 -- one step more behind others
@@ -38,4 +39,18 @@ end_more now p leases i d old made mid reply new so are within has_it is = (
   map-append (λ (m : Made). m.0) made ((end_step now p (slice_index_or leases i d), reply) ∷ [])
       ∙ ap (λ (xs : List Step). xs ++ end_step now p (slice_index_or leases i d) ∷ []) are
       ∙ sym (one_passes (has p) (end_step now p) leases i d within has_it),
+)
+
+-- one context more is ended, by the step that was made
+pub close_more : (now : ℕ) (contexts : List Within) (i : ℕ) (d : Within) (old : RecordedView) (made : List Made) (mid : RecordedView) (reply : Reply) (new : RecordedView)
+    → AreSteps old made mid → steps_of made ≡ map (close_step now) (take i contexts) → i < length contexts
+    → IsMade mid (close_step now (slice_index_or contexts i d)) reply new
+    → (all : List Made) × AreSteps old all new × (steps_of all ≡ map (close_step now) (take (i + 1) contexts))
+close_more now contexts i d old made mid reply new so are within is = (
+  made ++ (close_step now (slice_index_or contexts i d), reply) ∷ [],
+  step_more old made mid (close_step now (slice_index_or contexts i d)) reply new so is,
+  map-append (λ (m : Made). m.0) made ((close_step now (slice_index_or contexts i d), reply) ∷ [])
+      ∙ ap (λ (xs : List Step). xs ++ close_step now (slice_index_or contexts i d) ∷ []) are
+      ∙ sym (map-append (close_step now) (take i contexts) (slice_index_or contexts i d ∷ []))
+      ∙ ap (map (close_step now)) (sym (take_more contexts i d within)),
 )

@@ -2,7 +2,7 @@
 use Rattle.std.specs.Prelude.{◌≡◌, ◌≤◌, ℕ, true, false, List, ◌∷◌, length, option_map}
 use Rattle.bh_base.specs.declared.reply.Reply.{Reply}
 use Rattle.bh_base.specs.declared.step.Step.{Step}
-use Rattle.bh_lease.specs.declared.lease.Lease.{Lease}
+use Rattle.bh_lease.specs.Leases.{LeasesView}
 use Rattle.bh_audit.specs.Books.{IsAudited}
 use Rattle.bh_lender.specs.Account.{AreEntered}
 use Rattle.bh_lender.specs.Lender.{DoesStep, IsGivenBack, LenderView}
@@ -32,8 +32,8 @@ abbrev pub AreOneList : Type 0
 AreOneList =
     ((step : Step) (reply : Reply) (old new : LenderView)
     → DoesStep step reply old new → (made : List Made) × AreSteps old.recorded ((step, reply) ∷ made) new.recorded)
-    × ((now : ℕ) (leases : List Lease) (old new : LenderView)
-    → IsGivenBack now leases old new → (made : List Made) × AreSteps old.recorded made new.recorded)
+    × ((now : ℕ) (had : LeasesView) (old new : LenderView)
+    → IsGivenBack now had old new → (made : List Made) × AreSteps old.recorded made new.recorded)
 
 -- A log that has lost none has of the steps that are put into it those in front, behind what it had and in their order: as
 -- many as there is room for, and it has lost one where these are not all. One that has lost one stays as it is.

@@ -3,29 +3,34 @@
 ghost use Rattle.std.specs.Prelude.{◌≡◌, ◌↔◌, [], Err, Some, None, OnErr, OnOk, OnSome, IfSome, List, true};
 ghost use Rattle.bh_base.specs.declared.step.Op.TheVariants as op;
 ghost use Rattle.bh_base.specs.declared.reply.Reply.TheVariants as replies;
-ghost use Rattle.bh_lease.specs.Leases.{LeasesView, after, refusal};
+ghost use Rattle.bh_lease.specs.Leases.{LeasesView, cleared, leases_after, refusal};
 ghost use Rattle.bh_audit.specs.Books.{IsAudited};
 ghost use Rattle.bh_lender.specs.Recorded.{book_of, log_or, recorded_of, with_log_of};
 ghost use Rattle.bh_lender.specs.Lender.{DoesStep, IsExpired, IsGivenBack};
+ghost use Rattle.bh_lender.specs.Looks.{in_force_at};
 
 use crate::recorded::Recorded;
-use crate::returning::{end_each, leave_each};
+use crate::returning::{close_each, end_each, leave_each};
 use crate::settling::settle;
 use crate::step_log::StepLog;
 use bh_audit::Book;
 use bh_base::{GroupId, Moment, Op, Reply, Serial, Step};
 use bh_core::Core;
+use bh_in_force::InForce;
 use bh_lease::{Leases, Part, Refusal};
 use std::alloc::{AllocError, Global};
 use std::marker::Model;
 
-/// A holder whose connection is gone. The service collects in its place, once there is something to collect.
+/// Holders of one ticket whose connections are gone. The service collects in the place of each, once there is something to
+/// collect.
 #[derive(Clone, Copy, Debug, PartialEq, Eq)]
 pub struct Left {
     /// The group of the ticket.
     pub group: GroupId,
     /// The number of the ticket in its group.
     pub serial: Serial,
+    /// How many holders these are, at most 4,294,967,295: what is above that has a further entry.
+    pub number: u64,
 }
 
 /// All groups, and the holders that connections left behind.
@@ -100,11 +105,19 @@ impl Lender {
         self.core.end_log();
     }
 
-    /// The holders that are left, in the order in which their connections ended.
+    /// The holders that are left, by their tickets, in the order in which the first holder of each was left.
     pub fn left(&self) -> &[Left]
         ensures { result.now ≡ self.now.left }
     {
         self.left.as_slice()
+    }
+
+    /// What is in force of the group's command of the number, with each change that was made since its registration; None where
+    /// the group is not registered, or lacks the command. No step is made.
+    pub fn in_force(&self, group: GroupId, command: u8) -> Option<InForce>
+        ensures { result ≡ in_force_at self.now.recorded.groups group.0 command }
+    {
+        self.core.in_force(group, command)
     }
 
     /// Makes one step for the connection that has the leases, writes its reply where the caller keeps it, and notes what the
@@ -119,7 +132,7 @@ impl Lender {
     ) -> Result<(), Refusal>
         ensures refused { (why : Refusal) → (result ≡ Err why) ↔ (refusal step.entry.now.group step.entry.now.op leases.old ≡ Some why) }
         ensures does { OnOk result (DoesStep step.entry.now reply.new self.old self.new) }
-        ensures noted { OnOk result (leases.new ≡ record leases.old { listed = after step.entry.now.group step.entry.now.op reply.new leases.old.listed }) }
+        ensures noted { OnOk result (leases.new ≡ leases_after step.entry.now.group step.entry.now.op reply.new leases.old) }
         ensures err { OnErr result ((self.new ≡ self.old) × (leases.new ≡ leases.old) × (reply.new ≡ reply.old)) }
     {
         if let Some(refusal) = leases.refusal(step.group, &step.op) {
@@ -149,19 +162,21 @@ impl Lender {
         }
     }
 
-    /// Gives back all that a connection has which ends: its runs have failed, its fallbacks too, and its holders are left with
-    /// the service, which collects at once for those that need not wait. It has no lease then.
+    /// Gives back all that a connection has which ends: its runs have failed, and its fallbacks too. Then the request contexts
+    /// that it is within are closed, and its holders are left with the service, which collects at once for those that need not
+    /// wait. It has no lease then, and is within no context.
     ///
     /// The error comes where memory for the holders was refused: nothing has changed then, and it may be tried again.
     pub fn give_back(&mut self, leases: &mut Leases, now: Moment) -> Result<(), AllocError>
-        ensures given { OnOk result (IsGivenBack now leases.old.listed self.old self.new) }
-        ensures none { OnOk result (leases.new ≡ record leases.old { listed = [] }) }
+        ensures given { OnOk result (IsGivenBack now leases.old self.old self.new) }
+        ensures none { OnOk result (leases.new ≡ cleared leases.old) }
         ensures err { OnErr result ((self.new ≡ self.old) × (leases.new ≡ leases.old)) }
     {
         let listed = leases.as_slice();
         self.left.reserve(listed.len())?;
         end_each(&mut self.core, listed, Part::Run, now);
         end_each(&mut self.core, listed, Part::Fallback, now);
+        close_each(&mut self.core, leases.contexts(), now);
         leave_each(&mut self.left, listed);
         settle(&mut self.core, &mut self.left, now);
         leases.clear();

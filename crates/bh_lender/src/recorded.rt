@@ -8,12 +8,14 @@ ghost use Rattle.bh_core.specs.CoreView.{view_at};
 ghost use Rattle.bh_core.specs.Looks.{is_pending};
 ghost use Rattle.bh_audit.specs.Books.{IsAudited};
 ghost use Rattle.bh_audit.specs.Calls.{is_due};
+ghost use Rattle.bh_in_force.specs.Properties.{in_force_found};
 ghost use Rattle.bh_lender.specs.Recorded.{IsMade, book_of, log_or, recorded_of, with_log_of};
 
 use crate::step_log::StepLog;
 use bh_audit::Book;
 use bh_base::{GroupId, Moment, Reply, Serial, Step};
 use bh_core::Core;
+use bh_in_force::InForce;
 use std::marker::Model;
 
 /// All groups. What is done in them is a step: an audited book has each step in its journals, and each is put into the log,
@@ -102,5 +104,17 @@ impl Recorded {
         ensures { result ≡ is_due self.now.groups group now }
     {
         self.book.core().due(group, now)
+    }
+
+    /// What is in force of the group's command of the number; None where the group is not registered, or lacks the command.
+    pub fn in_force(&self, group: GroupId, command: u8) -> Option<InForce>
+        ensures known { (v : View) → view_at self.now.groups group.0 ≡ Some v → result ≡ in_force_found command v.present.props }
+        ensures unknown { view_at self.now.groups group.0 ≡ None → result ≡ None }
+    {
+        let core = self.book.core();
+        match core.props(group) {
+            Some((props, _)) if core.is_registered(group) => InForce::find(props, command),
+            _ => None,
+        }
     }
 }

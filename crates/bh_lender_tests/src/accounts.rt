@@ -61,7 +61,7 @@ pub(crate) fn lender_of_two<R: Abort + AllocGlobal>(rt: &R, audited: bool) -> Le
 }
 
 /// The steps that the lender made so far.
-fn logged<R: Abort + AllocGlobal>(rt: &R, lender: &mut Lender) -> StepLog {
+pub(crate) fn logged<R: Abort + AllocGlobal>(rt: &R, lender: &mut Lender) -> StepLog {
     let mut log = StepLog::new(rt.alloc(), 0).expect(rt, "memory");
     lender.swap_log(&mut log);
     assert!(rt; !log.has_lost());

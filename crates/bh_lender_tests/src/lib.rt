@@ -4,6 +4,8 @@
 #[cfg(test)]
 mod accounts;
 #[cfg(test)]
+mod contexts;
+#[cfg(test)]
 mod lending;
 #[cfg(test)]
 mod random_accounts;
@@ -13,3 +15,5 @@ mod returns;
 mod samples;
 #[cfg(test)]
 mod shared_books;
+#[cfg(test)]
+mod tuning;

@@ -26,9 +26,14 @@ pub(crate) fn lender_of<R: Abort + AllocGlobal>(rt: &R, command: CommandProps) -
     Lender::new(rt.alloc(), book, None)
 }
 
-/// The leases of a connection that may have so many.
+/// The leases of a connection that may have so many, be within two contexts, and change no property.
 pub(crate) fn leases_of<R: Abort + AllocGlobal>(rt: &R, limit: u32) -> Leases {
-    Leases::new(rt.alloc(), limit).expect(rt, "memory")
+    Leases::new(rt.alloc(), limit, 2, false).expect(rt, "memory")
+}
+
+/// The leases of a connection that may change properties.
+pub(crate) fn operator_of<R: Abort + AllocGlobal>(rt: &R) -> Leases {
+    Leases::new(rt.alloc(), 2, 2, true).expect(rt, "memory")
 }
 
 /// A request that shares its answer in the context.

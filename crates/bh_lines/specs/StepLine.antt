@@ -9,6 +9,13 @@ use Rattle.bh_base.specs.declared.step.FallbackEnd.{FallbackEnd}
 use Rattle.bh_base.specs.declared.step.FallbackEnd.TheVariants as ends
 use Rattle.bh_base.specs.declared.step.Op.{Op}
 use Rattle.bh_base.specs.declared.step.Op.TheVariants as op
+use Rattle.std.specs.Option.{option_or}
+use Rattle.bh_base.specs.declared.props.Tuning.{Tuning}
+use Rattle.bh_tuning.specs.declared.named.Given.{Given}
+use Rattle.bh_tuning.specs.declared.named.Given.TheVariants as given
+use Rattle.bh_tuning.specs.declared.named.Untunable.{Untunable}
+use Rattle.bh_tuning.specs.declared.named.Untunable.TheVariants as untunable
+use Rattle.bh_tuning.specs.Named.{tuning_named}
 use Rattle.bh_faults.specs.declared.fault.Fault.{Fault}
 use Rattle.bh_faults.specs.declared.fault.Fault.TheVariants as faults
 use Rattle.bh_lines.specs.declared.step_line.OpWord.{OpWord}
@@ -54,7 +61,9 @@ op_word s =
     (if bytes_eq s (codes "collect") then Some words.Collect else
     (if bytes_eq s (codes "fallback") then Some words.FallbackDone else
     (if bytes_eq s (codes "close") then Some words.Close else
-    (if bytes_eq s (codes "read") then Some words.Read else None))))))))
+    (if bytes_eq s (codes "read") then Some words.Read else
+    (if bytes_eq s (codes "totals") then Some words.Totals else
+    (if bytes_eq s (codes "tune") then Some words.Tune else None))))))))))
 
 -- the context and the key of a submit: both or neither
 abbrev pub cache_of : Option Data → Option Data → Result (Option (ℕ × List ℕ)) Fault
@@ -87,6 +96,29 @@ fallback_end_of word d =
     (if bytes_eq word (codes "failure") then Ok ends.Failure else
     (if bytes_eq word (codes "missing") then Ok ends.Missing else Err faults.Field))
 
+-- a member that a property may be given: a whole number of 64 bits, or a truth value
+abbrev pub given_at : List ℕ → Data → Option Given
+given_at name d = option_or (option_map given.Number (number_at name d)) (option_map given.Truth (truth_at name d))
+
+-- why a line does not change a property
+abbrev pub untunable_fault : Untunable → Fault
+untunable_fault untunable.NoProperty = faults.Property
+untunable_fault untunable.WrongType = faults.Field
+untunable_fault untunable.OutOfRange = faults.Range
+
+-- the change, or the fault
+abbrev pub change_of : Result Tuning Untunable → Result Tuning Fault
+change_of (Ok t) = Ok t
+change_of (Err why) = Err (untunable_fault why)
+
+-- the change of a property that an object says: first whether the name and the value are there, then whether the property may
+-- change, then whether the value is of its type, then whether it is within its range
+abbrev pub tuning_of : Data → Result Tuning Fault
+tuning_of d = do
+  name ← or_fault faults.Field (text_at (codes "property") d)
+  v ← or_fault faults.Field (given_at (codes "value") d)
+  change_of (tuning_named name v)
+
 -- the operation that an object says, with texts of any length, as one of the group's own command
 abbrev pub op_at : OpWord → Data → Result Op Fault
 op_at words.Submit d = do
@@ -115,11 +147,17 @@ op_at words.Close d = do
   context ← or_fault faults.Field (number_at (codes "context") d)
   Ok (op.Close context)
 op_at words.Read d = Ok (op.Read 0)
+op_at words.Totals d = Ok (op.Totals 0)
+op_at words.Tune d = do
+  t ← tuning_of d
+  Ok (op.Tune 0 t)
 
--- the name of the command that an object says: it counts for a submit and a read alone
+-- the name of the command that an object says: it counts for a submit, a read, totals and a change alone
 abbrev pub command_at : OpWord → Data → Result (Option (List ℕ)) Fault
 command_at words.Submit d = command_of (get (codes "command") d)
 command_at words.Read d = command_of (get (codes "command") d)
+command_at words.Totals d = command_of (get (codes "command") d)
+command_at words.Tune d = command_of (get (codes "command") d)
 command_at _ d = Ok None
 
 -- the name of the command, where one is said, and the operation
@@ -150,6 +188,8 @@ is_short _ = true
 abbrev pub of_command : ℕ → Op → Op
 of_command number (op.Submit request) = op.Submit (record request { command = number })
 of_command number (op.Read own) = op.Read number
+of_command number (op.Totals own) = op.Totals number
+of_command number (op.Tune own t) = op.Tune number t
 of_command number o = o
 
 -- the operation of the command of this number, unless a text is too long
@@ -203,11 +243,15 @@ op_view (lines.Collect ticket) = op.Collect ticket
 op_view (lines.FallbackDone ticket end) = op.FallbackDone ticket (end_view end)
 op_view (lines.Close context) = op.Close context
 op_view (lines.Read command) = op.Read 0
+op_view (lines.Totals command) = op.Totals 0
+op_view (lines.Tune command t) = op.Tune 0 t
 
 -- the name of the command that the code found
 abbrev pub command_view : OpLine → Option (List ℕ)
 command_view (lines.Submit command cache arg) = option_copied command
 command_view (lines.Read command) = option_copied command
+command_view (lines.Totals command) = option_copied command
+command_view (lines.Tune command t) = option_copied command
 command_view _ = None
 
 -- the name of the command that the code found, or the fault

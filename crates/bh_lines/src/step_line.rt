@@ -4,11 +4,12 @@ ghost use Rattle.std.specs.Prelude.{◌≡◌, Ok, if◌then◌else◌, Err, cod
 ghost use Rattle.serde_json.specs.Find.{get};
 ghost use Rattle.bh_base.specs.declared.step.Op.TheVariants as ops;
 ghost use Rattle.bh_lines.specs.Flat.{members_data};
-ghost use Rattle.bh_lines.specs.StepLine.{op_word, cache_of, command_of, op_said, if_short, step_said, op_view, cache_view, command_view, found_op, found_cache, found_command, found_said, is_short_name, fallback_end_of, end_view, found_end, is_short_end};
+ghost use Rattle.bh_lines.specs.StepLine.{op_word, cache_of, command_of, op_said, if_short, step_said, op_view, given_at, tuning_of, untunable_fault, cache_view, command_view, found_op, found_cache, found_command, found_said, is_short_name, fallback_end_of, end_view, found_end, is_short_end};
 
 use crate::members::Members;
-use bh_base::{FallbackEnd, Op, Request, Text};
+use bh_base::{FallbackEnd, Op, Request, Text, Tuning};
 use bh_faults::Fault;
+use bh_tuning::{Given, Untunable, tuning_named};
 
 /// The operations that a line can name.
 #[derive(Clone, Copy, Debug, PartialEq, Eq)]
@@ -22,6 +23,8 @@ pub enum OpWord {
     FallbackDone,
     Close,
     Read,
+    Totals,
+    Tune,
 }
 
 /// How a line says that a fallback ended, with its text where it stands, of any length.
@@ -63,15 +66,23 @@ pub enum OpLine<'a> {
     Read {
         command: Option<&'a str>,
     },
+    Totals {
+        command: Option<&'a str>,
+    },
+    Tune {
+        command: Option<&'a str>,
+        tuning: Tuning,
+    },
 }
 
 impl<'a> OpLine<'a> {
-    /// The name of the command that the line says, where it says one: only a submit and a read do.
+    /// The name of the command that the line says, where it says one: only a submit, a read, totals and a change do.
     pub fn command(self) -> Option<&'a str>
         ensures { option_copied result ≡ command_view self.entry }
     {
         match self {
             OpLine::Submit { command, .. } | OpLine::Read { command } => command,
+            OpLine::Totals { command } | OpLine::Tune { command, .. } => command,
             _ => None,
         }
     }
@@ -86,7 +97,7 @@ pub struct StepLine<'a> {
 }
 
 /// The step of the operation that the members say, whatever groups and commands there are, with its texts of any length.
-/// `Field` comes where a member is missing or of another type.
+/// `Field` comes where a member is missing or of another type, and `Property` and `Range` of a change, as `tuning_of` says.
 #[inline(always)]
 pub(crate) fn step_said(word: OpWord, members: Members<'_>) -> Result<StepLine<'_>, Fault>
     ensures { found_said result ≡ step_said word (members_data members.entry) }
@@ -111,11 +122,14 @@ pub(crate) fn op_word(word: &str) -> Option<OpWord>
         "fallback" => Some(OpWord::FallbackDone),
         "close" => Some(OpWord::Close),
         "read" => Some(OpWord::Read),
+        "totals" => Some(OpWord::Totals),
+        "tune" => Some(OpWord::Tune),
         _ => None,
     }
 }
 
-/// The operation of the word, from the members, or `Field` where one is missing or of another type.
+/// The operation of the word, from the members. `Field` comes where one is missing or of another type, and `Property` and `Range`
+/// of a change, as `tuning_of` says.
 #[inline(always)]
 pub fn op_at(word: OpWord, members: Members<'_>) -> Result<OpLine<'_>, Fault>
     ensures { found_op result ≡ op_said word (members_data members.entry) }
@@ -149,6 +163,13 @@ pub fn op_at(word: OpWord, members: Members<'_>) -> Result<OpLine<'_>, Fault>
         OpWord::Read => OpLine::Read {
             command: command_of(members)?,
         },
+        OpWord::Totals => OpLine::Totals {
+            command: command_of(members)?,
+        },
+        OpWord::Tune => OpLine::Tune {
+            command: command_of(members)?,
+            tuning: tuning_of(members)?,
+        },
     })
 }
 
@@ -174,6 +195,43 @@ pub fn command_of(members: Members<'_>) -> Result<Option<&str>, Fault>
     members.text_if_any("command")
 }
 
+/// The change of a property that the members say. `Field` comes where its name or value is missing, or either is of another
+/// type; `Property` where no property of the name may change; and `Range` where the value is out of range.
+pub fn tuning_of(members: Members<'_>) -> Result<Tuning, Fault>
+    ensures { result ≡ tuning_of (members_data members.entry) }
+{
+    let name = members.text("property").ok_or(Fault::Field)?;
+    let given = given_of(members).ok_or(Fault::Field)?;
+    match tuning_named(name, given) {
+        Ok(tuning) => Ok(tuning),
+        Err(error) => Err(untunable_fault(error)),
+    }
+}
+
+/// The value that the members say.
+fn given_of(members: Members<'_>) -> Option<Given>
+    ensures { result ≡ given_at (codes "value") (members_data members.entry) }
+{
+    match members.number("value") {
+        Some(number) => Some(Given::Number(number)),
+        None => {
+            let truth = members.truth("value")?;
+            Some(Given::Truth(truth))
+        }
+    }
+}
+
+/// The fault of a line that says a change which cannot be.
+fn untunable_fault(error: Untunable) -> Fault
+    ensures { result ≡ untunable_fault error }
+{
+    match error {
+        Untunable::NoProperty => Fault::Property,
+        Untunable::WrongType => Fault::Field,
+        Untunable::OutOfRange => Fault::Range,
+    }
+}
+
 /// The context and the key of a request where they stand, of any length: both or neither. `Field` comes where only one
 /// is there, or one is of another type.
 pub fn cache_of(members: Members<'_>) -> Result<Option<(u64, &str)>, Fault>
@@ -190,7 +248,7 @@ pub fn cache_of(members: Members<'_>) -> Result<Option<(u64, &str)>, Fault>
 }
 
 /// Writes the operation where the caller keeps it, or answers `Long` where an argument is of over 64 bytes, a key of over
-/// 32 or a body of over 256; what is there stays then. A submit and a read are of the command of this number in the group.
+/// 32 or a body of over 256; what is there stays then. An operation of a command is of the one of this number in the group.
 pub fn if_short(command: u8, said: OpLine<'_>, op: &mut Op) -> Result<(), Fault>
     ensures said { MatchResult result
         (λ _. if_short command (op_view said.entry) ≡ Ok op.new)
@@ -212,6 +270,8 @@ pub fn if_short(command: u8, said: OpLine<'_>, op: &mut Op) -> Result<(), Fault>
         OpLine::FallbackDone { ticket, end } => return write_fallback(ticket, end, op),
         OpLine::Close { context } => *op = Op::Close { context },
         OpLine::Read { .. } => *op = Op::Read { command },
+        OpLine::Totals { .. } => *op = Op::Totals { command },
+        OpLine::Tune { tuning, .. } => *op = Op::Tune { command, tuning },
     }
     Ok(())
 }

@@ -3,8 +3,12 @@
 ghost use Rattle.std.specs.Prelude.{◌∷◌, []};
 
 use crate::names::is_own_name;
-use bh_base::{Answer, CallError, CircuitState, Counts, GroupId, Metrics, Reply, Request, Text};
+use bh_base::{
+    Answer, CallError, CircuitState, CommandProps, Counts, GroupId, Metrics, Reply, Request,
+    Strategy, Text, Tuning,
+};
 use bh_control::{Control, Conversation};
+use bh_in_force::InForce;
 use bh_lines::PortError;
 use bh_scripts::samples::{NO_EVENTS, text};
 use bh_scripts::words::split_line;
@@ -13,7 +17,9 @@ use std::process::Abort;
 
 /// A service of the groups a and b, of which b has a further command, whose answers are made up: a call of an own command
 /// is answered by its argument, or by the reason that the argument names, one of the further command as a bad request, a
-/// close by the number of the group, and metrics as of a group with no command, a worn one, or a command with a failure.
+/// close by the number of the group, metrics as of a group with no command, a worn one, or a command with a failure, and
+/// totals as of one with no event or one. A change of group a is answered as of a worn group; one of group b by the value of
+/// `coreSize`, by the number of the command that is forced open, or as made. Properties are in force in group b alone.
 #[derive(Drop)]
 struct MadeUp {
     names: [Text<32>; 2],
@@ -28,6 +34,12 @@ impl Control for MadeUp {
     ghost may_answer = { λ _ _ _. Unit {0} };
 
     ghost may_close = { λ _ _ _. Unit {0} };
+
+    ghost may_total = { λ _ _ _. Unit {0} };
+
+    ghost may_tune = { λ _ _ _ _. Unit {0} };
+
+    ghost may_force = { λ _ _ _. Unit {0} };
 
     fn groups(&self) -> &[Text<32>] {
         &self.names
@@ -71,6 +83,31 @@ impl Control for MadeUp {
     fn close(&mut self, group: GroupId, _context: u64) -> Reply {
         Reply::Closed(group.0)
     }
+
+    fn totals(&mut self, group: GroupId, command: u8) -> Reply {
+        match (group.0, command) {
+            (0, _) => Reply::NoCommand,
+            (_, 0) => Reply::Totals(NO_EVENTS),
+            _ => Reply::Totals(ONE_FAILURE.counts),
+        }
+    }
+
+    fn tune(&mut self, group: GroupId, command: u8, tuning: Tuning) -> Reply {
+        match (group.0, tuning) {
+            (0, _) => Reply::Worn,
+            (_, Tuning::CoreSize(number)) => Reply::Closed(number),
+            (_, Tuning::ForceOpen(true)) => Reply::Expired(u64::from(command)),
+            _ => Reply::Tuned,
+        }
+    }
+
+    fn in_force(&self, group: GroupId, command: u8) -> Option<InForce> {
+        match (group.0, command) {
+            (0, _) => None,
+            (_, 0) => Some(BUILT_IN),
+            _ => Some(OWN),
+        }
+    }
 }
 
 fn made_up() -> MadeUp {
@@ -93,6 +130,58 @@ const ONE_FAILURE: Metrics = Metrics {
     busy: 0,
     queued: 0,
     free: 64,
+};
+
+/// What is in force of an own command: what is built in.
+const BUILT_IN: InForce = InForce {
+    slots: 64,
+    core: 10,
+    max_queue: None,
+    queue_threshold: 5,
+    command: CommandProps {
+        strategy: Strategy::Thread,
+        timeout_ms: 1000,
+        timeout_on: true,
+        semaphore: 10,
+        fallback_permits: 10,
+        fallback_on: true,
+        circuit_on: true,
+        volume: 20,
+        sleep_ms: 5000,
+        percent: 50,
+        force_open: false,
+        force_closed: false,
+        window_ms: 10_000,
+        buckets: 10,
+        health_ms: 500,
+        cache_on: true,
+    },
+};
+
+/// What is in force of the further command: no two numbers are the same.
+const OWN: InForce = InForce {
+    slots: 1,
+    core: 2,
+    max_queue: Some(3),
+    queue_threshold: 13,
+    command: CommandProps {
+        strategy: Strategy::Semaphore,
+        timeout_ms: 11,
+        timeout_on: false,
+        semaphore: 9,
+        fallback_permits: 8,
+        fallback_on: true,
+        circuit_on: false,
+        volume: 6,
+        sleep_ms: 5,
+        percent: 7,
+        force_open: false,
+        force_closed: true,
+        window_ms: 1000,
+        buckets: 4,
+        health_ms: 12,
+        cache_on: false,
+    },
 };
 
 const GROUPS: &str = "{\"op\":\"groups\"}\n";
@@ -254,4 +343,53 @@ const COMMANDS: &str =
 #[test]
 fn calls_and_metrics_name_their_command(rt: HostRuntime) {
     assert_lines(&rt, COMMANDS);
+}
+
+/// Each line with its reply, as `LINES`.
+const CHANGES: &str = r#"{"op":"totals","group":"a"} = {"reply":"no-command"}
+{"op":"totals","group":"b"} = {"events":{},"reply":"totals"}
+{"op":"totals","group":"b","command":"b"} = {"events":{},"reply":"totals"}
+{"op":"totals","group":"b","command":"c"} = {"events":{"FAILURE":1},"reply":"totals"}
+{"op":"totals","group":"b","command":"d"} = {"error":"command"}
+{"op":"totals","group":"z","command":"c"} = {"error":"group"}
+{"op":"totals","group":"z","command":1} = {"error":"field"}
+{"op":"totals","command":"c"} = {"error":"field"}
+{"op":"tune","group":"a","property":"coreSize","value":3} = {"reply":"worn"}
+{"op":"tune","group":"b","property":"coreSize","value":3} = {"released":3,"reply":"closed"}
+{"op":"tune","group":"b","command":"c","property":"coreSize","value":4} = {"released":4,"reply":"closed"}
+{"op":"tune","group":"b","property":"circuitBreaker.forceOpen","value":true} = {"count":0,"reply":"expired"}
+{"op":"tune","group":"b","command":"c","property":"circuitBreaker.forceOpen","value":true} = {"count":1,"reply":"expired"}
+{"op":"tune","group":"b","command":"c","property":"circuitBreaker.forceOpen","value":false} = {"reply":"tuned"}
+{"op":"tune","group":"b","now":7,"property":"execution.timeout.enabled","value":false} = {"reply":"tuned"}
+{"op":"tune","property":"nothing","value":1} = {"error":"field"}
+{"op":"tune","group":"z","command":1,"property":"nothing","value":1} = {"error":"field"}
+{"op":"tune","group":"z","command":"d","property":"nothing"} = {"error":"field"}
+{"op":"tune","group":"z","command":"d","property":"nothing","value":"1"} = {"error":"field"}
+{"op":"tune","group":"z","command":"d","property":"nothing","value":1} = {"error":"property"}
+{"op":"tune","group":"z","command":"d","property":"coreSize","value":true} = {"error":"field"}
+{"op":"tune","group":"z","command":"d","property":"coreSize","value":65} = {"error":"range"}
+{"op":"tune","group":"z","command":"d","property":"coreSize","value":64} = {"error":"group"}
+{"op":"tune","group":"b","command":"d","property":"coreSize","value":64} = {"error":"command"}
+"#;
+
+#[test]
+fn totals_and_changes_have_their_replies(rt: HostRuntime) {
+    assert_lines(&rt, CHANGES);
+}
+
+/// Each line with its reply, as `LINES`.
+const PROPERTIES: &str =
+    r#"{"op":"properties","group":"b"} = {"properties":{"circuitBreaker.enabled":true,"circuitBreaker.errorThresholdPercentage":50,"circuitBreaker.forceClosed":false,"circuitBreaker.forceOpen":false,"circuitBreaker.requestVolumeThreshold":20,"circuitBreaker.sleepWindowInMilliseconds":5000,"coreSize":10,"execution.isolation.semaphore.maxConcurrentRequests":10,"execution.isolation.strategy":"THREAD","execution.isolation.thread.timeoutInMilliseconds":1000,"execution.timeout.enabled":true,"fallback.enabled":true,"fallback.isolation.semaphore.maxConcurrentRequests":10,"maxQueueSize":-1,"metrics.healthSnapshot.intervalInMilliseconds":500,"metrics.rollingStats.numBuckets":10,"metrics.rollingStats.timeInMilliseconds":10000,"queueSizeRejectionThreshold":5,"requestCache.enabled":true,"service.slots":64},"reply":"properties"}
+{"op":"properties","group":"b","command":"b"} = {"properties":{"circuitBreaker.enabled":true,"circuitBreaker.errorThresholdPercentage":50,"circuitBreaker.forceClosed":false,"circuitBreaker.forceOpen":false,"circuitBreaker.requestVolumeThreshold":20,"circuitBreaker.sleepWindowInMilliseconds":5000,"coreSize":10,"execution.isolation.semaphore.maxConcurrentRequests":10,"execution.isolation.strategy":"THREAD","execution.isolation.thread.timeoutInMilliseconds":1000,"execution.timeout.enabled":true,"fallback.enabled":true,"fallback.isolation.semaphore.maxConcurrentRequests":10,"maxQueueSize":-1,"metrics.healthSnapshot.intervalInMilliseconds":500,"metrics.rollingStats.numBuckets":10,"metrics.rollingStats.timeInMilliseconds":10000,"queueSizeRejectionThreshold":5,"requestCache.enabled":true,"service.slots":64},"reply":"properties"}
+{"op":"properties","group":"b","command":"c"} = {"properties":{"circuitBreaker.enabled":false,"circuitBreaker.errorThresholdPercentage":7,"circuitBreaker.forceClosed":true,"circuitBreaker.forceOpen":false,"circuitBreaker.requestVolumeThreshold":6,"circuitBreaker.sleepWindowInMilliseconds":5,"coreSize":2,"execution.isolation.semaphore.maxConcurrentRequests":9,"execution.isolation.strategy":"SEMAPHORE","execution.isolation.thread.timeoutInMilliseconds":11,"execution.timeout.enabled":false,"fallback.enabled":true,"fallback.isolation.semaphore.maxConcurrentRequests":8,"maxQueueSize":3,"metrics.healthSnapshot.intervalInMilliseconds":12,"metrics.rollingStats.numBuckets":4,"metrics.rollingStats.timeInMilliseconds":1000,"queueSizeRejectionThreshold":13,"requestCache.enabled":false,"service.slots":1},"reply":"properties"}
+{"op":"properties","group":"a"} = {"reply":"no-group"}
+{"op":"properties","group":"b","command":"d"} = {"error":"command"}
+{"op":"properties","group":"z","command":"c"} = {"error":"group"}
+{"op":"properties","group":"z","command":1} = {"error":"field"}
+{"op":"properties","command":"c"} = {"error":"field"}
+"#;
+
+#[test]
+fn properties_in_force_are_told_by_their_names(rt: HostRuntime) {
+    assert_lines(&rt, PROPERTIES);
 }

@@ -4,8 +4,9 @@
 ghost use Rattle.std.specs.Prelude.{[]};
 
 use crate::names::own_command;
-use bh_base::{Answer, CallError, GroupId, Reply, Request, Text};
+use bh_base::{Answer, CallError, GroupId, Reply, Request, Text, Tuning};
 use bh_control::{Control, Conversation};
+use bh_in_force::InForce;
 use bh_port::script::script;
 use bh_scripts::samples::text;
 use bh_streams::{WatchedReader, WatchedWriter};
@@ -245,6 +246,12 @@ impl Control for OneGroup {
 
     ghost may_close = { λ _ _ _. Unit {0} };
 
+    ghost may_total = { λ _ _ _. Unit {0} };
+
+    ghost may_tune = { λ _ _ _ _. Unit {0} };
+
+    ghost may_force = { λ _ _ _. Unit {0} };
+
     fn groups(&self) -> &[Text<32>] {
         &self.names
     }
@@ -266,6 +273,18 @@ impl Control for OneGroup {
 
     fn close(&mut self, _group: GroupId, context: u64) -> Reply {
         Reply::Closed(context)
+    }
+
+    fn totals(&mut self, _group: GroupId, _command: u8) -> Reply {
+        Reply::Worn
+    }
+
+    fn tune(&mut self, _group: GroupId, _command: u8, _tuning: Tuning) -> Reply {
+        Reply::Worn
+    }
+
+    fn in_force(&self, _group: GroupId, _command: u8) -> Option<InForce> {
+        None
     }
 }
 

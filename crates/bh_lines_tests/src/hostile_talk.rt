@@ -3,8 +3,9 @@
 ghost use Rattle.std.specs.Prelude.{[]};
 
 use crate::names::own_command;
-use bh_base::{Answer, CallError, GroupId, Reply, Request, Text};
+use bh_base::{Answer, CallError, GroupId, Reply, Request, Text, Tuning};
 use bh_control::{Control, converse};
+use bh_in_force::InForce;
 use bh_lines::PortError;
 use bh_scripts::samples::text;
 use bh_streams::{WatchedReader, WatchedWriter};
@@ -85,6 +86,12 @@ impl Control for Full {
 
     ghost may_close = { λ _ _ _. Unit {0} };
 
+    ghost may_total = { λ _ _ _. Unit {0} };
+
+    ghost may_tune = { λ _ _ _ _. Unit {0} };
+
+    ghost may_force = { λ _ _ _. Unit {0} };
+
     fn groups(&self) -> &[Text<32>] {
         &self.names
     }
@@ -103,6 +110,18 @@ impl Control for Full {
 
     fn close(&mut self, _group: GroupId, _context: u64) -> Reply {
         Reply::Closed(0)
+    }
+
+    fn totals(&mut self, _group: GroupId, _command: u8) -> Reply {
+        Reply::Worn
+    }
+
+    fn tune(&mut self, _group: GroupId, _command: u8, _tuning: Tuning) -> Reply {
+        Reply::Worn
+    }
+
+    fn in_force(&self, _group: GroupId, _command: u8) -> Option<InForce> {
+        None
     }
 }
 

@@ -6,17 +6,17 @@ use Rattle.bh_port.proofs.Keeping.{either}
 use Rattle.std.proofs.lemmas.List.{get_or-map, length-map}
 use Rattle.std.proofs.lemmas.Option.{get_or_from_slice_get, slice_get_within}
 use Rattle.std.specs.List.{AllByRecursion}
-use Rattle.bh_base.specs.Commands.{command_count, is_known}
+use Rattle.bh_base.specs.Commands.{command_count}
 use Rattle.bh_base.specs.History.{Past, PastView, no_past, past_view, window_of}
 use Rattle.bh_base.specs.Machine.{circuit_of}
 use Rattle.bh_base.specs.Ranges.{IsCommandInRange, IsInRange}
-use Rattle.bh_base.specs.Runs.{IsSound, State, View, begun, is_worn, outcome_in, step, stepped, view}
+use Rattle.bh_base.specs.Runs.{IsSound, State, View, step, view}
 use Rattle.bh_base.specs.Seen.{no_past_view, view_after, view_reply}
 use Rattle.bh_base.specs.declared.event.Window.{Window}
 use Rattle.bh_base.specs.declared.props.CommandProps.{CommandProps}
 use Rattle.bh_base.specs.declared.reply.Reply.{Reply}
 use Rattle.bh_base.specs.declared.step.Op.{Op}
-use Rattle.bh_base.proofs.Kept.{outcome_keeps}
+use Rattle.bh_base.proofs.Views.{step_shape}
 use Rattle.bh_look.specs.declared.kind.Kind.{Kind}
 use Rattle.bh_look.specs.declared.lane.Lane.{Lane}
 use Rattle.bh_look.specs.declared.tally.Tally.{Tally}
@@ -26,14 +26,9 @@ use Rattle.bh_look.specs.Steps.{command_meant, tally_with, timed_out, with_told}
 use Rattle.bh_look.specs.Tallies.{with_kind, with_time, with_timeouts, with_trip}
 use Rattle.bh_look.proofs.Timeouts.{timeouts_differ}
 
--- a step keeps the properties of its group
-pub props_kept : (s : State) (o : Op) (now : ℕ) → (step s o now).state.present.props ≡ s.present.props
-props_kept s o now = at (is_known o s.present.props) (is_worn s.present)
-  where
-    at : (known worn : Bool) → (stepped known worn s (outcome_in s o now)).state.present.props ≡ s.present.props
-    at false worn = refl
-    at true true = refl
-    at true false = (outcome_keeps o _ (begun now s.present)).props
+-- a step leaves its group as many commands as it had
+pub count_kept : (s : State) (o : Op) (now : ℕ) → command_count (step s o now).state.present.props ≡ command_count s.present.props
+count_kept s o now = (step_shape s o now).count
 
 abbrev behind : {X : Type 0} → List X → List X
 behind [] = []

@@ -126,3 +126,5 @@ timeouts_differ v w (op.Collect serial) now k asks x y says is inside some befor
 timeouts_differ v w (op.FallbackDone serial end) now k asks x y says is inside some before after = no_more x.timeouts y.timeouts 0 (before.none says) (after.none says) refl
 timeouts_differ v w (op.Close context) now k asks x y says is inside some before after = no_more x.timeouts y.timeouts 0 (before.none says) (after.none says) refl
 timeouts_differ v w (op.Read command) now k asks x y says is inside some before after = no_more x.timeouts y.timeouts 0 (before.none says) (after.none says) refl
+timeouts_differ v w (op.Totals command) now k asks x y says is inside some before after = no_more x.timeouts y.timeouts 0 (before.none says) (after.none says) refl
+timeouts_differ v w (op.Tune command t) now k asks x y says is inside some before after = no_more x.timeouts y.timeouts 0 (before.none says) (after.none says) refl

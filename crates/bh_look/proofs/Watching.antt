@@ -1,5 +1,5 @@
 -- What is kept of a script with one act more.
-use Rattle.std.proofs.Common.{◌≡◌, ◌≢◌, inl, inr, ℕ, ◌+◌, ◌<◌, ◌≤◌, Bool, true, false, List, [], ◌∷◌, ◌++◌, length, set, Option, Some, None, Result, Ok, Err, refl, sym, ap, ◌∙◌, arith, append-nil, length-append, take, ◌⊎◌}
+use Rattle.std.proofs.Common.{◌≡◌, ◌≢◌, inl, inr, ℕ, ◌+◌, ◌<◌, ◌≤◌, Bool, true, false, List, [], ◌∷◌, ◌++◌, length, set, Option, Some, None, Result, Ok, Err, refl, sym, ap, subst, ◌∙◌, arith, append-nil, length-append, take, ◌⊎◌}
 use Rattle.std.specs.Prelude.{◌==◌, All, IsSome, OnOk, Vec, is_some, nat_lt, option_and_then, option_map, slice_get, if◌then◌else◌}
 use Rattle.std.specs.Option.{option_map_or}
 use Rattle.std.specs.declared.alloc.Global.{Global}
@@ -14,6 +14,7 @@ use Rattle.bh_base.specs.Runs.{State, own, state_after, step, view}
 use Rattle.bh_base.specs.declared.reply.Reply.{Reply}
 use Rattle.bh_base.specs.declared.step.Step.{Step}
 use Rattle.bh_base.proofs.Kept.{length-each_from}
+use Rattle.bh_base.proofs.Views.{step_ranges}
 use Rattle.bh_core.specs.CoreView.{view_at}
 use Rattle.bh_core.specs.Step.{IsStep}
 use Rattle.bh_port.specs.declared.act.LineAct.TheVariants as act
@@ -36,21 +37,31 @@ use Rattle.bh_look.specs.Scripts.{tally_done}
 use Rattle.bh_look.specs.Steps.{tally_in, tally_with}
 use Rattle.bh_look.specs.Tallies.{no_tally}
 use Rattle.bh_look.specs.Watched.{AreNewLanes, IsWatched, Lanes, commands_at, tally_at}
-use Rattle.bh_look.proofs.Adding.{props_kept, set_here, set_other}
+use Rattle.bh_look.proofs.Adding.{count_kept, set_here, set_other}
 
-after_props : (s : State) (xs : List Step) → (state_after s xs).present.props ≡ s.present.props
-after_props s [] = refl
-after_props s (x ∷ xs) = after_props (step s x.op x.now).state xs ∙ props_kept s x.op x.now
+after_count : (s : State) (xs : List Step) → command_count (state_after s xs).present.props ≡ command_count s.present.props
+after_count s [] = refl
+after_count s (x ∷ xs) = after_count (step s x.op x.now).state xs ∙ count_kept s x.op x.now
 
-group_props : (service : SettingsView) (props : GroupProps) (group : ℕ) (xs : List Step) → (group_after service props group xs).present.props ≡ props
+after_ranges : (s : State) (xs : List Step) → IsInRange s.present.props → IsInRange (state_after s xs).present.props
+after_ranges s [] ranges = ranges
+after_ranges s (x ∷ xs) ranges = after_ranges (step s x.op x.now).state xs (step_ranges s x.op x.now ranges)
+
+group_count : (service : SettingsView) (props : GroupProps) (group : ℕ) (xs : List Step) → command_count (group_after service props group xs).present.props ≡ command_count props
 unfolding group_after
-group_props service props group xs = after_props (opened_group service props) (own group xs)
+group_count service props group xs = after_count (opened_group service props) (own group xs)
 
--- the group of the settings that a group is like, with whose properties it was registered
+group_ranges : (service : SettingsView) (props : GroupProps) (group : ℕ) (xs : List Step) → IsInRange props → IsInRange (group_after service props group xs).present.props
+unfolding group_after
+group_ranges service props group xs ranges = after_ranges (opened_group service props) (own group xs) ranges
+
+-- the group of the settings that a group is like, with whose properties it was registered: it has as many commands, and what
+-- is in force is in range as those are
 pub record IsLike (service : SettingsView) (course : Course) (group : ℕ) (s : State) : Type 0 where
   pub like : List ℕ × GroupProps
   pub is : like_at service course.entries group ≡ Some like
-  pub props : s.present.props ≡ like.1
+  pub count : command_count s.present.props ≡ command_count like.1
+  pub ranges : IsInRange like.1 → IsInRange s.present.props
 
 pub like_of : (service : SettingsView) (course : Course) (group : ℕ) (s : State) → state_at service course group ≡ Some s → IsLike service course group s
 like_of service course group s is = elim (read (like_at service course.entries group)) [
@@ -58,13 +69,18 @@ like_of service course group s is = elim (read (like_at service course.entries g
   | inr at ↦ (
       let both : Some (after at.0) ≡ Some s = sym (ap (option_map after) at.1) ∙ is in
       let same : after at.0 ≡ s = cc in
-      record { like = at.0; is = at.1; props = ap (λ (t : State). t.present.props) (sym same) ∙ group_props service at.0.1 group course.steps })
+      record {
+        like = at.0;
+        is = at.1;
+        count = ap (λ (t : State). command_count t.present.props) (sym same) ∙ group_count service at.0.1 group course.steps;
+        ranges = λ ranges. subst (λ (t : State). IsInRange t.present.props) same (group_ranges service at.0.1 group course.steps ranges);
+      })
 ]
   where
     after : List ℕ × GroupProps → State
     after like = group_after service like.1 group course.steps
 
--- its properties are in range, as those of all groups of the settings
+-- the properties of that one are in range, as those of all groups of the settings
 pub like_in_range : (service : SettingsView) (o : Option Entry) (like : List ℕ × GroupProps) → All (λ (g : List ℕ × GroupProps). IsInRange g.1) service.groups → option_and_then (λ (e : Entry). slice_get service.groups e.like) o ≡ Some like → IsInRange like.1
 like_in_range service None like all is = absurd cc
 like_in_range service (Some e) like all is = every_at (λ (g : List ℕ × GroupProps). IsInRange g.1) service.groups e.like like all is

@@ -213,7 +213,9 @@ fn assert_kept<R: Abort>(rt: &R, journal: Journal) {
 
 #[test]
 fn a_journal_keeps_what_is_written(rt: HostRuntime) {
-    let mut journal = Journal::new(rt.alloc(), 2).expect(&rt, "memory");
+    let props = props(&rt);
+    let mut journal = Journal::new(rt.alloc(), &props, 2).expect(&rt, "memory");
+    assert!(&rt; (journal.props().slots, journal.limit()) == (props.slots, 2));
     let (step, reply) = entry(0, 10);
     journal.write(&step, &reply);
     assert_kept(&rt, journal);

@@ -1,21 +1,16 @@
 -- The groups by name are those of the core, whatever is done.
-use Rattle.std.proofs.Common.{◌≡◌, ◌≢◌, ◌⊎◌, inl, inr, ◌+◌, ◌*◌, ◌<◌, ◌≤◌, ℕ, suc, Bool, true, false, List, [], ◌∷◌, ◌++◌, length, Option, Some, None, refl, ◌∙◌, sym, ap, subst, arith, length-append}
+use Rattle.std.proofs.Common.{◌≡◌, ◌≢◌, ◌⊎◌, inl, inr, ◌+◌, ◌<◌, ◌≤◌, ℕ, Bool, true, false, List, [], ◌∷◌, ◌++◌, length, Option, Some, None, refl, ◌∙◌, sym, ap, subst, arith, length-append}
 use Rattle.std.proofs.lemmas.Bool.Decides.{nat_tests}
 use Rattle.std.proofs.lemmas.List.{length-map, length-set}
-use Rattle.std.proofs.lemmas.List.Sums.{sum_by-cons}
 use Rattle.std.proofs.lemmas.Option.{slice_get-map, slice_get_past}
-use Rattle.std.specs.List.{AllByRecursion}
 use Rattle.std.specs.Prelude.{◌==◌, is_some, option_map, slice_get}
-use Rattle.bh_base.specs.Commands.{is_known}
 use Rattle.bh_base.specs.Props.{GroupProps}
 use Rattle.bh_base.specs.declared.reply.Reply.{Reply}
-use Rattle.bh_base.specs.declared.step.Op.{Op}
 use Rattle.bh_base.specs.declared.step.Step.{Step}
-use Rattle.bh_base.specs.Runs.{View, begun, is_worn, opened, view}
-use Rattle.bh_base.specs.Seen.{view_after, view_outcome, view_recorded}
-use Rattle.bh_base.proofs.Kept.{length-each_from, outcome_keeps}
+use Rattle.bh_base.specs.Runs.{View, opened, view}
+use Rattle.bh_base.proofs.Kept.{length-each_from}
 use Rattle.bh_core.specs.Acts.{with_opened}
-use Rattle.bh_core.specs.CoreView.{CoreView, Life, living, most_groups, retired, shown_by, slots_in, slots_of_life, view_at, with_retired}
+use Rattle.bh_core.specs.CoreView.{CoreView, Life, living, retired, shown_by, view_at, with_retired}
 use Rattle.bh_core.specs.Step.{IsStep}
 use Rattle.bh_core.proofs.OneOfMany.{shown_living, slice_get-set_other, slice_get-set_same}
 use Rattle.bh_props.specs.SettingsView.{SettingsView}
@@ -23,23 +18,8 @@ use Rattle.bh_port.specs.declared.groups.Entry.{Entry}
 use Rattle.bh_port.specs.Course.{listed_entries, opened_core, opened_group}
 use Rattle.bh_port.specs.Entries.{entry_at, new_entry, unless_retired, without}
 use Rattle.bh_port.specs.Kept.{AreOf}
-use Rattle.bh_port.proofs.Lists.{all_at, each_at, push_before, push_here, push_past}
+use Rattle.bh_port.proofs.Lists.{each_at, push_before, push_here, push_past}
 use Rattle.bh_port.proofs.Naming.{entry-push, entry-pushed, entry-without_other, entry-without_same, length-without}
-
--- no step changes the properties
-view_props : (v : View) (o : Op) (now : ℕ) → (view_after v o now).present.props ≡ v.present.props
-view_props v o now = at (is_known o v.present.props) refl
-  where
-    recorded : (view_recorded v (view_outcome v o now)).present.props ≡ v.present.props
-    recorded = (outcome_keeps o _ (begun now v.present)).props
-
-    worn : (b : Bool) → is_worn v.present ≡ b → is_known o v.present.props ≡ true → (view_after v o now).present.props ≡ v.present.props
-    worn true is known = grind (arith, is, known)
-    worn false is known = grind (arith, is, known, recorded)
-
-    at : (b : Bool) → is_known o v.present.props ≡ b → (view_after v o now).present.props ≡ v.present.props
-    at true known = worn (is_worn v.present) refl known
-    at false known = grind (arith, known)
 
 pub either : (m n : ℕ) → (m ≡ n) ⊎ (m ≢ n)
 either m n = cases (m == n) refl
@@ -52,39 +32,27 @@ pub read : {X : Type 0} (o : Option X) → (o ≡ None) ⊎ ((x : X) × (o ≡ S
 read None = inl refl
 read (Some x) = inr (x, refl)
 
--- what a group shows after a step is of the group that it was, and of its properties
-record Follows (old new : CoreView) (group : ℕ) : Type 0 where
-  pub there : is_some (view_at new group) ≡ is_some (view_at old group)
-  pub props : (v : View) → view_at new group ≡ Some v → (w : View) × (view_at old group ≡ Some w) × (v.present.props ≡ w.present.props)
+-- the group is there after a step where it was there before
+abbrev AreAlike : CoreView → CoreView → ℕ → Type 0
+AreAlike old new group = is_some (view_at new group) ≡ is_some (view_at old group)
 
-same_follows : (old new : CoreView) (group : ℕ) → view_at new group ≡ view_at old group → Follows old new group
-same_follows old new group same = record { there = ap is_some same; props = λ v shown. (v, sym same ∙ shown, refl) }
-
-step_follows : (old new : CoreView) (x : Step) (r : Reply) (group : ℕ) → IsStep old x r new → Follows old new group
-step_follows old new x r group stepped = elim (either group x.group.0) [
-  | inr differ ↦ same_follows old new group (ap shown_by (stepped.others group differ))
-  | inl is ↦ subst (Follows old new) (sym is) own
+step_keeps : (old new : CoreView) (x : Step) (r : Reply) (group : ℕ) → IsStep old x r new → AreAlike old new group
+step_keeps old new x r group stepped = elim (either group x.group.0) [
+  | inr differ ↦ ap is_some (ap shown_by (stepped.others group differ))
+  | inl is ↦ subst (AreAlike old new) (sym is) own
 ]
   where
-    own : Follows old new x.group.0
+    own : AreAlike old new x.group.0
     own = elim (read (view_at old x.group.0)) [
-      | inl none ↦ same_follows old new x.group.0 (ap (λ c. view_at c x.group.0) (stepped.unknown_same none))
-      | inr at ↦ (let seen = (stepped.seen at.0 at.1).1 in record {
-        there = ap is_some seen ∙ sym (ap is_some at.1);
-        props = λ v shown. (at.0, at.1, (let both : Some v ≡ Some (view_after at.0 x.op x.now) = sym shown ∙ seen in let same : v ≡ view_after at.0 x.op x.now = cc in ap (λ (k : View). k.present.props) same) ∙ view_props at.0 x.op x.now);
-      })
+      | inl none ↦ ap is_some (ap (λ c. view_at c x.group.0) (stepped.unknown_same none))
+      | inr at ↦ ap is_some (stepped.seen at.0 at.1).1 ∙ sym (ap is_some at.1)
     ]
 
 -- a step
 pub of_step : (old new : CoreView) (es : List Entry) (x : Step) (r : Reply) → IsStep old x r new → AreOf old es → AreOf new es
 of_step old new es x r stepped kept = record {
   count = stepped.count ∙ kept.count;
-  there = λ number. (step_follows old new x r number stepped).there ∙ kept.there number;
-  slots = λ number v shown. (
-      let was = (step_follows old new x r number stepped).props v shown in
-      let few = kept.slots number was.0 was.1 in
-      omega (arith, few, ap (λ (p : GroupProps). p.slots) was.2));
-  limit = stepped.limit ∙ kept.limit;
+  there = λ number. step_keeps old new x r number stepped ∙ kept.there number;
 }
 
 -- what is seen of the groups with one more
@@ -101,21 +69,13 @@ pub opened_here : (old : CoreView) (p : GroupProps) (limit : ℕ) → view_at (w
 opened_here old p limit = ap shown_by (push_here old.lives (living (view (opened p limit))))
 
 -- one group more
-pub of_opened : (old new : CoreView) (es : List Entry) (name : List ℕ) (place : ℕ) (p : GroupProps) (limit : ℕ) → p.slots ≤ 4096 → new ≡ with_opened p limit old → AreOf old es → AreOf new (es ++ new_entry name place ∷ [])
-of_opened old new es name place p limit few is kept = subst (λ c. AreOf c (es ++ new_entry name place ∷ [])) (sym is) (record {
+pub of_opened : (old new : CoreView) (es : List Entry) (name : List ℕ) (place : ℕ) (p : GroupProps) (limit : ℕ) → new ≡ with_opened p limit old → AreOf old es → AreOf new (es ++ new_entry name place ∷ [])
+of_opened old new es name place p limit is kept = subst (λ c. AreOf c (es ++ new_entry name place ∷ [])) (sym is) (record {
   count = omega (arith, length-append old.lives (living (view (opened p limit)) ∷ []), length-append es (new_entry name place ∷ []), kept.count);
   there = λ number. elim (either number (length old.lives)) [
     | inl here ↦ subst (λ n. is_some (view_at (with_opened p limit old) n) ≡ is_some (entry_at (es ++ new_entry name place ∷ []) n)) (sym here) (ap is_some (opened_here old p limit) ∙ sym (ap (λ n. is_some (entry_at (es ++ new_entry name place ∷ []) n)) kept.count ∙ ap is_some (entry-pushed es name place)))
     | inr differ ↦ ap is_some (opened_other old p limit number differ) ∙ kept.there number ∙ sym (ap is_some (entry-push es (new_entry name place) number (λ h. differ (h ∙ sym kept.count))))
   ];
-  slots = λ number v shown. elim (either number (length old.lives)) [
-    | inl here ↦ (
-        let both : Some v ≡ Some (view (opened p limit)) = sym shown ∙ ap (view_at (with_opened p limit old)) here ∙ opened_here old p limit in
-        let same : v ≡ view (opened p limit) = cc in
-        omega (arith, few, ap (λ (k : View). k.present.props.slots) same))
-    | inr differ ↦ kept.slots number v (sym (opened_other old p limit number differ) ∙ shown)
-  ];
-  limit = kept.limit;
 })
 
 -- what is seen of the groups with one fewer
@@ -133,11 +93,6 @@ of_retired old new es n v shown is kept = subst (λ c. AreOf c (without n es)) (
     | inl here ↦ subst (λ k. is_some (view_at (with_retired n v old) k) ≡ is_some (entry_at (without n es) k)) (sym here) (ap is_some (retired_here n v old shown) ∙ sym (ap is_some (entry-without_same es n)))
     | inr differ ↦ ap is_some (retired_other n v old number differ) ∙ kept.there number ∙ sym (ap is_some (entry-without_other es n number differ))
   ];
-  slots = λ number w seen. elim (either number n) [
-    | inl here ↦ absurd (let both : None ≡ Some w = sym (retired_here n v old shown) ∙ sym (ap (view_at (with_retired n v old)) here) ∙ seen in cc)
-    | inr differ ↦ kept.slots number w (sym (retired_other n v old number differ) ∙ seen)
-  ];
-  limit = kept.limit;
 })
 
 -- ---- the groups of the settings
@@ -168,34 +123,11 @@ opened_at service number = elim (read (slice_get service.groups number)) [
     life group = living (shown group)
 
 -- all groups of the settings are new
-pub of_listed : (service : SettingsView) → AllByRecursion (λ group. group.1.slots ≤ 4096) service.groups → AreOf (opened_core service) (listed_entries service)
-of_listed service few = record {
+pub of_listed : (service : SettingsView) → AreOf (opened_core service) (listed_entries service)
+of_listed service = record {
   count = length-map service.groups _ ∙ sym (length-each_from 0 _ service.groups);
   there = λ number. elim (read (slice_get service.groups number)) [
     | inl none ↦ ap is_some (opened_at service number ∙ ap (option_map _) none) ∙ sym (ap is_some (listed_at service number ∙ ap (option_map _) none))
     | inr at ↦ ap is_some (opened_at service number ∙ ap (option_map _) at.1) ∙ sym (ap is_some (listed_at service number ∙ ap (option_map _) at.1))
   ];
-  slots = λ number v shown. elim (read (slice_get service.groups number)) [
-    | inl none ↦ absurd (let both : Some v ≡ None = sym shown ∙ opened_at service number ∙ ap (option_map _) none in cc)
-    | inr at ↦ (
-        let both : Some v ≡ Some (view (opened_group service at.0.1)) = sym shown ∙ opened_at service number ∙ ap (option_map _) at.1 in
-        let same : v ≡ view (opened_group service at.0.1) = cc in
-        omega (arith, all_at (λ group. group.1.slots ≤ 4096) service.groups number at.0 few at.1, ap (λ (k : View). k.present.props.slots) same))
-  ];
-  limit = refl;
 }
-
--- ---- there are always slots for one group more
-
-slots_few : (ls : List Life) → ((number : ℕ) (l : Life) → slice_get ls number ≡ Some l → slots_of_life l ≤ 4096) → slots_in ls ≤ 4096 * length ls
-slots_few [] few = omega arith
-slots_few (l ∷ ls) few = (let rest = slots_few ls (λ number. few (suc number)) in omega (arith, rest, few 0 l refl, sum_by-cons slots_of_life l ls))
-
-life_few : (core : CoreView) (es : List Entry) → AreOf core es → (number : ℕ) (l : Life) → slice_get core.lives number ≡ Some l → slots_of_life l ≤ 4096
-life_few core es kept number (living v) at = kept.slots number v (ap shown_by at)
-life_few core es kept number (retired p limit) at = omega arith
-
-pub slots_enough : (core : CoreView) (es : List Entry) (slots : ℕ) → AreOf core es → slots ≤ 4096 → length core.lives < most_groups → core.slot_limit < slots_in core.lives + slots → ⊥
-slots_enough core es slots kept few fewer beyond =
-    let sum = slots_few core.lives (life_few core es kept) in
-    omega (arith, sum, few, fewer, beyond, kept.limit)

@@ -38,23 +38,13 @@ pub all_push : {X : Type 0} (P : X → Type 0) (xs : List X) (x : X) → AllByRe
 all_push P [] x all here = (here, tt)
 all_push P (y ∷ ys) x all here = (all.0, all_push P ys x all.1 here)
 
--- what holds of all holds of the one at a place
-pub all_at : {X : Type 0} (P : X → Type 0) (xs : List X) (i : ℕ) (x : X) → AllByRecursion P xs → slice_get xs i ≡ Some x → P x
-all_at P [] i x all at = absurd cc
-all_at P (y ∷ ys) zero x all at = (let same : y ≡ x = cc in subst P same all.0)
-all_at P (y ∷ ys) (suc i) x all at = all_at P ys i x all.1 at
-
 pub all_weaker : {X : Type 0} (P Q : X → Type 0) (xs : List X) → ((x : X) → P x → Q x) → AllByRecursion P xs → AllByRecursion Q xs
 all_weaker P Q [] weaker all = tt
 all_weaker P Q (x ∷ xs) weaker all = (weaker x all.0, all_weaker P Q xs weaker all.1)
 
--- the same by places
+-- what holds at each place holds of the one at a place
 pub every_at : {X : Type 0} (P : X → Type 0) (xs : List X) (i : ℕ) (x : X) → All P xs → slice_get xs i ≡ Some x → P x
 every_at P xs i x all at = subst P (get_or_from_slice_get xs i x x at) (all i x (slice_get_within xs i x at))
-
-pub every_of : {X : Type 0} (P : X → Type 0) (xs : List X) → All P xs → AllByRecursion P xs
-every_of P [] all = tt
-every_of P (x ∷ xs) all = (all 0 x (omega arith), every_of P xs (λ k d inside. all (suc k) d (omega (arith, inside))))
 
 pub each-map : {X Y Z : Type 0} (from : ℕ) (f : ℕ → Y → Z) (g : X → Y) (xs : List X) → each_from from f (map g xs) ≡ each_from from (λ n x. f n (g x)) xs
 each-map from f g [] = refl

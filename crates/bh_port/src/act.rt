@@ -133,7 +133,7 @@ fn act_at(
 }
 
 /// Tells of a new group of the name, like the group of the settings that has the other one. `Name` comes where it cannot
-/// have the name, then `Like` where the settings list no group of the other one, and `Groups` where 10,000 groups were
+/// have the name, then `Like` where the settings list no group of the other one, and `Groups` where 2^40 groups were
 /// registered.
 fn tell_registration(
     settings: &Settings,

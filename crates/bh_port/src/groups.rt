@@ -30,8 +30,8 @@ use std::marker::Model;
 pub struct Entry {
     /// The name of the group, and of its own command.
     pub name: Text<32>,
-    /// The place in the settings, from 0, of the group whose properties and further commands it has: its own, unless a
-    /// line registered it.
+    /// The place in the settings, from 0, of the group with whose properties it began, and whose further commands it has: its
+    /// own, unless a line registered it.
     pub like: u64,
     /// Whether it is there: it was not retired.
     pub live: bool,
@@ -180,8 +180,9 @@ impl Groups {
         self.core.apply_to(group, now, op, reply);
     }
 
-    /// Registers a group of the name, with the properties of the group of the settings at the place. It fails only for
-    /// want of memory, and nothing has changed then.
+    /// Registers a group of the name, with the properties that the settings have for the group at the place, whatever steps
+    /// changed in that group. It fails only for want of memory, and nothing has changed then: more slots than the core may have
+    /// would be terabytes.
     pub(crate) fn register(
         &mut self,
         settings: &Settings,
@@ -209,9 +210,8 @@ impl Groups {
                 name,
                 like,
             ),
-            Err(RegisterError::Memory) => return Err(AllocError),
+            Err(RegisterError::Memory | RegisterError::TooManySlots) => return Err(AllocError),
             Err(RegisterError::TooManyGroups) => unreachable!(),
-            Err(RegisterError::TooManySlots) => unreachable!(),
         }
         Ok(())
     }

@@ -36,7 +36,7 @@ const MOST_READS: u64 = 1 << 40;
 ///
 /// A line that says a step is answered by the line of the step's reply. One that registers or retires a group is answered
 /// by whether it did; a name then means the group that was registered last under it, as long as it was not retired. A
-/// faulty line is answered by the line of its fault; it changes nothing, and the run goes on. Each group has its own
+/// faulty line is answered by the line of its fault; it changes nothing, and the run goes on. Each group begins with its own
 /// properties, or those of the group of the settings that it is like, and may do `MOST_STEPS` steps, or fewer where fewer
 /// may be audited.
 ///

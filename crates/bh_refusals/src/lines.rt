@@ -4,14 +4,15 @@ ghost use Rattle.std.specs.Prelude.{◌≡◌, []};
 ghost use Rattle.bh_lines.specs.Names.{command_number, is_own_name};
 
 use crate::refusing::{assert_told, give_up};
-use bh_base::{Answer, CallError, GroupId, Reply, Request, Text};
+use bh_base::{Answer, CallError, GroupId, Reply, Request, Text, Tuning};
 use bh_control::{Control, Conversation};
 use bh_cut::cut_groups;
+use bh_in_force::InForce;
 use bh_lines::PortError;
 use bh_port::script::script;
 use bh_props::{Settings, read};
 use bh_scripts::refusing::{MANY, refuse};
-use bh_scripts::samples::text;
+use bh_scripts::samples::{command, text};
 use bh_streams::{WatchedReader, WatchedWriter};
 use std::alloc::{AllocError, Global};
 use std::process::Abort;
@@ -157,6 +158,12 @@ impl Control for MadeUp {
 
     ghost may_close = { λ _ _ _. Unit {0} };
 
+    ghost may_total = { λ _ _ _. Unit {0} };
+
+    ghost may_tune = { λ _ _ _ _. Unit {0} };
+
+    ghost may_force = { λ _ _ _. Unit {0} };
+
     fn groups(&self) -> &[Text<32>] {
         &self.names
     }
@@ -176,6 +183,24 @@ impl Control for MadeUp {
     fn close(&mut self, group: GroupId, _context: u64) -> Reply {
         Reply::Closed(group.0)
     }
+
+    fn totals(&mut self, _group: GroupId, _command: u8) -> Reply {
+        Reply::Worn
+    }
+
+    fn tune(&mut self, _group: GroupId, _command: u8, _tuning: Tuning) -> Reply {
+        Reply::Tuned
+    }
+
+    fn in_force(&self, _group: GroupId, _command: u8) -> Option<InForce> {
+        Some(InForce {
+            slots: 64,
+            core: 10,
+            max_queue: None,
+            queue_threshold: 5,
+            command: command(),
+        })
+    }
 }
 
 fn made_up() -> MadeUp {
@@ -189,6 +214,9 @@ const CONTROL: &str = r#"{"op":"groups"} -> {"groups":["a","b"],"reply":"groups"
 {"op":"metrics","group":"b"} -> {"reply":"worn"}
 {"op":"call","group":"a","arg":"x","context":1,"key":"k"} -> {"body":"x","reply":"value"}
 {"op":"close","group":"b","context":1} -> {"released":1,"reply":"closed"}
+{"op":"totals","group":"b"} -> {"reply":"worn"}
+{"op":"tune","group":"b","property":"coreSize","value":2} -> {"reply":"tuned"}
+{"op":"properties","group":"b"} -> {"properties":{"circuitBreaker.enabled":true,"circuitBreaker.errorThresholdPercentage":50,"circuitBreaker.forceClosed":false,"circuitBreaker.forceOpen":false,"circuitBreaker.requestVolumeThreshold":20,"circuitBreaker.sleepWindowInMilliseconds":5000,"coreSize":10,"execution.isolation.semaphore.maxConcurrentRequests":10,"execution.isolation.strategy":"THREAD","execution.isolation.thread.timeoutInMilliseconds":1000,"execution.timeout.enabled":true,"fallback.enabled":true,"fallback.isolation.semaphore.maxConcurrentRequests":10,"maxQueueSize":-1,"metrics.healthSnapshot.intervalInMilliseconds":500,"metrics.rollingStats.numBuckets":10,"metrics.rollingStats.timeInMilliseconds":10000,"queueSizeRejectionThreshold":5,"requestCache.enabled":true,"service.slots":64},"reply":"properties"}
 {"op":"groups","more":{"is read":["as",{"a":"tree"}]}} -> {"groups":["a","b"],"reply":"groups"}
 {"op":"jump"} -> {"error":"op"}"#;
 

@@ -2,10 +2,11 @@
 use Rattle.std.proofs.Common.{◌≡◌, ◌++◌, ◌∷◌, [], ℕ, List, Some, None, codes, decimal, append_assoc, ap, ap₂, ◌∙◌, sym}
 use Rattle.json.specs.Print.{escape_byte, escape, quoted}
 use Rattle.serde_json.specs.Written.{compact_text}
+use Rattle.bh_base.specs.declared.event.Counts.{Counts}
 use Rattle.bh_base.specs.declared.reply.Cause.{Cause}
 use Rattle.bh_base.specs.declared.reply.FallbackFault.{FallbackFault}
 use Rattle.bh_base.specs.declared.reply.Metrics.{Metrics}
-use Rattle.bh_replies.specs.ReplyLine.{cause_word, fallback_word, circuit_word, assigned_data, error_answer_data, fallback_value_data, events_data, metrics_data, value_data}
+use Rattle.bh_replies.specs.ReplyLine.{cause_word, fallback_word, circuit_word, assigned_data, error_answer_data, fallback_value_data, events_data, metrics_data, totals_data, value_data}
 use Rattle.bh_replies.specs.FaultLine.{error_data}
 use Rattle.bh_replies.specs.ToldLine.{registered_data}
 
@@ -53,3 +54,7 @@ pub metrics-text : (m : Metrics) (front : List ℕ) → front ≡ codes ",\"circ
     ++ ((codes ",\"reply\":\"metrics\",\"total\":" ++ decimal m.total) ++ codes "}"))))))) ≡ compact_text (metrics_data m)
 unfolding escape_byte
 metrics-text m front is = rw is (simp append_assoc)
+
+pub totals-text : (counts : Counts) → codes "{\"events\":" ++ (compact_text (events_data counts) ++ codes ",\"reply\":\"totals\"}") ≡ compact_text (totals_data counts)
+unfolding escape_byte
+totals-text counts = simp append_assoc

@@ -83,6 +83,10 @@ metrics_data m = object (
     member (codes "events") (events_data m.counts) (number_member (codes "free") m.free (number_member (codes "percent") m.percent (
     number_member (codes "queued") m.queued (text_member (codes "reply") (codes "metrics") (number_member (codes "total") m.total no_members)))))))))
 
+-- the object of the numbers of all events
+abbrev pub totals_data : Counts → Data
+totals_data counts = object (member (codes "events") (events_data counts) (text_member (codes "reply") (codes "totals") no_members))
+
 -- the object of the value of a run
 abbrev pub value_data : List ℕ → Data
 value_data body = object (text_member (codes "body") body (text_member (codes "reply") (codes "value") no_members))
@@ -150,6 +154,9 @@ reply_data command reply.NoTicket = named (codes "no-ticket")
 reply_data command reply.NotInFallback = named (codes "not-in-fallback")
 reply_data command (reply.Closed n) = closed_data n
 reply_data command (reply.Metrics metrics) = metrics_data metrics
+reply_data command (reply.Totals counts) = totals_data counts
+reply_data command reply.Tuned = named (codes "tuned")
+reply_data command reply.OutOfRange = named (codes "out-of-range")
 reply_data command reply.Worn = named (codes "worn")
 reply_data command reply.NoCommand = named (codes "no-command")
 reply_data command reply.NoGroup = named (codes "no-group")

@@ -27,6 +27,8 @@ fn fault_text(fault: Fault) -> &'static str
         Fault::Group => "{\"error\":\"group\"}\n",
         Fault::Command => "{\"error\":\"command\"}\n",
         Fault::Long => "{\"error\":\"long\"}\n",
+        Fault::Property => "{\"error\":\"property\"}\n",
+        Fault::Range => "{\"error\":\"range\"}\n",
         Fault::Name => "{\"error\":\"name\"}\n",
         Fault::Like => "{\"error\":\"like\"}\n",
         Fault::Groups => "{\"error\":\"groups\"}\n",

@@ -6,7 +6,7 @@ ghost use Rattle.serde_json.specs.Read.{max_depth, read};
 ghost use Rattle.serde_json.specs.View.{view};
 ghost use Rattle.serde_json.specs.Written.{comma_if, has_float, compact_text};
 ghost use Rattle.json.specs.Print.{escape, quoted};
-ghost use Rattle.bh_replies.specs.ReplyLine.{cause_word, fallback_word, circuit_word, events_data, fallback_due_data, assigned_data, expired_data, run_fallback_data, closed_data, value_data, fallback_value_data, error_answer_data, metrics_data, answer_data, reply_data, reply_line, json_line};
+ghost use Rattle.bh_replies.specs.ReplyLine.{cause_word, fallback_word, circuit_word, events_data, fallback_due_data, assigned_data, expired_data, run_fallback_data, closed_data, value_data, fallback_value_data, error_answer_data, metrics_data, totals_data, answer_data, reply_data, reply_line, json_line};
 ghost use Rattle.bh_replies.specs.FaultLine.{error_data};
 ghost use Rattle.bh_replies.specs.Puts.{Puts, PutsObject, count_text, counts_text, counts_most};
 
@@ -119,6 +119,9 @@ pub(crate) fn put_reply_object(
         Reply::NotInFallback => put_text(bytes, r#"{"reply":"not-in-fallback"}"#),
         Reply::Closed(count) => put_closed(bytes, *count),
         Reply::Metrics(metrics) => put_metrics(bytes, metrics),
+        Reply::Totals(counts) => put_totals(bytes, counts),
+        Reply::Tuned => put_text(bytes, r#"{"reply":"tuned"}"#),
+        Reply::OutOfRange => put_text(bytes, r#"{"reply":"out-of-range"}"#),
         Reply::Worn => put_text(bytes, r#"{"reply":"worn"}"#),
         Reply::NoCommand => put_text(bytes, r#"{"reply":"no-command"}"#),
         Reply::NoGroup => put_text(bytes, r#"{"reply":"no-group"}"#),
@@ -322,6 +325,15 @@ fn put_metrics(bytes: &mut Vec<u8>, metrics: &Metrics) -> Result<(), AllocError>
     put_with_number(bytes, r#","percent":"#, metrics.percent)?;
     put_with_number(bytes, r#","queued":"#, metrics.queued)?;
     put_numbered(bytes, r#","reply":"metrics","total":"#, metrics.total)
+}
+
+/// How many events of each kind there were in all.
+fn put_totals(bytes: &mut Vec<u8>, counts: &Counts) -> Result<(), AllocError>
+    ensures { Puts result bytes.old bytes.new (compact_text (totals_data counts.now)) 700 }
+{
+    put_text(bytes, r#"{"events":"#)?;
+    put_events(bytes, counts)?;
+    put_text(bytes, r#","reply":"totals"}"#)
 }
 
 /// The names of the kinds of events, in their order, each as it stands before its count.

@@ -7,4 +7,5 @@ mod health;
 pub mod ring;
 mod stretch;
 
+pub use counts::{no_counts, raise};
 pub use ring::Ring;

@@ -1,7 +1,7 @@
 //! Steps as texts: the group, the moment and the operation.
 
 use crate::words::{number, split_word};
-use bh_base::{FallbackEnd, GroupId, Op, Request, Step, Text};
+use bh_base::{FallbackEnd, GroupId, Op, Request, Step, Text, Tuning};
 
 /// The number of a command, or the last that there may be.
 fn command(word: &str) -> u8 {
@@ -41,6 +41,36 @@ fn fall_back(serial: u64, body: &str) -> Option<Op> {
     Some(Op::FallbackDone { serial, end })
 }
 
+/// The property of the name, by the name of its variant in lower case, with the number, or the truth of a number above 0.
+fn tuning(name: &str, value: u64) -> Option<Tuning> {
+    let truth = value > 0;
+    Some(match name {
+        "timeout" => Tuning::Timeout(value),
+        "timeout-on" => Tuning::TimeoutOn(truth),
+        "semaphore" => Tuning::Semaphore(value),
+        "fallback-permits" => Tuning::FallbackPermits(value),
+        "fallback-on" => Tuning::FallbackOn(truth),
+        "circuit-on" => Tuning::CircuitOn(truth),
+        "volume" => Tuning::Volume(value),
+        "sleep-window" => Tuning::SleepWindow(value),
+        "error-percent" => Tuning::ErrorPercent(value),
+        "force-open" => Tuning::ForceOpen(truth),
+        "force-closed" => Tuning::ForceClosed(truth),
+        "health-interval" => Tuning::HealthInterval(value),
+        "cache-on" => Tuning::CacheOn(truth),
+        "core-size" => Tuning::CoreSize(value),
+        "queue-threshold" => Tuning::QueueThreshold(value),
+        _ => return None,
+    })
+}
+
+/// Changes a property of the command: its name, and the value.
+fn tune(command: u8, words: &str) -> Option<Op> {
+    let (name, value) = split_word(words);
+    let tuning = tuning(name, number(value))?;
+    Some(Op::Tune { command, tuning })
+}
+
 /// An operation that says more than its name.
 fn operation_of(name: &str, rest: &str) -> Option<Op> {
     match name {
@@ -56,6 +86,14 @@ fn operation_of(name: &str, rest: &str) -> Option<Op> {
         "read-of" => Some(Op::Read {
             command: command(rest),
         }),
+        "totals-of" => Some(Op::Totals {
+            command: command(rest),
+        }),
+        "tune" => tune(0, rest),
+        "tune-of" => {
+            let (of, rest) = split_word(rest);
+            tune(command(of), rest)
+        }
         "collect" => Some(Op::Collect {
             serial: number(rest),
         }),
@@ -83,6 +121,7 @@ fn operation(words: &str) -> Option<Op> {
         "start" => Some(Op::Start),
         "expire" => Some(Op::Expire),
         "read" => Some(Op::Read { command: 0 }),
+        "totals" => Some(Op::Totals { command: 0 }),
         _ => {
             let (name, rest) = split_word(words);
             operation_of(name, rest)
@@ -94,7 +133,8 @@ fn operation(words: &str) -> Option<Op> {
 ///
 /// The operations are `start`, `expire`, `read`, `read-of COMMAND`, `submit ARG`, `submit-of COMMAND ARG`,
 /// `cached-of COMMAND CONTEXT/KEY ARG`, `finish SERIAL BODY`, `fail SERIAL`,
-/// `fall-back SERIAL BODY`, `collect SERIAL` and `close CONTEXT`.
+/// `fall-back SERIAL BODY`, `collect SERIAL`, `close CONTEXT`, `totals`, `totals-of COMMAND`, `tune PROPERTY VALUE` and
+/// `tune-of COMMAND PROPERTY VALUE`.
 pub fn step_of(words: &str) -> Option<Step> {
     let (group, rest) = split_word(words);
     let (now, rest) = split_word(rest);

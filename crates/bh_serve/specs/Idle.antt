@@ -1,5 +1,5 @@
 -- How long a connection may keep the service waiting, and why it ended.
-use Rattle.std.specs.Prelude.{⊤, ℕ, ◌+◌, ◌-◌, ◌^◌, List, length, slice_get, Bool, false, not, ◌==◌, ◌&&◌, Option, Some, None, Result, Ok, Err, min, if◌then◌else◌}
+use Rattle.std.specs.Prelude.{⊤, ℕ, ◌+◌, ◌-◌, ◌^◌, List, length, slice_get, Bool, false, not, ◌==◌, ◌&&◌, nat_le, Option, Some, None, Result, Ok, Err, min, if◌then◌else◌}
 use Rattle.std.specs.List.{list_any}
 use Rattle.bh_serve.specs.declared.connection.ConnectionFault.{ConnectionFault}
 use Rattle.bh_serve.specs.declared.connection.ConnectionFault.TheVariants.{Idle, Slow, Port}
@@ -42,6 +42,15 @@ after_last (Some last) bytes waited c = record c { half_line = not (last == 10);
 
 abbrev pub after_read : List ℕ → ℕ → ClockView → ClockView
 after_read bytes waited c = after_last (slice_get bytes (length bytes - 1)) bytes waited c
+
+-- whether the byte is a capital letter
+abbrev pub is_capital : Option ℕ → Bool
+is_capital None = false
+is_capital (Some byte) = nat_le 65 byte && nat_le byte 90
+
+-- the first bytes of a connection begin as a request of HTTP does, with the name of its method, and as no line that says anything
+abbrev pub begins_as_http : List ℕ → Bool
+begins_as_http bytes = is_capital (slice_get bytes 0)
 
 -- what a write that had to wait for room tells of its client: it was waited for in vain, or does not read while the service stops
 abbrev pub fault_of_wait : Bool → Bool → Option ConnectionFault

@@ -1,5 +1,6 @@
 -- What a service behind a port may answer, and what it was asked.
 use Rattle.std.specs.Prelude.{◌≡◌, ◌≢◌, ℕ, ◌<◌, true, List, Option, Some, None, Result, Err, if◌then◌else◌}
+use Rattle.bh_base.specs.declared.props.Tuning.{Tuning}
 use Rattle.bh_base.specs.declared.step.GroupId.{GroupId}
 use Rattle.bh_base.specs.declared.step.Op.{Op}
 use Rattle.bh_base.specs.declared.step.Request.{Request}
@@ -26,6 +27,14 @@ MayTell o told = (can_reply o told ≡ true) × (told ≢ reply.NoCommand)
 -- a reply that a Read of the group's command of the number can get: its own one, number 0, is not missing
 abbrev pub MayShow : GroupId → ℕ → Reply → Type 0
 MayShow group command told = (can_reply (op.Read command) told ≡ true) × (told ≡ reply.NoCommand → 0 < command)
+
+-- a reply that a Totals of the group's command of the number can get
+abbrev pub MayTotal : GroupId → ℕ → Reply → Type 0
+MayTotal group command told = (can_reply (op.Totals command) told ≡ true) × (told ≡ reply.NoCommand → 0 < command)
+
+-- a reply that a Tune of the group's command of the number can get
+abbrev pub MayTune : GroupId → ℕ → Tuning → Reply → Type 0
+MayTune group command tuning told = (can_reply (op.Tune command tuning) told ≡ true) × (told ≡ reply.NoCommand → 0 < command)
 
 -- a reply that a Close can get
 abbrev pub MayClose : GroupId → ℕ → Reply → Type 0

@@ -1,10 +1,10 @@
 //! One connection: what it reads and writes, and why it ends.
 
-ghost use Rattle.std.specs.Prelude.{◌≡◌, IfErr, IfSome, IsErr};
+ghost use Rattle.std.specs.Prelude.{◌≡◌, ◌≤◌, length, IfErr, IfSome, IsErr};
 ghost use Rattle.std.specs.Io.{ReadsAtMost, WritesAtMost};
 ghost use Rattle.bh_lines.specs.declared.port_error.PortError.TheVariants as errors;
 ghost use Rattle.bh_serve.specs.declared.connection.ConnectionFault.TheVariants as faults;
-ghost use Rattle.bh_serve.specs.Idle.{end_of, fault_of_wait};
+ghost use Rattle.bh_serve.specs.Idle.{begins_as_http, end_of, fault_of_wait};
 
 use crate::acceptor::Acceptor;
 use crate::idle_clock::IdleClock;
@@ -40,6 +40,9 @@ pub enum ConnectionFault {
     /// It sent, but no whole line, for as long as a connection may.
     #[error("fault: slow")]
     Slow,
+    /// Its first line begins as a request of HTTP does: a page in a browser, say, sent it.
+    #[error("fault: http")]
+    Http,
     /// Its conversation could not go on.
     #[error("{0}")]
     Port(PortError),
@@ -75,6 +78,17 @@ fn fault_of_wait(in_vain: bool, told: bool) -> Option<ConnectionFault>
     }
 }
 
+/// Whether the first bytes of a connection begin as a request of HTTP does: with a capital letter, as no line does that says
+/// anything.
+fn begins_as_http(bytes: &[u8]) -> bool
+    ensures { result ≡ begins_as_http bytes.now }
+{
+    match bytes.first() {
+        Some(byte) => *byte >= b'A' && *byte <= b'Z',
+        None => false,
+    }
+}
+
 /// Makes a connection ready for `Incoming` and `Outgoing`: it is read from by waiting, and a write of it ends soon where
 /// there is no room. The error is `Port(Read)`, where the system refuses the limit of a write.
 pub fn ready(stream: &TcpStream) -> Result<(), ConnectionFault>
@@ -89,6 +103,9 @@ pub fn ready(stream: &TcpStream) -> Result<(), ConnectionFault>
 
 /// What a client sends. A read waits as long as the clock of the connection leaves, and notes why it ended where it waited in
 /// vain. What the only connection of a service finds before it sleeps counts as waited for no time.
+///
+/// A connection that begins as a request of HTTP does is read no further: a page of a foreign site can have a browser send
+/// one to a port of its own machine, and the lines of its body would be done.
 #[derive(Drop)]
 pub struct Incoming<'e, R> {
     rt: &'e R,
@@ -97,6 +114,8 @@ pub struct Incoming<'e, R> {
     clock: IdleClock,
     /// How long a read of the stream may wait, in microseconds, where that was set.
     limit: Option<u64>,
+    /// Whether anything was read.
+    has_begun: bool,
     fault: Option<ConnectionFault>,
 }
 
@@ -109,6 +128,7 @@ impl<'e, R: Wait + Clock> Incoming<'e, R> {
             acceptor,
             clock: IdleClock::new(acceptor.idle()),
             limit: None,
+            has_begun: false,
             fault: None,
         }
     }
@@ -161,7 +181,8 @@ impl<'e, R: Wait + Clock> Incoming<'e, R> {
         self.let_others_run();
         let mut stream = self.stream;
         let Some(left) = self.clock.left() else {
-            return stream.read(buf);
+            let count = stream.read(buf)?;
+            return self.note(count, 0, buf);
         };
         if left == 0 {
             return self.give_up();
@@ -171,10 +192,7 @@ impl<'e, R: Wait + Clock> Incoming<'e, R> {
         let outcome = stream.read(buf);
         let waited = begun.elapsed(self.rt)?;
         match outcome {
-            Ok(count) => {
-                self.clock.note(&buf[..count], micros(waited));
-                Ok(count)
-            }
+            Ok(count) => self.note(count, micros(waited), buf),
             Err(error) if is_in_vain(&error) => self.give_up(),
             Err(error) => Err(error),
         }
@@ -213,12 +231,26 @@ impl<'e, R: Wait + Clock> Incoming<'e, R> {
     /// Notes the bytes of a read that did not wait.
     fn note_at_once(&mut self, outcome: io::Result<usize>, buf: &[u8]) -> io::Result<usize>
         requires { ReadsAtMost outcome buf.now }
-        ensures { result ≡ outcome }
+        ensures { ReadsAtMost result buf.now }
     {
-        if let Ok(count) = outcome {
-            self.clock.note(&buf[..count], 0);
+        let count = outcome?;
+        self.note(count, 0, buf)
+    }
+
+    /// Notes so many bytes that a read gave after it had waited so many microseconds. The first that are read are refused where a
+    /// request of HTTP begins so.
+    fn note(&mut self, count: usize, waited: u64, buf: &[u8]) -> io::Result<usize>
+        requires { count ≤ length buf.now }
+        ensures { ReadsAtMost result buf.now }
+    {
+        let bytes = &buf[..count];
+        self.clock.note(bytes, waited);
+        if !self.has_begun && begins_as_http(bytes) {
+            self.fault = Some(ConnectionFault::Http);
+            return Err(io::Error::from(ErrorKind::InvalidData));
         }
-        outcome
+        self.has_begun = self.has_begun || count > 0;
+        Ok(count)
     }
 
     /// Ends the reading of a client that kept the service waiting too long.

@@ -158,6 +158,6 @@ impl<'e, R: Threads + Wait + Clock + Sync, L: OpenListener<Stream = TcpStream> +
 fn leaves_unread(fault: ConnectionFault) -> bool {
     matches!(
         fault,
-        ConnectionFault::Port(PortError::Line | PortError::Memory)
+        ConnectionFault::Http | ConnectionFault::Port(PortError::Line | PortError::Memory)
     )
 }

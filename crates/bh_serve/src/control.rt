@@ -7,12 +7,13 @@ ghost use Rattle.bh_base.specs.declared.reply.Reply.TheVariants as replies;
 ghost use Rattle.bh_base.specs.declared.step.Op.TheVariants as op;
 ghost use Rattle.bh_base.specs.Replies.{can_reply};
 ghost use Rattle.bh_audit.specs.Calls.{CanBeMissing};
-ghost use Rattle.bh_serve.specs.Served.{IsCalled, IsStepped, MayAnswer, MayClose, MayShow};
+ghost use Rattle.bh_serve.specs.Served.{IsCalled, IsStepped, MayAnswer, MayClose, MayShow, MayTotal, MayTune};
 
 use crate::names::GroupNames;
 use bh_audit::{Clock, Pass, Shared};
-use bh_base::{Answer, CallError, GroupId, Op, Reply, Request, Step, Text};
+use bh_base::{Answer, CallError, GroupId, Op, Reply, Request, Step, Text, Tuning};
 use bh_control::Control;
+use bh_in_force::InForce;
 use bh_workers::{Dependency, MOST_RECEIPTS, call_to};
 use std::alloc::Global;
 use std::marker::Model;
@@ -92,7 +93,7 @@ impl<'e, R: Wait, D: Dependency, C: Clock> ServiceControl<'e, R, D, C> {
 }
 
 impl<'e, R: Wait, D: Dependency, C: Clock> Control for ServiceControl<'e, R, D, C> {
-    ghost use Rattle.bh_serve.specs.Served.{MayShow, MayAnswer, MayClose};
+    ghost use Rattle.bh_serve.specs.Served.{MayShow, MayAnswer, MayClose, MayTotal, MayTune};
 
     ghost names = { λ control. control.names };
 
@@ -101,6 +102,12 @@ impl<'e, R: Wait, D: Dependency, C: Clock> Control for ServiceControl<'e, R, D, 
     ghost may_answer = { MayAnswer D.ends D.fallback_ends C.moments };
 
     ghost may_close = { MayClose };
+
+    ghost may_total = { MayTotal };
+
+    ghost may_tune = { MayTune };
+
+    ghost may_force = { λ _ _ _. Unit {0} };
 
     fn groups(&self) -> &[Text<32>] {
         self.names.as_slice()
@@ -171,5 +178,25 @@ impl<'e, R: Wait, D: Dependency, C: Clock> Control for ServiceControl<'e, R, D, 
         ensures made { IsStepped C.moments self.old.service group (op.Close context) result self.new.last }
     {
         self.step(group, Op::Close { context })
+    }
+
+    fn totals(&mut self, group: GroupId, command: u8) -> Reply
+        ensures reply { MayTotal group command result }
+        ensures groups { self.new.names ≡ self.old.names }
+        ensures made { IsStepped C.moments self.old.service group (op.Totals command) result self.new.last }
+    {
+        self.step(group, Op::Totals { command })
+    }
+
+    fn tune(&mut self, group: GroupId, command: u8, tuning: Tuning) -> Reply
+        ensures reply { MayTune group command tuning result }
+        ensures groups { self.new.names ≡ self.old.names }
+        ensures made { IsStepped C.moments self.old.service group (op.Tune command tuning) result self.new.last }
+    {
+        self.step(group, Op::Tune { command, tuning })
+    }
+
+    fn in_force(&self, group: GroupId, command: u8) -> Option<InForce> {
+        self.shared.in_force(self.rt, group, command)
     }
 }

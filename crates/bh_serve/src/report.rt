@@ -45,6 +45,9 @@ pub enum RecordEnd {
     /// The line of a step would be longer than a script's may be.
     #[error("record: it ends here, since the line of the next step is too long for a script")]
     Long,
+    /// A step gave a property a value that no script may give it.
+    #[error("record: it ends here, since the next step gives a property a value out of its range")]
+    Range,
 }
 
 impl From<AllocError> for RecordEnd {

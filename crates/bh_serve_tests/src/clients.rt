@@ -115,6 +115,8 @@ enum Act {
     MakeRoom,
     /// It asks short questions until there is no room, reads no answer, and the service is told to stop.
     AskOn,
+    /// It is closed without an answer.
+    BeClosed,
 }
 
 impl<R: Net<Listener = TcpListener, Stream = TcpStream> + Wait + Clock + Abort + AllocGlobal> Scene<
@@ -134,6 +136,7 @@ impl<R: Net<Listener = TcpListener, Stream = TcpStream> + Wait + Clock + Abort +
             Act::Leave => self.leave(stream),
             Act::MakeRoom => self.make_room(stream),
             Act::AskOn => self.ask_on(&stream),
+            Act::BeClosed => assert_heard(self.rt, &stream, "", "silence"),
         }
     }
 
@@ -463,6 +466,19 @@ fn a_line_has_to_be_whole_within_the_idle_time(rt: HostRuntime) {
     let limits = with_idle(in_all(1));
     let errors = errors_beside(&rt, &listener, ONE_WORKER, limits, Act::Trickle, stream);
     assert_bytes(&rt, &errors, "fault: slow\n", "the errors");
+}
+
+#[test]
+fn a_request_of_a_browser_is_not_read_on(rt: HostRuntime) {
+    let listener = listen(&rt);
+    let stream = connect(&rt, listener.local_addr().expect(&rt, "an address"));
+    say(
+        &rt,
+        &stream,
+        b"POST / HTTP/1.1\r\nHost: localhost:7411\r\n\r\n{\"op\":\"groups\"}\n",
+    );
+    let errors = errors_beside(&rt, &listener, ONE_WORKER, in_all(1), Act::BeClosed, stream);
+    assert_bytes(&rt, &errors, "fault: http\n", "the errors");
 }
 
 #[test]

@@ -1,6 +1,7 @@
 //! What a connection had is free once it has ended, and no other one has it.
 
-use crate::scene::{Scene, Visit, pay_visit, visit_service};
+use crate::scene::{Scene, USUAL, Visit, pay_visit, visit_service};
+use bh_share_serve::Sharing;
 use std::net::{Net, TcpListener, TcpStream};
 use std::process::Abort;
 use std::rt::Clock;
@@ -76,5 +77,9 @@ fn a_client_ends_and_collects_nothing_that_another_began(rt: HostRuntime) {
 #[test]
 fn a_connection_has_no_more_tickets_than_it_may(rt: HostRuntime) {
     let heard = Mutex::new(Vec::new(rt.alloc()));
-    visit_service(&rt, 2, Visit::FillTickets, &heard);
+    let few = Sharing {
+        tickets: 2,
+        ..USUAL
+    };
+    visit_service(&rt, few, Visit::FillTickets, &heard);
 }

@@ -18,6 +18,10 @@ mod reports;
 #[cfg(test)]
 mod scene;
 #[cfg(test)]
+mod shared_changes;
+#[cfg(test)]
 mod talks;
+#[cfg(test)]
+mod tunes;
 #[cfg(test)]
 mod waiting;

@@ -1,6 +1,6 @@
 //! A record is a script that is answered as the connections were.
 
-use crate::scene::{Scene, TWO_GROUPS, Visit, visit_service};
+use crate::scene::{Scene, TWO_GROUPS, USUAL, Visit, visit_service};
 use bh_commands::run_file;
 use std::net::{Net, TcpListener, TcpStream};
 use std::process::Abort;
@@ -9,15 +9,21 @@ use std::str;
 use std::sync::{Mutex, Wait};
 
 /// What a client says, each line of which makes a step.
-const LINES: [&str; 8] = [
+const LINES: [&str; 14] = [
+    r#"{"op":"tune","group":"web","property":"execution.isolation.semaphore.maxConcurrentRequests","value":1}"#,
     r#"{"op":"submit","group":"web","arg":"x \"y\" ü","context":7,"key":"k"}"#,
     r#"{"op":"submit","group":"web","arg":"z","context":7,"key":"k"}"#,
+    r#"{"op":"submit","group":"web","arg":"refused"}"#,
+    r#"{"op":"tune","group":"web","command":"web","property":"requestCache.enabled","value":false}"#,
+    r#"{"op":"tune","group":"pool","property":"coreSize","value":1}"#,
+    r#"{"op":"start","group":"pool"}"#,
     r#"{"op":"fail","group":"web","ticket":1,"bad":false}"#,
     r#"{"op":"collect","group":"web","ticket":1}"#,
     r#"{"op":"fallback","group":"web","ticket":1,"end":"success","body":"b"}"#,
     r#"{"op":"collect","group":"web","ticket":1}"#,
     r#"{"op":"close","group":"web","context":7}"#,
     r#"{"op":"metrics","group":"pool"}"#,
+    r#"{"op":"totals","group":"web","command":"web"}"#,
 ];
 
 /// What a service says of a record that ends before it does, since no script has the next line.
@@ -65,7 +71,7 @@ impl<
 fn a_record_is_answered_as_its_clients_were(rt: HostRuntime) {
     let alloc = rt.alloc();
     let heard = Mutex::new(Vec::new(alloc));
-    let record = visit_service(&rt, 256, Visit::Record, &heard);
+    let record = visit_service(&rt, USUAL, Visit::Record, &heard);
     let heard = heard.into_inner();
     let (mut answers, mut errors) = (Vec::new(alloc), Vec::new(alloc));
     let status = run_file(
@@ -88,7 +94,7 @@ fn a_record_is_answered_as_its_clients_were(rt: HostRuntime) {
 #[test]
 fn a_record_ends_before_a_step_that_no_script_can_say(rt: HostRuntime) {
     let heard = Mutex::new(Vec::new(rt.alloc()));
-    let record = visit_service(&rt, 256, Visit::SayTooMuch, &heard);
+    let record = visit_service(&rt, USUAL, Visit::SayTooMuch, &heard);
     let record = str::from_utf8(record.as_slice()).expect(&rt, "a text");
     assert!(&rt; record.starts_with("{\"arg\":\"x\","), "{record}");
     assert!(&rt; record.ends_with(",\"op\":\"submit\"}\n"), "{record}");

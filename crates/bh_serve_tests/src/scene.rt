@@ -44,7 +44,19 @@ pub(crate) enum Visit {
     ManyClients,
     Record,
     SayTooMuch,
+    TuneForAll,
+    LookAtProperties,
+    TuneInVain,
+    DieWithin,
+    FillContexts,
 }
+
+/// What a connection may have where nothing else is said.
+pub(crate) const USUAL: Sharing = Sharing {
+    tickets: 256,
+    contexts: 64,
+    may_tune: true,
+};
 
 /// A service that runs, as its clients see it.
 #[derive(Drop)]
@@ -144,8 +156,8 @@ impl<
     }
 }
 
-/// Makes the visit to a service of the settings, of which a connection may have so many tickets, and asserts that the service
-/// ends well. What it recorded is the result.
+/// Makes the visit to a service of the settings, of which a connection may have so much, and asserts that the service ends well.
+/// What it recorded is the result.
 pub(crate) fn visit_service<
     R: Threads
         + Wait
@@ -154,7 +166,7 @@ pub(crate) fn visit_service<
         + Abort
         + AllocGlobal
         + Sync,
->(rt: &R, tickets: u32, visit: Visit, heard: &Mutex<Vec<u8>>) -> Vec<u8> {
+>(rt: &R, sharing: Sharing, visit: Visit, heard: &Mutex<Vec<u8>>) -> Vec<u8> {
     let listener = TcpListener::bind(rt, "127.0.0.1:0").expect(rt, "a port is free");
     let address = listener.local_addr().expect(rt, "an address");
     let limits = Limits {
@@ -185,7 +197,7 @@ pub(crate) fn visit_service<
                 &listener,
                 &Door::Port(address.port()),
                 &settings,
-                Sharing { tickets },
+                sharing,
                 Some(record),
                 &mut io::sink(),
                 &reports,
@@ -241,6 +253,11 @@ impl<
             Visit::ManyClients => self.many_clients(),
             Visit::Record => self.record(),
             Visit::SayTooMuch => self.say_too_much(),
+            Visit::TuneForAll => self.tune_for_all(),
+            Visit::LookAtProperties => self.look_at_properties(),
+            Visit::TuneInVain => self.tune_in_vain(),
+            Visit::DieWithin => self.die_within(),
+            Visit::FillContexts => self.fill_contexts(),
         }
     }
 }
@@ -256,5 +273,5 @@ pub(crate) fn pay_visit<
         + Sync,
 >(rt: &R, visit: Visit) {
     let heard = Mutex::new(Vec::new(rt.alloc()));
-    visit_service(rt, 256, visit, &heard);
+    visit_service(rt, USUAL, visit, &heard);
 }

@@ -1,5 +1,6 @@
 //! Connections over the loopback interface, with the service in a thread of its own.
 
+use crate::tunes::{hold_open, let_more_run, look_at_properties};
 use bh_props::settings_in;
 use bh_serve::serve_on;
 use std::io::{ErrorKind, Read, Write};
@@ -237,7 +238,7 @@ const ASKED_OF_COMMANDS: &str =
 "#;
 
 /// Sends each line over the stream, and asserts its reply.
-fn ask_lines(rt: &(impl Abort + AllocGlobal), stream: &TcpStream, lines: &str) {
+pub(crate) fn ask_lines(rt: &(impl Abort + AllocGlobal), stream: &TcpStream, lines: &str) {
     for line in lines.lines() {
         let (asked, reply) = split(line);
         assert_reply(rt, stream, asked, reply);
@@ -339,15 +340,18 @@ fn break_off<R: Net<Listener = TcpListener, Stream = TcpStream> + Abort + AllocG
 
 /// What the other side of the connections says.
 #[derive(Clone, Copy)]
-enum Talk {
+pub(crate) enum Talk {
     Groups,
     Everything,
     Commands,
     AtOnce,
     BrokenOff,
+    HeldOpen,
+    InForce,
+    LargerCore,
 }
 
-fn speak<R: Net<Listener = TcpListener, Stream = TcpStream> + Abort + AllocGlobal>(
+fn speak<R: Net<Listener = TcpListener, Stream = TcpStream> + Clock + Abort + AllocGlobal>(
     rt: &R,
     addr: SocketAddr,
     what: Talk,
@@ -358,11 +362,14 @@ fn speak<R: Net<Listener = TcpListener, Stream = TcpStream> + Abort + AllocGloba
         Talk::Commands => ask_for_commands(rt, addr),
         Talk::AtOnce => call_at_once(rt, addr),
         Talk::BrokenOff => break_off(rt, addr),
+        Talk::HeldOpen => hold_open(rt, addr),
+        Talk::InForce => look_at_properties(rt, addr),
+        Talk::LargerCore => let_more_run(rt, addr),
     }
 }
 
 /// Serves so many connections beside the talk, and asserts that the service ends well with these errors.
-fn assert_served<
+pub(crate) fn assert_served<
     R: Threads
         + Wait
         + Clock

@@ -1,6 +1,6 @@
 //! A line that is to wait is answered once there is something to tell, its client is gone or the service is stopped.
 
-use crate::scene::{Scene, Visit, pay_visit, visit_service};
+use crate::scene::{Scene, USUAL, Visit, pay_visit, visit_service};
 use std::net::{Net, TcpListener, TcpStream};
 use std::process::Abort;
 use std::rt::Clock;
@@ -116,7 +116,7 @@ fn moment_of<R: Abort + AllocGlobal>(rt: &R, record: &str, op: &str) -> u64 {
 #[test]
 fn a_line_that_waits_has_the_moment_at_which_it_goes_on(rt: HostRuntime) {
     let heard = Mutex::new(Vec::new(rt.alloc()));
-    let record = visit_service(&rt, 256, Visit::WaitAWhile, &heard);
+    let record = visit_service(&rt, USUAL, Visit::WaitAWhile, &heard);
     let record = str::from_utf8(record.as_slice()).expect(&rt, "a text");
     let submitted = moment_of(&rt, record, "\"op\":\"submit\"");
     let started = moment_of(&rt, record, "\"op\":\"start\"");

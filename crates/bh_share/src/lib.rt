@@ -5,6 +5,6 @@ pub mod answer;
 pub mod directory;
 pub mod share_line;
 
-pub use answer::put_refusal;
+pub use answer::{put_entry, put_refusal};
 pub use directory::Directory;
 pub use share_line::ShareLine;

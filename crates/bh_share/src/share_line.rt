@@ -20,6 +20,8 @@ use std::alloc::{AllocError, Global};
 pub enum ShareWord {
     Groups,
     Metrics,
+    Properties,
+    Enter,
     Step(OpWord),
 }
 
@@ -28,6 +30,16 @@ pub enum ShareWord {
 pub enum ShareLine {
     /// The names of all groups.
     Groups,
+    /// The properties that are in force of the group's command of the number. No step is made.
+    Properties {
+        group: GroupId,
+        command: u8,
+    },
+    /// The connection is within the request context of the group from now on. No step is made.
+    Enter {
+        group: GroupId,
+        context: u64,
+    },
     /// A step of the group, at the moment at which it is made.
     Step {
         group: GroupId,
@@ -75,6 +87,8 @@ fn share_line_at<D: Directory>(directory: &D, members: Members<'_>) -> Asked
     match share_word(word).ok_or(Fault::Op)? {
         ShareWord::Groups => Ok(ShareLine::Groups),
         ShareWord::Metrics => metrics_at(directory, members),
+        ShareWord::Properties => properties_at(directory, members),
+        ShareWord::Enter => enter_at(directory, members),
         ShareWord::Step(word) => step_at(directory, word, members),
     }
 }
@@ -86,6 +100,7 @@ fn share_word(word: &str) -> Option<ShareWord>
     match word {
         "groups" => Some(ShareWord::Groups),
         "metrics" => Some(ShareWord::Metrics),
+        "properties" => Some(ShareWord::Properties),
         "submit" => Some(ShareWord::Step(OpWord::Submit)),
         "start" => Some(ShareWord::Step(OpWord::Start)),
         "finish" => Some(ShareWord::Step(OpWord::Finish)),
@@ -93,6 +108,9 @@ fn share_word(word: &str) -> Option<ShareWord>
         "collect" => Some(ShareWord::Step(OpWord::Collect)),
         "fallback" => Some(ShareWord::Step(OpWord::FallbackDone)),
         "close" => Some(ShareWord::Step(OpWord::Close)),
+        "totals" => Some(ShareWord::Step(OpWord::Totals)),
+        "tune" => Some(ShareWord::Step(OpWord::Tune)),
+        "enter" => Some(ShareWord::Enter),
         _ => None,
     }
 }
@@ -109,6 +127,29 @@ fn metrics_at<D: Directory>(directory: &D, members: Members<'_>) -> Asked
     let op = Op::Read { command };
     let wait = false;
     Ok(ShareLine::Step { group, op, wait })
+}
+
+/// What a line for the properties in force asks.
+fn properties_at<D: Directory>(directory: &D, members: Members<'_>) -> Asked
+    ensures asked { result ≡ share_line_for (D.names directory.now) ShareWord.Properties (members_data members.entry) }
+    ensures group { IfOk result (IsOfGroups (length (D.names directory.now).groups)) }
+{
+    let name = members.text("group").ok_or(Fault::Field)?;
+    let said = command_of(members)?;
+    let group = group_named(directory, name)?;
+    let command = command_in(directory, group, said)?;
+    Ok(ShareLine::Properties { group, command })
+}
+
+/// What a line asks by which the connection enters a request context.
+fn enter_at<D: Directory>(directory: &D, members: Members<'_>) -> Asked
+    ensures asked { result ≡ share_line_for (D.names directory.now) ShareWord.Enter (members_data members.entry) }
+    ensures group { IfOk result (IsOfGroups (length (D.names directory.now).groups)) }
+{
+    let name = members.text("group").ok_or(Fault::Field)?;
+    let context = members.number("context").ok_or(Fault::Field)?;
+    let group = group_named(directory, name)?;
+    Ok(ShareLine::Enter { group, context })
 }
 
 /// What a line for a step of this word asks.

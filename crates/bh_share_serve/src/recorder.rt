@@ -100,6 +100,7 @@ fn ended_by(error: StepLineError) -> RecordEnd {
     match error {
         StepLineError::Memory => RecordEnd::Memory,
         StepLineError::Long => RecordEnd::Long,
+        StepLineError::Range => RecordEnd::Range,
     }
 }
 

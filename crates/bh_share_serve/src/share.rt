@@ -32,6 +32,10 @@ pub struct Sharing {
     /// How many tickets a connection may have at a time: requests whose answers are still to be collected, and runs that it
     /// was assigned.
     pub tickets: u32,
+    /// How many request contexts a connection may be within at a time.
+    pub contexts: u32,
+    /// Whether a connection may change properties.
+    pub may_tune: bool,
 }
 
 /// Serves the connections that the acceptor lets in, with the groups of the settings, all new, and answers the exit status. It

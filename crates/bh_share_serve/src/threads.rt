@@ -183,7 +183,12 @@ impl<'e, 'h, R: Wait + Clock, L> Server<'e, 'h, R, L> {
         ahead: &Ahead<'_, R>,
         output: &mut Outgoing<'_, R>,
     ) -> Result<(), PortError> {
-        let leases = Leases::new(self.alloc, self.sharing.tickets)?;
+        let Sharing {
+            tickets,
+            contexts,
+            may_tune,
+        } = self.sharing;
+        let leases = Leases::new(self.alloc, tickets, contexts, may_tune)?;
         let client = Client {
             rt: self.rt,
             alloc: self.alloc,

@@ -4,7 +4,6 @@ use Rattle.std.proofs.Math.Logic.{∥∥₁_map}
 use Rattle.bh_base.specs.declared.reply.Reply.{Reply}
 use Rattle.bh_base.specs.declared.step.Step.{Step}
 use Rattle.bh_core.specs.CoreView.{CoreView}
-use Rattle.bh_lease.specs.declared.lease.Lease.{Lease}
 use Rattle.bh_lease.specs.declared.leases.Refusal.{Refusal}
 use Rattle.bh_lease.specs.Leases.{LeasesView, refusal}
 use Rattle.bh_lender.specs.Lender.{DoesStep, IsGivenBack, LenderView}
@@ -52,6 +51,6 @@ of_done facts step reply old had new has of done = unless (refusal step.group st
     unless None d = of_turn facts step reply old new of d.0
 
 -- what was given back
-pub of_returned : (facts : Facts) (now : ℕ) (leases : List Lease) (old new : LenderView) → IsOf facts old.recorded.groups → IsGivenBack now leases old new → IsOf facts new.recorded.groups
-of_returned facts now leases old new of given =
-    of_stepped facts old.recorded (return_steps now leases old new given).0 new.recorded of (return_steps now leases old new given).1
+pub of_returned : (facts : Facts) (now : ℕ) (had : LeasesView) (old new : LenderView) → IsOf facts old.recorded.groups → IsGivenBack now had old new → IsOf facts new.recorded.groups
+of_returned facts now had old new of given =
+    of_stepped facts old.recorded (return_steps now had old new given).0 new.recorded of (return_steps now had old new given).1

@@ -1,5 +1,5 @@
 -- What one turn tells a connection.
-use Rattle.std.proofs.Common.{◌≡◌, ℕ, List, [], ◌++◌, Bool, true, Option, Result, Ok, Err, ap, refl, inl, inr}
+use Rattle.std.proofs.Common.{◌≡◌, ℕ, List, ◌++◌, Bool, true, Option, Result, Ok, Err, OnErr, OnOk, ap, refl, inl, inr}
 use Rattle.std.specs.declared.alloc.AllocError.{AllocError}
 use Rattle.bh_base.specs.declared.reply.Reply.{Reply}
 use Rattle.bh_base.specs.declared.step.GroupId.{GroupId}
@@ -7,16 +7,18 @@ use Rattle.bh_base.specs.declared.step.Op.{Op}
 use Rattle.bh_desk.specs.declared.desk.Turn.{Turn}
 use Rattle.bh_desk.specs.declared.desk.Turn.TheVariants as turn
 use Rattle.bh_desk.specs.Turns.{IsTurn as IsDeskTurn, IsWaited}
+use Rattle.bh_in_force.specs.declared.properties.InForce.{InForce}
 use Rattle.bh_lease.specs.declared.leases.Refusal.{Refusal}
-use Rattle.bh_lease.specs.Leases.{LeasesView}
+use Rattle.bh_lease.specs.Leases.{LeasesView, cleared}
 use Rattle.bh_lines.specs.Names.{Names}
+use Rattle.bh_share.specs.Answer.{entry_line}
 use Rattle.bh_share.specs.declared.share_line.ShareLine.TheVariants as lines
 use Rattle.bh_sharing.specs.Client.{ClientView, MayTell, gone_line}
 use Rattle.bh_sharing.specs.declared.asks.Said.TheVariants as said
-use Rattle.bh_sharing.specs.Locked.{IsTurnAt, LockedView}
+use Rattle.bh_sharing.specs.Locked.{IsEntry, IsTurnAt, LockedView}
 use Rattle.bh_sharing.specs.Service.{Facts, IsOf}
-use Rattle.bh_sharing.specs.Shared.{IsReturned, IsShared, IsTurn}
-use Rattle.bh_turns.specs.Turn.{answer_line}
+use Rattle.bh_sharing.specs.Shared.{IsInForce, IsReturned, IsShared, IsTurn}
+use Rattle.bh_turns.specs.Turn.{answer_line, in_force_line}
 
 -- the line of a step that was made, or refused
 pub shared-line : (facts : Facts) (names : Names) (group : GroupId) (o : Op) (wait : Bool) (old : LockedView) (had : LeasesView) (reply : Reply) (new : LockedView) (has : LeasesView) (refused : Option Refusal)
@@ -54,5 +56,19 @@ pub told-gone : (facts : Facts) (gone : Type 0) (s : ClientView) (group : GroupI
 told-gone facts gone s group o before after is text = (gone_line, (refl, inr (refl, is, refl, refl)), text)
 
 -- what is left of what was given back
-pub returned-none : (facts : Facts) (had has : LeasesView) → IsReturned facts had has → IsReturned facts had (record had { listed = [] })
+pub returned-none : (facts : Facts) (had has : LeasesView) → IsReturned facts had has → IsReturned facts had (cleared had)
 returned-none facts had has t = (t.0, t.1, t.2, (t.3.0, t.3.1, refl))
+
+-- whether it is within a request context now
+pub told-entry : (facts : Facts) (gone : Type 0) (old new : ClientView) (group : GroupId) (context : ℕ) (refused : Option Refusal) (before after : List ℕ) (result : Result (Unit {0}) AllocError)
+    → new.names ≡ old.names → IsEntry group context old.leases refused new.leases → OnOk result (after ≡ before ++ entry_line refused) → OnErr result (after ≡ before)
+    → IsWaited (MayTell facts gone) old (lines.Enter group context) before result new after
+told-entry facts gone old new group context refused before after (Ok x) same is put kept = (entry_line refused, (same, (refused, is, refl)), put)
+told-entry facts gone old new group context refused before after (Err e) same is put kept = (inr (entry_line refused, (same, (refused, is, refl))), kept)
+
+-- what is in force of a command
+pub told-in-force : (facts : Facts) (gone : Type 0) (s : ClientView) (group : GroupId) (command : ℕ) (found : Option InForce) (before after : List ℕ) (result : Result (Unit {0}) AllocError)
+    → IsInForce facts group command found → OnOk result (after ≡ before ++ in_force_line found) → OnErr result (after ≡ before)
+    → IsWaited (MayTell facts gone) s (lines.Properties group command) before result s after
+told-in-force facts gone s group command found before after (Ok x) is put kept = (in_force_line found, (refl, (found, is, refl)), put)
+told-in-force facts gone s group command found before after (Err e) is put kept = (inl refl, kept)

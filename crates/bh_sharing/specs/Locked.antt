@@ -1,9 +1,10 @@
 -- What one turn does to what stands under the lock.
-use Rattle.std.specs.Prelude.{◌≡◌, ◌⊎◌, ℕ, zero, suc, ◌+◌, Bool, true, false, [], Option, max}
+use Rattle.std.specs.Prelude.{◌≡◌, ◌⊎◌, ℕ, zero, suc, ◌+◌, Bool, true, false, Option, None, Some, max}
 use Rattle.bh_base.specs.declared.reply.Reply.{Reply}
 use Rattle.bh_base.specs.declared.step.GroupId.{GroupId}
 use Rattle.bh_base.specs.declared.step.Op.{Op}
-use Rattle.bh_lease.specs.Leases.{LeasesView, refusal}
+use Rattle.bh_lease.specs.declared.leases.Refusal.{Refusal}
+use Rattle.bh_lease.specs.Leases.{LeasesView, cleared, entered, entry_refusal, refusal}
 use Rattle.bh_lender.specs.Lender.{IsExpired, IsGivenBack, LenderView}
 use Rattle.bh_lender.specs.Steps.{step_at}
 use Rattle.bh_sharing.specs.declared.asks.Said.{Said}
@@ -34,10 +35,20 @@ IsTurnAt facts group o wait old had reply new has said.Waits =
     (wait ≡ true) × (has_to_wait old.lender had group o ≡ true) × (new ≡ old) × (has ≡ had)
 IsTurnAt facts group o wait old had reply new has _ = ⊥
 
+-- the connection is within the request context from now on, unless it may not enter it
+abbrev pub entered_unless : Option Refusal → GroupId → ℕ → LeasesView → LeasesView
+entered_unless None group context had = record had { contexts = entered group context had.contexts }
+entered_unless (Some why) group context had = had
+
+-- it was entered, or refused by what the connection has; no step was made
+abbrev pub IsEntry : GroupId → ℕ → LeasesView → Option Refusal → LeasesView → Type 0
+IsEntry group context had refused has =
+    (refused ≡ entry_refusal group context had) × (has ≡ entered_unless (entry_refusal group context had) group context had)
+
 -- all that the connection had was given back, at the moment of the turn
 abbrev pub IsGivenBackAt : (ℕ → Type 0) → LockedView → LeasesView → LockedView → LeasesView → Type 0
 IsGivenBackAt moments old had new has =
-    IsReadAfter moments old.latest new.latest × IsGivenBack new.latest had.listed old.lender new.lender × (has ≡ record had { listed = [] })
+    IsReadAfter moments old.latest new.latest × IsGivenBack new.latest had old.lender new.lender × (has ≡ cleared had)
 
 -- what was due in the group was timed out, at the moment of the turn
 abbrev pub IsExpiredAt : (ℕ → Type 0) → GroupId → LockedView → LockedView → Type 0

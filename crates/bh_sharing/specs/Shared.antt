@@ -1,11 +1,13 @@
 -- What one turn tells of groups that others change too.
-use Rattle.std.specs.Prelude.{◌≡◌, ℕ, List, ◌++◌, Bool, true, Result, Ok, Err}
+use Rattle.std.specs.Prelude.{◌≡◌, ℕ, List, ◌++◌, Bool, true, Option, Result, Ok, Err}
 use Rattle.std.specs.declared.alloc.AllocError.{AllocError}
 use Rattle.bh_base.specs.declared.step.GroupId.{GroupId}
 use Rattle.bh_base.specs.declared.step.Op.{Op}
 use Rattle.bh_desk.specs.declared.desk.Turn.{Turn}
 use Rattle.bh_desk.specs.declared.desk.Turn.TheVariants as turn
+use Rattle.bh_in_force.specs.declared.properties.InForce.{InForce}
 use Rattle.bh_lease.specs.Leases.{LeasesView}
+use Rattle.bh_lender.specs.Looks.{in_force_at}
 use Rattle.bh_lender.specs.Steps.{step_at}
 use Rattle.bh_lines.specs.Names.{Names}
 use Rattle.bh_sharing.specs.Locked.{IsGivenBackAt, IsReadAfter, LockedView, NeedNotWait}
@@ -33,6 +35,11 @@ IsShared facts names group o wait had before (Ok turn.Waits) has after =
     (wait ≡ true) × HadToWait facts group o had × (has ≡ had) × (after ≡ before)
 IsShared facts names group o wait had before (Err refused) has after =
     ((line : List ℕ) × IsTurn facts names group o wait had has line) × (after ≡ before)
+
+-- in one turn this was in force of the group's command, whatever the groups of the service were then
+abbrev pub IsInForce : Facts → GroupId → ℕ → Option InForce → Type 0
+IsInForce facts group command found =
+    (old : LockedView) × IsOf facts old.lender.recorded.groups × (found ≡ in_force_at old.lender.recorded.groups group.0 command)
 
 -- all that a connection had was given back in one turn, whatever the groups of the service were then
 abbrev pub IsReturned : Facts → LeasesView → LeasesView → Type 0

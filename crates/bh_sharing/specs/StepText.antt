@@ -1,7 +1,7 @@
 -- The line of a script that says a step.
 use Rattle.std.specs.Prelude.{◌≡◌, ℕ, List, [], codes, Bool, true, Option, None, Some, Ok, slice_get, unwrap_or}
 use Rattle.std.specs.Option.{option_map_or}
-use Rattle.serde_json.specs.Data.{Data, Members, boolean, member, no_members, object}
+use Rattle.serde_json.specs.Data.{Data, Members, boolean, member, no_members, number, object, unsigned}
 use Rattle.serde_json.specs.Written.{compact_text}
 use Rattle.bh_base.specs.declared.step.FallbackEnd.{FallbackEnd}
 use Rattle.bh_base.specs.declared.step.FallbackEnd.TheVariants as ends
@@ -9,14 +9,18 @@ use Rattle.bh_base.specs.declared.step.Op.{Op}
 use Rattle.bh_base.specs.declared.step.Op.TheVariants as op
 use Rattle.bh_base.specs.declared.step.Request.{Request}
 use Rattle.bh_base.specs.declared.step.Step.{Step}
+use Rattle.bh_base.specs.Tunings.{is_within}
 use Rattle.bh_lines.specs.Names.{Names, command_name}
 use Rattle.bh_lines.specs.ScriptLine.{a_step, line_asked}
 use Rattle.bh_lines.specs.StepLine.{Said, if_short, of_command}
 use Rattle.bh_replies.specs.ReplyLine.{json_line, number_member, text_member}
+use Rattle.bh_tuning.specs.declared.named.Given.{Given}
+use Rattle.bh_tuning.specs.declared.named.Given.TheVariants as given
+use Rattle.bh_tuning.specs.Named.{name_of, value_of}
 
 -- the name of the command of the number in the group of this name: its own command has the group's
 abbrev pub name_of_command : Names → ℕ → List ℕ → ℕ → List ℕ
-name_of_command names group own number = unwrap_or (command_name names group number) own
+name_of_command names group own command = unwrap_or (command_name names group command) own
 
 -- the members that every step's line has, behind those whose names come before
 abbrev pub moment_and_word : ℕ → List ℕ → Members → Members
@@ -71,23 +75,37 @@ abbrev pub close_data : List ℕ → ℕ → ℕ → Data
 close_data group now context =
     object (number_member (codes "context") context (text_member (codes "group") group (moment_and_word now (codes "close") no_members)))
 
--- the object of a look at the metrics of the command of this name
-abbrev pub read_data : List ℕ → ℕ → List ℕ → Data
-read_data group now command =
-    object (text_member (codes "command") command (text_member (codes "group") group (moment_and_word now (codes "read") no_members)))
+-- the object of a look at what was counted of the command of this name, by its word
+abbrev pub command_data : List ℕ → ℕ → List ℕ → List ℕ → Data
+command_data group now command word =
+    object (text_member (codes "command") command (text_member (codes "group") group (moment_and_word now word no_members)))
+
+-- a value that a property is given
+abbrev pub value_data : Given → Data
+value_data (given.Number n) = number (unsigned n)
+value_data (given.Truth b) = boolean b
+
+-- the object of a change: the property of this name gets the value, for the command of this name
+abbrev pub tune_data : List ℕ → ℕ → List ℕ → List ℕ → Given → Data
+tune_data group now command property value = object (
+    text_member (codes "command") command (text_member (codes "group") group (
+    moment_and_word now (codes "tune") (text_member (codes "property") property (member (codes "value") (value_data value) no_members)))))
 
 -- the object of an operation in the group of this name, its members in the order of their names
 abbrev pub op_data : Names → ℕ → List ℕ → ℕ → Op → Data
-op_data names number group now (op.Submit request) =
-    submit_data group now (name_of_command names number group request.command) request request.cache
-op_data names number group now op.Start = word_data group now (codes "start")
-op_data names number group now (op.Finish ticket body) = finish_data group now ticket body
-op_data names number group now (op.Fail ticket bad) = fail_data group now ticket bad
-op_data names number group now op.Expire = word_data group now (codes "expire")
-op_data names number group now (op.Collect ticket) = collect_data group now ticket
-op_data names number group now (op.FallbackDone ticket end) = fallback_data group now ticket end
-op_data names number group now (op.Close context) = close_data group now context
-op_data names number group now (op.Read command) = read_data group now (name_of_command names number group command)
+op_data names at group now (op.Submit request) =
+    submit_data group now (name_of_command names at group request.command) request request.cache
+op_data names at group now op.Start = word_data group now (codes "start")
+op_data names at group now (op.Finish ticket body) = finish_data group now ticket body
+op_data names at group now (op.Fail ticket bad) = fail_data group now ticket bad
+op_data names at group now op.Expire = word_data group now (codes "expire")
+op_data names at group now (op.Collect ticket) = collect_data group now ticket
+op_data names at group now (op.FallbackDone ticket end) = fallback_data group now ticket end
+op_data names at group now (op.Close context) = close_data group now context
+op_data names at group now (op.Read command) = command_data group now (name_of_command names at group command) (codes "read")
+op_data names at group now (op.Totals command) = command_data group now (name_of_command names at group command) (codes "totals")
+op_data names at group now (op.Tune command t) =
+    tune_data group now (name_of_command names at group command) (name_of t) (value_of t)
 
 -- the object of a step of the group of this name
 abbrev pub step_data : Names → List ℕ → Step → Data
@@ -99,17 +117,26 @@ step_line names step = option_map_or (λ group. json_line (step_data names group
 
 -- what a line is to say of a step
 
+-- whether a script may say it: no line gives a property a value out of its range
+abbrev pub is_sayable : Op → Bool
+is_sayable (op.Tune command t) = is_within t
+is_sayable _ = true
+
 -- the number of the command that an operation is of, where it is of one
 abbrev pub command_of_op : Op → Option ℕ
 command_of_op (op.Submit request) = Some request.command
 command_of_op (op.Read command) = Some command
+command_of_op (op.Totals command) = Some command
+command_of_op (op.Tune command t) = Some command
 command_of_op _ = None
 
 -- its name
 abbrev pub command_said : Names → ℕ → List ℕ → Op → Option (List ℕ)
-command_said names number group (op.Submit request) = Some (name_of_command names number group request.command)
-command_said names number group (op.Read command) = Some (name_of_command names number group command)
-command_said names number group _ = None
+command_said names at group (op.Submit request) = Some (name_of_command names at group request.command)
+command_said names at group (op.Read command) = Some (name_of_command names at group command)
+command_said names at group (op.Totals command) = Some (name_of_command names at group command)
+command_said names at group (op.Tune command t) = Some (name_of_command names at group command)
+command_said names at group _ = None
 
 -- the step, its group and command by their names
 abbrev pub said_of : Names → List ℕ → Step → Said

@@ -4,6 +4,7 @@ ghost use Rattle.std.specs.Prelude.{◌≡◌};
 
 use crate::waiters::{Numbers, Waiter};
 use bh_base::{GroupId, Op};
+use bh_in_force::InForce;
 use bh_lease::Refusal;
 use bh_lender::StepLog;
 
@@ -18,6 +19,16 @@ pub enum Ask<'a> {
         op: &'a Op,
         /// Whether it is to wait where it would be answered `Pending` or `Idle`.
         wait: bool,
+    },
+    /// That the connection is within the request context of the group from now on. No step is made.
+    Enter {
+        group: GroupId,
+        context: u64,
+    },
+    /// What is in force of the group's command of the number. No step is made.
+    Properties {
+        group: GroupId,
+        command: u8,
     },
     /// That all that the connection has is given back.
     GiveBack,
@@ -60,7 +71,8 @@ pub enum Ask<'a> {
 pub enum Said {
     /// What was asked for was done.
     Done,
-    /// Of a step: why the connection may not ask for it, or that it was made. The reply stands where the caller keeps it.
+    /// Of a step: why the connection may not ask for it, or that it was made. The reply stands where the caller keeps it. Of a
+    /// request context: why the connection may not enter it, or that it is within it.
     Told(Option<Refusal>),
     /// Of a step that is to wait: it has to, and nothing was done.
     Waits,
@@ -70,6 +82,8 @@ pub enum Said {
     Is(bool),
     /// The steps of the log.
     Log(StepLog),
+    /// What is in force of a command; None where its group is not registered, or lacks it.
+    Properties(Option<InForce>),
 }
 
 /// What is said, and which connections are to be woken because of it.

@@ -16,18 +16,20 @@ use bh_desk::{Buffers, Desk, Turn, converse};
 use bh_lease::Leases;
 use bh_lines::PortError;
 use bh_replies::put_error;
-use bh_share::{Directory, ShareLine};
+use bh_share::{Directory, ShareLine, put_entry};
 use bh_streams::{WatchedReader, WatchedWriter};
+use bh_turns::put_in_force;
 use std::alloc::{AllocError, Global};
 use std::io::{Read, Write};
 use std::marker::Model;
 use std::rt::Clock;
 use std::sync::Wait;
 
-/// How long a connection that has leases sleeps before it looks whether its client is gone, in milliseconds.
+/// How long a connection that has leases or is within a context sleeps before it looks whether its client is gone, in
+/// milliseconds.
 const LOOK: u64 = 5;
 
-/// The same where it has none, so that nothing waits to be given back.
+/// The same where nothing waits to be given back.
 const IDLE_LOOK: u64 = 50;
 
 /// Whether a client is there.
@@ -40,7 +42,7 @@ pub trait Presence {
         ensures { result ≡ true → gone };
 }
 
-/// One connection: what it has of tickets, and the service that it asks.
+/// One connection: what it has of tickets and of request contexts, and the service that it asks.
 #[derive(Drop)]
 pub struct Client<'e, R, S: Service, P, N: Directory> {
     /// What its calls wait by.
@@ -54,7 +56,7 @@ pub struct Client<'e, R, S: Service, P, N: Directory> {
     pub presence: &'e P,
     /// Its number among the connections, which no other one has at the time.
     pub number: usize,
-    /// What it has of tickets.
+    /// What it has of tickets and of request contexts.
     pub leases: Leases,
 }
 
@@ -79,6 +81,32 @@ impl<'e, R: Wait + Clock, S: Service, P: Presence, N: Directory> Client<'e, R, S
         ensures names { self.new.names ≡ self.old.names }
     {
         self.shared.answer(self.rt, self.names, &mut self.leases, group, op, wait, out)
+    }
+
+    /// Answers whether the connection is within the request context now.
+    fn answer_entry(
+        &mut self,
+        group: GroupId,
+        context: u64,
+        out: &mut Vec<u8>,
+    ) -> Result<(), AllocError>
+        ensures { IsWaited (MayTell S.facts P.gone) self.old (lines.Enter group context) out.old.items result self.new out.new.items }
+    {
+        let refused = self.shared.enter(self.rt, &mut self.leases, group, context);
+        put_entry(self.alloc, out, refused)
+    }
+
+    /// Answers what is in force of a command.
+    fn answer_in_force(
+        &self,
+        group: GroupId,
+        command: u8,
+        out: &mut Vec<u8>,
+    ) -> Result<(), AllocError>
+        ensures { IsWaited (MayTell S.facts P.gone) self.now (lines.Properties group command) out.old.items result self.now out.new.items }
+    {
+        let found = self.shared.in_force(self.rt, group, command);
+        put_in_force(self.alloc, found, out)
     }
 
     /// Answers a step that is not to wait.
@@ -133,7 +161,7 @@ impl<'e, R: Wait + Clock, S: Service, P: Presence, N: Directory> Client<'e, R, S
 
     /// How long it sleeps before it looks whether its client is gone.
     fn patience(&self) -> u64 {
-        if self.leases.as_slice().is_empty() {
+        if self.leases.as_slice().is_empty() && self.leases.contexts().is_empty() {
             IDLE_LOOK
         } else {
             LOOK
@@ -160,6 +188,18 @@ impl<'e, R: Wait + Clock, S: Service, P: Presence, N: Directory> Desk for Client
                 Ok(()) => Ok(Turn::Answered),
                 Err(refused) => Err(refused),
             },
+            ShareLine::Properties { group, command } => {
+                match self.answer_in_force(*group, *command, out) {
+                    Ok(()) => Ok(Turn::Answered),
+                    Err(refused) => Err(refused),
+                }
+            }
+            ShareLine::Enter { group, context } => {
+                match self.answer_entry(*group, *context, out) {
+                    Ok(()) => Ok(Turn::Answered),
+                    Err(refused) => Err(refused),
+                }
+            }
             ShareLine::Step { group, op, wait } => self.answer_step(*group, op, *wait, out),
         }
     }
@@ -167,6 +207,10 @@ impl<'e, R: Wait + Clock, S: Service, P: Presence, N: Directory> Desk for Client
     fn answer_late(&mut self, line: &ShareLine, out: &mut Vec<u8>) -> Result<(), AllocError> {
         match line {
             ShareLine::Groups => put_groups(self.alloc, self.names.groups(), out),
+            ShareLine::Properties { group, command } => {
+                self.answer_in_force(*group, *command, out)
+            }
+            ShareLine::Enter { group, context } => self.answer_entry(*group, *context, out),
             ShareLine::Step { group, op, wait } => {
                 if *wait {
                     self.answer_waiting(*group, op, out)

@@ -81,6 +81,7 @@ impl<S: Service> Guarded<S> {
         let mut guard = self.lock.lock(rt);
         if let Ask::Sleep { number, millis } = &ask
             && guard.sleeps(*number)
+            && !self.service.is_stopped()
         {
             guard = self.sleep(rt, guard, *number, *millis);
         }

@@ -2,8 +2,9 @@
 
 ghost use Rattle.std.specs.Prelude.{◌≡◌, ◌-◌, [], IfOk, None};
 ghost use Rattle.bh_base.specs.declared.reply.Reply.{Reply};
+ghost use Rattle.bh_lender.specs.Looks.{in_force_at};
 ghost use Rattle.bh_lender.specs.Recorded.{book_of, log_or, recorded_of, with_log_of};
-ghost use Rattle.bh_sharing.specs.Locked.{AreExpiredAt, IsExpiredAt, IsReadAfter, IsTurnAt};
+ghost use Rattle.bh_sharing.specs.Locked.{AreExpiredAt, IsEntry, IsExpiredAt, IsReadAfter, IsTurnAt};
 ghost use Rattle.bh_sharing.specs.declared.asks.Ask.TheVariants as ask;
 ghost use Rattle.bh_sharing.specs.declared.asks.Said.TheVariants as said;
 ghost use Rattle.bh_sharing.specs.Service.{IsOf};
@@ -15,7 +16,8 @@ use crate::service::Service;
 use crate::waiters::{Numbers, Waiter, Waiters};
 use bh_audit::Book;
 use bh_base::{GroupId, Moment, Op, Reply, Step};
-use bh_lease::Leases;
+use bh_in_force::InForce;
+use bh_lease::{Leases, Refusal};
 use bh_lender::{Lender, StepLog};
 use bh_turns::{has_to_wait, make_step};
 use std::alloc::{AllocError, Global};
@@ -107,6 +109,12 @@ impl<S: Service> Locked<S> {
                 let said = self.step(service, leases, group, op, wait, reply);
                 Answer::telling(said, self.tell(group))
             }
+            Ask::Enter { group, context } => {
+                Answer::quiet(Said::Told(enter(leases, group, context)))
+            }
+            Ask::Properties { group, command } => {
+                Answer::quiet(Said::Properties(self.in_force(group, command)))
+            }
             Ask::GiveBack => self.give_back(service, leases),
             Ask::Expire { from, to } => {
                 Answer::telling(Said::Done, self.expire_each(service, from, to))
@@ -157,6 +165,13 @@ impl<S: Service> Locked<S> {
             op: *op,
         };
         Said::Told(make_step(&mut self.lender, leases, &step, reply))
+    }
+
+    /// What is in force of the group's command of the number. No step is made, so nothing goes into the log.
+    pub fn in_force(&self, group: GroupId, command: u8) -> Option<InForce>
+        ensures { result ≡ in_force_at self.now.lender.recorded.groups group.0 command }
+    {
+        self.lender.in_force(group, command)
     }
 
     /// Gives back all that a connection has which ends, unless memory is refused for that: nothing is done then.
@@ -249,5 +264,15 @@ impl<S: Service> Locked<S> {
     /// Whether the connection of the number sleeps on: it waits, and was not told to look again.
     pub fn sleeps(&self, number: usize) -> bool {
         self.waiters.sleeps(number)
+    }
+}
+
+/// The connection is within the request context of the group from now on, or it is said why it may not be.
+fn enter(leases: &mut Leases, group: GroupId, context: u64) -> Option<Refusal>
+    ensures { IsEntry group context leases.old result leases.new }
+{
+    match leases.enter(group, context) {
+        Ok(()) => None,
+        Err(refusal) => Some(refusal),
     }
 }

@@ -4,8 +4,9 @@ ghost use Rattle.std.specs.Prelude.{◌≡◌, true};
 ghost use Rattle.bh_base.specs.declared.reply.Reply.{Reply};
 ghost use Rattle.bh_audit.specs.Books.{IsAudited};
 ghost use Rattle.bh_lease.specs.Leases.{LeasesView};
+ghost use Rattle.bh_sharing.specs.Locked.{IsEntry};
 ghost use Rattle.bh_sharing.specs.Service.{IsOf};
-ghost use Rattle.bh_sharing.specs.Shared.{IsReturned, IsShared};
+ghost use Rattle.bh_sharing.specs.Shared.{IsInForce, IsReturned, IsShared};
 ghost use Rattle.bh_sharing.specs.Turns.{Did};
 
 use crate::asks::{Answer, Ask, Said};
@@ -16,7 +17,8 @@ use crate::waiters::{MOST_WAITERS, Waiter};
 use bh_audit::Book;
 use bh_base::{GroupId, Op, Reply};
 use bh_desk::Turn;
-use bh_lease::Leases;
+use bh_in_force::InForce;
+use bh_lease::{Leases, Refusal};
 use bh_lender::StepLog;
 use bh_share::Directory;
 use bh_turns::put_answer;
@@ -102,6 +104,35 @@ impl<S: Service> SharedGroups<S> {
                 }
             }
             Said::Waits => Ok(Turn::Waits),
+            _ => unreachable!(),
+        }
+    }
+
+    /// The connection is within the request context of the group from now on, until a `Close` of it is made for the connection, or
+    /// the connection ends; or it is said why it may not enter it. No step is made.
+    pub fn enter<R: Wait + Clock>(
+        &self,
+        rt: &R,
+        leases: &mut Leases,
+        group: GroupId,
+        context: u64,
+    ) -> Option<Refusal>
+        ensures { IsEntry group context leases.old result leases.new }
+    {
+        let mut reply = Reply::Idle;
+        match self.ask(rt, Ask::Enter { group, context }, leases, &mut reply) {
+            Said::Told(refused) => refused,
+            _ => unreachable!(),
+        }
+    }
+
+    /// What is in force of the group's command of the number, in one turn; None where the group is not registered, or lacks the
+    /// command. No step is made.
+    pub fn in_force<R: Wait + Clock>(&self, rt: &R, group: GroupId, command: u8) -> Option<InForce>
+        ensures { IsInForce S.facts group command result }
+    {
+        match self.look(rt, Ask::Properties { group, command }) {
+            Said::Properties(found) => found,
             _ => unreachable!(),
         }
     }

@@ -1,19 +1,20 @@
 //! The line of a script that says a step.
 
-ghost use Rattle.std.specs.Prelude.{◌≡◌, ◌≤◌, ◌<◌, ◌++◌, ◌+◌, Err, IfOk, IfSome, OnErr, OnOk, Some, length, option_copied, slice_get, true};
+ghost use Rattle.std.specs.Prelude.{◌≡◌, ◌≤◌, ◌<◌, ◌++◌, ◌+◌, Err, IfOk, IfSome, OnErr, OnOk, Some, false, length, option_copied, slice_get, true};
 ghost use Rattle.serde_json.specs.View.{view};
 ghost use Rattle.bh_base.specs.declared.step.FallbackEnd.TheVariants as ends;
 ghost use Rattle.bh_base.specs.declared.step.Op.TheVariants as op;
 ghost use Rattle.bh_lines.specs.Lines.{line_limit};
 ghost use Rattle.bh_lines.specs.StepLine.{is_short, is_short_end};
 ghost use Rattle.bh_sharing.specs.declared.step_line.StepLineError.TheVariants as errors;
-ghost use Rattle.bh_sharing.specs.StepText.{SaysEnd, SaysStep, close_data, collect_data, end_line, fail_data, fallback_data, finish_data, name_of_command, no_value_data, read_data, step_data, step_line, submit_data, word_data};
+ghost use Rattle.bh_sharing.specs.StepText.{SaysEnd, SaysStep, close_data, collect_data, command_data, end_line, fail_data, fallback_data, finish_data, is_sayable, name_of_command, no_value_data, step_data, step_line, submit_data, tune_data, word_data};
 
 use crate::line_object::{Member, object_of};
 use bh_base::{FallbackEnd, GroupId, Moment, Op, Request, Step};
 use bh_lines::lines::LINE_LIMIT;
 use bh_replies::json_line;
 use bh_share::Directory;
+use bh_tuning::{Given, is_said_by_name, name_of, value_of};
 use serde_json::Value;
 use std::alloc::{AllocError, Global};
 use thiserror::Error;
@@ -27,6 +28,9 @@ pub enum StepLineError {
     /// It would be of more bytes than a line of a script may have, 1,024 without its line feed.
     #[error("the line of a step is longer than a script's may be")]
     Long,
+    /// It would give a property a value that is out of its range, as no script may.
+    #[error("a step gives a property a value that no script may give it")]
+    Range,
 }
 
 impl From<AllocError> for StepLineError {
@@ -41,8 +45,8 @@ impl From<AllocError> for StepLineError {
 }
 
 /// Puts the line of a script that says the step behind the bytes. Nothing is put for a step of a group that the directory
-/// does not have. It fails for want of memory, or where the line is longer than a script's may be, and leaves the bytes as they
-/// were then.
+/// does not have. It fails for want of memory, where the line is longer than a script's may be, or where a property would get a
+/// value out of its range, and leaves the bytes as they were then.
 ///
 /// The line, read, is the step: a script that has it is asked for this operation at this moment, of the group and the command
 /// by their names.
@@ -56,11 +60,16 @@ pub fn put_step<D: Directory>(
     ensures says { OnOk result (IfSome (slice_get (D.names directory.now).groups step.entry.now.group.0) (SaysStep (D.names directory.now) step.entry.now)) }
     ensures fits { OnOk result (length (step_line (D.names directory.now) step.entry.now) ≤ line_limit + 1) }
     ensures long { result ≡ Err errors.Long → line_limit + 1 < length (step_line (D.names directory.now) step.entry.now) }
+    ensures range { result ≡ Err errors.Range → is_sayable step.entry.now.op ≡ false }
     ensures err { OnErr result (out.new.items ≡ out.old.items) }
 {
     let Some(group) = group_name(directory, step.group) else {
         return Ok(());
     };
+    if !is_sayable(&step.op) {
+        return Err(StepLineError::Range);
+    }
+    is_said_by_name();
     let value = step_value(alloc, directory, group, step)?;
     let line = json_line(alloc, &value)?;
     if line.len() > LINE_LIMIT + 1 {
@@ -146,7 +155,16 @@ fn step_value<D: Directory>(
         Op::Close { context } => close_value(alloc, group, now, *context),
         Op::Read { command } => {
             let command = command_name(directory, group, step.group, *command);
-            read_value(alloc, group, now, command)
+            command_value(alloc, group, now, command, "read")
+        }
+        Op::Totals { command } => {
+            let command = command_name(directory, group, step.group, *command);
+            command_value(alloc, group, now, command, "totals")
+        }
+        Op::Tune { command, tuning } => {
+            let command = command_name(directory, group, step.group, *command);
+            let (property, value) = (name_of(tuning), value_of(tuning));
+            tune_value(alloc, group, now, command, property, value)
         }
     }
 }
@@ -333,14 +351,15 @@ fn close_value(alloc: Global, group: &str, now: Moment, context: u64) -> Result<
     )
 }
 
-/// The object that says that the metrics of the command are asked for.
-fn read_value<'x>(
+/// The object that says that what was counted of the command is asked for, by the word.
+fn command_value<'x>(
     alloc: Global,
     group: &'x str,
     now: Moment,
     command: &'x str,
+    word: &'x str,
 ) -> Result<Value, AllocError>
-    ensures { IfOk result (λ v. view v ≡ read_data group.now now command.now) }
+    ensures { IfOk result (λ v. view v ≡ command_data group.now now command.now word.now) }
 {
     object_of(
         alloc,
@@ -348,7 +367,45 @@ fn read_value<'x>(
             Member::Text("command", command),
             Member::Text("group", group),
             Member::Number("now", now),
-            Member::Text("op", "read"),
+            Member::Text("op", word),
         ],
     )
+}
+
+/// The object that says that the property of this name gets the value.
+fn tune_value<'x>(
+    alloc: Global,
+    group: &'x str,
+    now: Moment,
+    command: &'x str,
+    property: &'x str,
+    value: Given,
+) -> Result<Value, AllocError>
+    ensures { IfOk result (λ v. view v ≡ tune_data group.now now command.now property.now value) }
+{
+    let command = Member::Text("command", command);
+    let group = Member::Text("group", group);
+    let now = Member::Number("now", now);
+    let word = Member::Text("op", "tune");
+    let property = Member::Text("property", property);
+    match value {
+        Given::Number(number) => {
+            let value = Member::Number("value", number);
+            object_of(alloc, &[command, group, now, word, property, value])
+        }
+        Given::Truth(truth) => {
+            let value = Member::Truth("value", truth);
+            object_of(alloc, &[command, group, now, word, property, value])
+        }
+    }
+}
+
+/// Whether a script may say the operation.
+fn is_sayable(op: &Op) -> bool
+    ensures { result ≡ is_sayable op.now }
+{
+    match op {
+        Op::Tune { tuning, .. } => tuning.is_within(),
+        _ => true,
+    }
 }

@@ -10,8 +10,10 @@ use Rattle.bh_base.specs.Runs.{View}
 use Rattle.bh_base.specs.Seen.{view_reply}
 use Rattle.bh_core.specs.CoreView.{CoreView, view_at}
 use Rattle.bh_core.specs.Looks.{is_assigned, is_worn_out}
+use Rattle.bh_in_force.specs.declared.properties.InForce.{InForce}
+use Rattle.bh_in_force.specs.PropertiesLine.{properties_line}
 use Rattle.bh_lease.specs.declared.leases.Refusal.{Refusal}
-use Rattle.bh_lease.specs.Leases.{LeasesView, after, refusal}
+use Rattle.bh_lease.specs.Leases.{LeasesView, leases_after, refusal}
 use Rattle.bh_lender.specs.Lender.{DoesStep, LenderView}
 use Rattle.bh_lender.specs.Settling.{would_wait}
 use Rattle.bh_lines.specs.Names.{Names, command_name}
@@ -47,7 +49,7 @@ told_name names group _ = None
 abbrev pub IsDoneUnless : Option Refusal → Step → Reply → LenderView → LeasesView → LenderView → LeasesView → Type 0
 IsDoneUnless (Some why) step reply old had new has = (new ≡ old) × (has ≡ had)
 IsDoneUnless None step reply old had new has =
-    DoesStep step reply old new × (has ≡ record had { listed = after step.group step.op reply had.listed })
+    DoesStep step reply old new × (has ≡ leases_after step.group step.op reply had)
 
 -- what comes of a step that a connection with these leases asks for
 abbrev pub IsDone : Step → Reply → LenderView → LeasesView → LenderView → LeasesView → Type 0
@@ -57,6 +59,11 @@ IsDone step reply old had new has = IsDoneUnless (refusal step.group step.op had
 abbrev pub answer_line : Option Refusal → Names → GroupId → Reply → List ℕ
 answer_line (Some why) names group reply = refusal_line why
 answer_line None names group reply = reply_line (told_name names group reply) reply
+
+-- the line of what is in force of a command, or of why nothing is: its group is not there
+abbrev pub in_force_line : Option InForce → List ℕ
+in_force_line (Some properties) = properties_line properties
+in_force_line None = reply_line None replies.NoGroup
 
 -- how a step is answered that a connection with these leases asks for
 abbrev pub IsAnswered : Names → Step → LenderView → LeasesView → LenderView → LeasesView → List ℕ → Type 0

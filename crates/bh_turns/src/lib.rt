@@ -3,4 +3,4 @@
 
 pub mod turn;
 
-pub use turn::{has_to_wait, is_idle, make_step, put_answer};
+pub use turn::{has_to_wait, is_idle, make_step, put_answer, put_in_force};

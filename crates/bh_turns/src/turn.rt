@@ -2,11 +2,12 @@
 
 ghost use Rattle.std.specs.Prelude.{◌≡◌, ◌++◌, OnErr, OnOk, option_copied};
 ghost use Rattle.bh_core.specs.CoreView.{view_at};
-ghost use Rattle.bh_turns.specs.Turn.{IsDone, answer_line, has_to_wait, told_name, would_idle};
+ghost use Rattle.bh_turns.specs.Turn.{IsDone, answer_line, has_to_wait, in_force_line, told_name, would_idle};
 ghost use Rattle.bh_lease.specs.Leases.{refusal};
 
 use bh_base::{GroupId, Op, Reply, Step, Text};
 use bh_core::Core;
+use bh_in_force::{InForce, put_properties};
 use bh_lease::{Leases, Refusal};
 use bh_lender::Lender;
 use bh_replies::put_reply;
@@ -75,6 +76,24 @@ pub fn put_answer<D: Directory>(
     match refused {
         None => put_reply(alloc, out, reply, told_name(directory, group, reply)),
         Some(refusal) => put_refusal(alloc, out, refusal),
+    }
+}
+
+/// Puts the line behind the bytes that tells what is in force of a command; where that is nothing, the line of a step in a group
+/// that is not there.
+///
+/// The error comes where memory for the line was refused: the bytes are as they were then.
+pub fn put_in_force(
+    alloc: Global,
+    found: Option<InForce>,
+    out: &mut Vec<u8>,
+) -> Result<(), AllocError>
+    ensures ok { OnOk result (out.new.items ≡ out.old.items ++ in_force_line found) }
+    ensures err { OnErr result (out.new.items ≡ out.old.items) }
+{
+    match found {
+        Some(properties) => put_properties(out, &properties),
+        None => put_reply(alloc, out, &Reply::NoGroup, None),
     }
 }
 

@@ -53,6 +53,9 @@ adds_taken a p q s reply.NoTicket t h = h
 adds_taken a p q s reply.NotInFallback t h = h
 adds_taken a p q s (reply.Closed x) t h = h
 adds_taken a p q s (reply.Metrics x) t h = h
+adds_taken a p q s (reply.Totals x) t h = h
+adds_taken a p q s reply.Tuned t h = h
+adds_taken a p q s reply.OutOfRange t h = h
 adds_taken a p q s reply.Worn t h = absurd (let e : true ≡ false = t in cc)
 adds_taken a p q s reply.NoGroup t h = absurd (let e : true ≡ false = t in cc)
 adds_taken a p q s reply.NoCommand t h = absurd (let e : true ≡ false = t in cc)

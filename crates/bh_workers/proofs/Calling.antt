@@ -161,6 +161,9 @@ module _ (moments : ℕ → Type 0) where
   collects a p q serial reply.NotInFallback can known h = (let no : false ≡ true = can in cc)
   collects a p q serial (reply.Closed x) can known h = (let no : false ≡ true = can in cc)
   collects a p q serial (reply.Metrics x) can known h = (let no : false ≡ true = can in cc)
+  collects a p q serial (reply.Totals x) can known h = (let no : false ≡ true = can in cc)
+  collects a p q serial reply.Tuned can known h = (let no : false ≡ true = can in cc)
+  collects a p q serial reply.OutOfRange can known h = (let no : false ≡ true = can in cc)
 
 -- a result that comes of no refusal and of no Collect
 pub record IsNoEnd (moments : ℕ → Type 0) (result : Result Answer CallError) : Type 0 where
@@ -352,6 +355,9 @@ accepted_reply reply.NoTicket w n m = refl
 accepted_reply reply.NotInFallback w n m = refl
 accepted_reply (reply.Closed x) w n m = refl
 accepted_reply (reply.Metrics x) w n m = refl
+accepted_reply (reply.Totals x) w n m = refl
+accepted_reply reply.Tuned w n m = refl
+accepted_reply reply.OutOfRange w n m = refl
 accepted_reply reply.Worn w n m = absurd (w refl)
 accepted_reply reply.NoGroup w n m = absurd (n refl)
 accepted_reply reply.NoCommand w n m = absurd (m refl)

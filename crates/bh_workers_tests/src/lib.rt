@@ -35,4 +35,6 @@ mod stress;
 #[cfg(test)]
 mod threads;
 #[cfg(test)]
+mod tunes;
+#[cfg(test)]
 mod waking;

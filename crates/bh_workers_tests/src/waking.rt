@@ -132,7 +132,7 @@ fn assert_woken<R: Threads + Wait + Sync + rt::Clock + Abort + AllocGlobal>(rt: 
 }
 
 /// Each in a group of one worker, whose queue has room for five.
-const CASES: [Case; 10] = [
+const CASES: [Case; 12] = [
     Case {
         name: "three holders of one ticket",
         limit: 20,
@@ -232,6 +232,26 @@ const CASES: [Case; 10] = [
         steps: "0 0 0 finish 1 r = Done",
         told: "Assigned(2 y)",
         account: "5 of 20 changed, 0 of 20, running",
+    },
+    Case {
+        name: "a worker as the pool grows",
+        limit: 20,
+        before: "0 0 0 submit x = Queued(1)\n0 0 0 submit y = Queued(2)\n0 next 0 = Assigned(1 x)",
+        sleepers: 1,
+        asked: "next 0",
+        steps: "0 0 0 tune core-size 2 = Tuned",
+        told: "Assigned(2 y)",
+        account: "5 of 20 changed, 0 of 20, running",
+    },
+    Case {
+        name: "a caller whose timeout comes to be shorter",
+        limit: 20,
+        before: "0 0 0 submit x = Queued(1)",
+        sleepers: 1,
+        asked: "await 1 0",
+        steps: "0 due 500 = Ok(None)\n0 0 500 tune timeout 500 = Tuned\n0 due 500 = Ok(Some(1))",
+        told: "RunFallback(Timeout)",
+        account: "4 of 20 changed, 0 of 20, running",
     },
 ];
 

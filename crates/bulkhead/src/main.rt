@@ -2,12 +2,16 @@
 #![tactic(auto)]
 
 use bh_arguments::run_program;
+use bh_commands::StandIns;
 use std::process::ExitCode;
 use std::{env, io};
 
-/// Does what the arguments say, and ends with its exit status.
+/// Does what the arguments say, and ends with its exit status. Standard streams that are closed are opened first.
 fn main(rt: HostRuntime) -> ExitCode {
-    ExitCode::from(run_program(&rt, &rt, arguments(&rt)))
+    let streams = StandIns::open(&rt);
+    let status = run_program(&rt, &rt, arguments(&rt));
+    drop(streams);
+    ExitCode::from(status)
 }
 
 /// The arguments of the program, its name first.

@@ -2,6 +2,7 @@
 
 use crate::explain::shown::{NAME_RULE, Quoted, ShownMember};
 use bh_props::is_name;
+use bh_tuning::{Given, tuning_named};
 use serde_json::Value;
 use std::alloc::Global;
 use std::io::Write;
@@ -16,6 +17,10 @@ enum Kind {
     Name,
     /// A whole number of 64 bits.
     Number,
+    /// A whole number in a range.
+    Whole { least: u64, most: u64 },
+    /// A whole number, `true` or `false`.
+    Value,
     /// `true` or `false`.
     Truth,
     /// The end of a fallback.
@@ -27,7 +32,8 @@ impl Kind {
     fn fits(self, value: &Value) -> bool {
         match self {
             Kind::Text { .. } | Kind::Name => value.as_str().is_some(),
-            Kind::Number => value.as_u64().is_some(),
+            Kind::Number | Kind::Whole { .. } => value.as_u64().is_some(),
+            Kind::Value => value.as_u64().is_some() || value.as_bool().is_some(),
             Kind::Truth => value.as_bool().is_some(),
             Kind::End => matches!(value.as_str(), Some("success" | "failure" | "missing")),
         }
@@ -40,6 +46,8 @@ impl fmt::Display for Kind {
             Kind::Text { most } => write!(f, "a text of at most {most} bytes"),
             Kind::Name => f.write_str("a text"),
             Kind::Number => f.write_str("a whole number from 0 to 18446744073709551615"),
+            Kind::Whole { least, most } => write!(f, "a whole number from {least} to {most}"),
+            Kind::Value => f.write_str("a whole number, true or false"),
             Kind::Truth => f.write_str("true or false"),
             Kind::End => f.write_str("\"success\", \"failure\" or \"missing\""),
         }
@@ -131,6 +139,20 @@ const BAD: Member = Member {
     may_lack: false,
 };
 
+/// The name of a property.
+const PROPERTY: Member = Member {
+    name: "property",
+    kind: Kind::Name,
+    may_lack: false,
+};
+
+/// The value that a property gets.
+const VALUE: Member = Member {
+    name: "value",
+    kind: Kind::Value,
+    may_lack: false,
+};
+
 /// How a fallback ended.
 const END: Member = Member {
     name: "end",
@@ -148,7 +170,8 @@ fn members_of(op: &str) -> &'static [Member] {
         "collect" => &[GROUP, NOW, TICKET],
         "fallback" => &[GROUP, NOW, TICKET, END],
         "close" => &[GROUP, NOW, ENDED],
-        "read" => &[GROUP, NOW, COMMAND],
+        "read" | "totals" => &[GROUP, NOW, COMMAND],
+        "tune" => &[GROUP, NOW, COMMAND, PROPERTY, VALUE],
         "register" => &[GROUP, LIKE],
         "retire" => &[GROUP],
         _ => &[],
@@ -170,6 +193,7 @@ pub(crate) fn faulty_line<E: Write>(
             match fault {
                 "field" => faulty.field(errors, number),
                 "long" => faulty.long(errors, number),
+                "range" => faulty.value(errors, number),
                 _ => faulty.unknown(errors, number, fault),
             }
         }
@@ -230,6 +254,7 @@ impl FaultyLine<'_> {
     /// Of a member that another one asks for.
     fn half<E: Write>(&self, errors: &mut E, number: u64) -> io::Result<()> {
         match self.op {
+            "tune" => self.value(errors, number),
             "fallback" => writeln!(
                 errors,
                 "explain: line {number}: with the end \"success\" body has to be a text of at most 256 bytes"
@@ -238,6 +263,22 @@ impl FaultyLine<'_> {
                 errors,
                 "explain: line {number}: context and key have to stand there both, or neither"
             ),
+        }
+    }
+
+    /// Of a value that its property cannot have.
+    fn value<E: Write>(&self, errors: &mut E, number: u64) -> io::Result<()> {
+        let property = text_of(self.value, "property");
+        let kind = kind_of(property);
+        match self.value.get("value") {
+            Some(value) => {
+                let shown = ShownMember(value);
+                writeln!(
+                    errors,
+                    "explain: line {number}: value is {shown}; for {property} it has to be {kind}"
+                )
+            }
+            None => Ok(()),
         }
     }
 
@@ -268,12 +309,17 @@ impl FaultyLine<'_> {
         let group = Quoted(text_of(self.value, "group"));
         let command = Quoted(text_of(self.value, "command"));
         let like = Quoted(text_of(self.value, "like"));
+        let property = Quoted(text_of(self.value, "property"));
         match fault {
             "op" => writeln!(errors, "explain: line {number}: there is no op {op}"),
             "group" => writeln!(errors, "explain: line {number}: there is no group {group}"),
             "command" => writeln!(
                 errors,
                 "explain: line {number}: there is no command {command} of the group {group}"
+            ),
+            "property" => writeln!(
+                errors,
+                "explain: line {number}: there is no property {property} that may change while a group runs"
             ),
             "like" => writeln!(
                 errors,
@@ -288,9 +334,23 @@ impl FaultyLine<'_> {
             }
             _ => writeln!(
                 errors,
-                "explain: line {number}: 10000 groups were registered, the most that may be"
+                "explain: line {number}: 2^40 groups were registered, the most that may be"
             ),
         }
+    }
+}
+
+/// What the value of a property has to be that may change.
+fn kind_of(property: &str) -> Kind {
+    if property == "coreSize" {
+        return Kind::Whole { least: 1, most: 64 };
+    }
+    match tuning_named(property, Given::Truth(true)) {
+        Ok(_) => Kind::Truth,
+        Err(_) => Kind::Whole {
+            least: 0,
+            most: 4_294_967_295,
+        },
     }
 }
 

@@ -53,7 +53,7 @@ impl Group {
         ensures few { result ≤ 4096 }
         ensures count { result ≡ length (due_of command (view_in tickets.old self.old).present) }
         ensures view { view_in tickets.new self.new ≡ view_timed_out command (view_in tickets.old self.old) }
-        ensures counted { counted_of self.new ≤ counted_of self.old + 2 * result }
+        ensures counted { counted_of self.new ≤ counted_of self.old + 3 * result }
         ensures left { Leaves tickets.old self.old tickets.new self.new }
     {
         let due = self.due_rule(command);
@@ -106,9 +106,9 @@ impl Group {
     /// Adds so many timeouts of the command at the step's moment.
     fn record_timeouts(&mut self, command: u8, count: u64)
         requires known { command < command_count self.old.props }
-        requires few { counted_of self.old + 2 * count < 2 ^ 60 }
+        requires few { counted_of self.old + 3 * count < 2 ^ 60 }
         ensures view { (ts : TicketsView) → view_in ts self.new ≡ with_events (replicate count (record { command = command; kind = kind.Timeout })) (view_in ts self.old) }
-        ensures counted { counted_of self.new ≤ counted_of self.old + 2 * count }
+        ensures counted { counted_of self.new ≤ counted_of self.old + 3 * count }
         ensures left { (ts : TicketsView) → Leaves ts self.old ts self.new }
     {
         for done in 0..count {

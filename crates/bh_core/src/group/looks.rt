@@ -6,11 +6,11 @@ ghost use Rattle.bh_base.specs.Seen.{view_reply};
 ghost use Rattle.bh_base.specs.declared.ticket.Ticket.{Ticket};
 ghost use Rattle.bh_core.specs.GroupView.{HasTickets, view_in};
 ghost use Rattle.bh_core.specs.Stepping.{IsSteady};
-ghost use Rattle.bh_core.specs.Looks.{IsFound, circuit_shown, expires_some, is_assigned, is_pending, metrics_shown, ticket_meant};
+ghost use Rattle.bh_core.specs.Looks.{IsFound, circuit_shown, expires_some, is_assigned, is_pending, metrics_shown, ticket_meant, totals_shown};
 ghost use Rattle.bh_tickets.specs.TicketsView.{IsThere, TicketsView, group_at};
 
 use super::Group;
-use bh_base::{CircuitState, GroupProps, Metrics, Moment, Op, Serial, Ticket};
+use bh_base::{CircuitState, Counts, GroupProps, Metrics, Moment, Op, Serial, Ticket};
 use bh_tickets::{DueRule, Tickets, is_unanswered};
 
 impl Group {
@@ -57,6 +57,16 @@ impl Group {
             return None;
         }
         Some(self.commands[command as usize].circuit.state())
+    }
+
+    /// How many events of each kind the command had, where the group has the command.
+    pub fn totals(&self, command: u8) -> Option<Counts>
+        ensures { (ts : TicketsView) → result ≡ totals_shown command (view_in ts self.now) }
+    {
+        if command >= self.command_count() {
+            return None;
+        }
+        Some(self.commands[command as usize].history.totals())
     }
 
     /// The metrics of the command at the moment, where the group has the command.

@@ -6,15 +6,15 @@ ghost use Rattle.bh_base.specs.declared.step.Op.TheVariants as op;
 ghost use Rattle.bh_base.specs.Commands.{is_known};
 ghost use Rattle.bh_base.specs.Runs.{View, is_worn};
 ghost use Rattle.bh_base.specs.Seen.{view_reply};
-ghost use Rattle.bh_core.specs.CoreView.{Life, is_retired, most_groups, registered_as, slots_in, view_at};
+ghost use Rattle.bh_core.specs.CoreView.{Life, is_retired, most_groups, in_force, slots_in, view_at};
 ghost use Rattle.bh_core.specs.GroupView.{GroupView};
 ghost use Rattle.bh_core.specs.declared.service.entry.Entry.TheVariants as entry;
-ghost use Rattle.bh_core.specs.Looks.{circuit_shown, expires_some, is_assigned, is_pending, is_worn_out, metrics_shown, metrics_told, ticket_meant};
+ghost use Rattle.bh_core.specs.Looks.{circuit_shown, expires_some, is_assigned, is_pending, is_worn_out, metrics_shown, metrics_told, ticket_meant, totals_shown};
 
 use super::entry::Entry;
 use super::{Core, MOST_GROUPS, RegisterError};
 use crate::group::Group;
-use bh_base::{CircuitState, GroupId, GroupProps, Metrics, Moment, Op, Serial, Ticket};
+use bh_base::{CircuitState, Counts, GroupId, GroupProps, Metrics, Moment, Op, Serial, Ticket};
 
 impl Core {
     /// How many groups were registered, retired ones included. Their numbers are those below it.
@@ -43,10 +43,10 @@ impl Core {
         matches!(&self.groups[place as usize], Entry::Retired(_))
     }
 
-    /// The properties and the step limit with which the group was registered, also where it is retired by now; None
-    /// where no group of the number was registered.
+    /// The properties that are in force in the group, and the step limit with which it was registered; of a retired one those
+    /// that were in force when it was retired. None where no group of the number was registered.
     pub fn props(&self, group: GroupId) -> Option<(&GroupProps, u64)>
-        ensures known { (life : Life) → slice_get self.now.lives group.0 ≡ Some life → IsSomeAnd result (λ shown. (shown.0.now ≡ (registered_as life).0) × (shown.1 ≡ (registered_as life).1)) }
+        ensures known { (life : Life) → slice_get self.now.lives group.0 ≡ Some life → IsSomeAnd result (λ shown. (shown.0.now ≡ (in_force life).0) × (shown.1 ≡ (in_force life).1)) }
         ensures unknown { slice_get self.now.lives group.0 ≡ None → IsNone result }
     {
         let place = group.0;
@@ -121,6 +121,18 @@ impl Core {
     {
         match find(&self.groups, group) {
             Some(found) => found.metrics(&self.tickets, command, now),
+            None => None,
+        }
+    }
+
+    /// How many events of each kind the command had since the group was registered: what a `Totals` would be answered, and shown
+    /// of a worn group too. None where the group is not registered, or lacks the command.
+    pub fn totals(&self, group: GroupId, command: u8) -> Option<Counts>
+        ensures known { (v : View) → view_at self.now group.0 ≡ Some v → result ≡ totals_shown command v }
+        ensures unknown { view_at self.now group.0 ≡ None → result ≡ None }
+    {
+        match find(&self.groups, group) {
+            Some(found) => found.totals(command),
             None => None,
         }
     }

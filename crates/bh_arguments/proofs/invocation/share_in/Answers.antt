@@ -8,6 +8,6 @@ returns c = record {
   forever = c.flag_in.result;
   is_forever = c.flag_in.ensures;
   service = c.service_in.ensures;
-  tickets = c.u32_in.ensures;
+  sharing = c.sharing_in.ensures;
   record_path = c.get_str.ensures ∙ first_value-rows (found_of c.args.found.now) (codes "record");
 }

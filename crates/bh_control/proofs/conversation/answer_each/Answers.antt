@@ -16,7 +16,7 @@ returns-in_err-asked-clause-each g c =
 pub loop-answer-preserved : goal.loop-answer-preserved
 loop-answer-preserved g c =
     let inv = c.loop-answer.invariant in
-    let who = λ (names : Names). responder names g.C.Control.may_show g.C.Control.may_answer g.C.Control.may_close in
+    let who = λ (names : Names). responder names g.C.Control.may_show g.C.Control.may_answer g.C.Control.may_close g.C.Control.may_total g.C.Control.may_tune g.C.Control.may_force in
     let taken = subst (λ (names : Names). TakesAsked names c.loop-answer.received (Ok c.in_ok-asked.field-0) c.next.new.self) inv.0 c.in_ok-asked.ensures.taken in
     let put = subst (λ (names : Names). IsPut (IsAnswer (who names) c.in-Some.asked) c.clear.new.self.items c.put_answer.new.out.items) inv.0 c.in_ok-put_answer.ensures.answer in (
       c.in_ok-put_answer.ensures.groups ∙ inv.0,

@@ -12,7 +12,7 @@ loop-asked-init g c = record { same_writer = refl; names = refl; none_refused = 
 pub loop-asked-preserved : goal.loop-asked-preserved
 loop-asked-preserved g c =
     let inv = c.loop-asked.invariant in
-    let who = λ (names : Names). responder names g.C.Control.may_show g.C.Control.may_answer g.C.Control.may_close in
+    let who = λ (names : Names). responder names g.C.Control.may_show g.C.Control.may_answer g.C.Control.may_close g.C.Control.may_total g.C.Control.may_tune g.C.Control.may_force in
     let taken = subst (λ (names : Names). TakesAsked names c.loop-asked.received (Ok c.in_ok-asked.field-0) c.next.new.self) inv.names c.in_ok-asked.ensures.taken in
     let put = subst (λ (names : Names). IsPut (IsAnswer (who names) c.in-Some.asked) c.write_before.new.answers.items c.put_answer.new.out.items) inv.names c.in_ok-put_answer.ensures.answer in
     let before = c.in_ok-write_before.ensures in record {

@@ -10,7 +10,7 @@ invariant-loop-asked g l = record {
   same_writer : (writer_of l.writer).ghost_name ≡ (writer_of l.fn.writer).ghost_name;
   names : g.C.Control.names l.control ≡ g.C.Control.names l.fn.control;
   none_refused : NoneRefused l.fn.writer l.writer;
-  holds : HoldsUpTo (responder (g.C.Control.names l.fn.control) g.C.Control.may_show g.C.Control.may_answer g.C.Control.may_close)
+  holds : HoldsUpTo (responder (g.C.Control.names l.fn.control) g.C.Control.may_show g.C.Control.may_answer g.C.Control.may_close g.C.Control.may_total g.C.Control.may_tune g.C.Control.may_force)
       (bytes_held g.W.Write.contents l.fn.writer) (bytes_held g.W.Write.contents l.writer) l.fn.received (λ (more : List ℕ). cut (l.received ++ more)) l.answers.items;
 }
 

@@ -12,7 +12,7 @@ pub returns-then-count-eq0-clause-answers : goal.returns-then-count-eq0-clause-a
 returns-then-count-eq0-clause-answers g c =
     let inv = c.loop.invariant in
     let read = c.in-Ok.ensures.bytes in
-    let who = λ (names : Names). responder names g.C.Control.may_show g.C.Control.may_answer g.C.Control.may_close in
+    let who = λ (names : Names). responder names g.C.Control.may_show g.C.Control.may_answer g.C.Control.may_close g.C.Control.may_total g.C.Control.may_tune g.C.Control.may_force in
     let outcome = subst (λ (names : Names). LastOutcome (who names) (bytes_held g.W.Write.contents c.loop.writer) (bytes_held g.W.Write.contents c.answer_last.new.writer) c.loop.received c.answer_last.result) inv.names c.answer_last.ensures.outcome in
     progress-ends _ (bytes_left g.R.Read.remaining c.loop.reader) (bytes_left g.R.Read.remaining c.read.new.self) _ (bytes_held g.W.Write.contents c.loop.writer) _ (who (g.C.Control.names c.args.control.now)) c.loop.received (take c.in-Ok.count c.read.new.buf) c.answer_last.result
     inv.progress read.0 (search rules) (read.1 (search rules) (search rules)) outcome
@@ -30,7 +30,7 @@ returns-in_err-answer_piece-clause-answers g c =
     let error = c.in_err-answer_piece.field-0.0 in
     let p = err_from_is_err_and c.from_residual-in_err-answer_piece.result c.from_residual-in_err-answer_piece.ensures.1 in
     let piece = take c.in-Ok.count c.read.new.buf in
-    let who = λ (names : Names). responder names g.C.Control.may_show g.C.Control.may_answer g.C.Control.may_close in
+    let who = λ (names : Names). responder names g.C.Control.may_show g.C.Control.may_answer g.C.Control.may_close g.C.Control.may_total g.C.Control.may_tune g.C.Control.may_force in
     let named = subst (λ (names : Names). PieceOutcome (who names) (bytes_held g.W.Write.contents c.loop.writer) (bytes_held g.W.Write.contents c.answer_piece.new.writer) c.push.new.self (Err error) c.answer_piece.new.received) inv.names c.in_err-answer_piece.ensures.outcome in
     let outcome = subst (λ (all : List ℕ). PieceOutcome (who (g.C.Control.names c.args.control.now)) (bytes_held g.W.Write.contents c.loop.writer) (bytes_held g.W.Write.contents c.answer_piece.new.writer) all (Err error) c.answer_piece.new.received) c.in_ok-push.ensures.ok named in
     rw (p.1, p.2)
@@ -43,7 +43,7 @@ loop-preserved g c =
     let read = c.in-Ok.ensures.bytes in
     let piece = take c.in-Ok.count c.read.new.buf in
     let done = c.in_ok-answer_piece.ensures in
-    let who = λ (names : Names). responder names g.C.Control.may_show g.C.Control.may_answer g.C.Control.may_close in
+    let who = λ (names : Names). responder names g.C.Control.may_show g.C.Control.may_answer g.C.Control.may_close g.C.Control.may_total g.C.Control.may_tune g.C.Control.may_force in
     let named = subst (λ (names : Names). PieceOutcome (who names) (bytes_held g.W.Write.contents c.loop.writer) (bytes_held g.W.Write.contents c.answer_piece.new.writer) c.push.new.self (Ok tt) c.answer_piece.new.received) inv.names done.outcome in
     let outcome = subst (λ (all : List ℕ). PieceOutcome (who (g.C.Control.names c.args.control.now)) (bytes_held g.W.Write.contents c.loop.writer) (bytes_held g.W.Write.contents c.answer_piece.new.writer) all (Ok tt) c.answer_piece.new.received) c.in_ok-push.ensures.ok named in record {
       same_reader = c.in-Ok.ensures.same_reader ∙ inv.same_reader;

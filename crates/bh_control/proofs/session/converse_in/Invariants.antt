@@ -16,6 +16,6 @@ invariant-loop g l = record {
   none_failed : NoneFailed l.fn.reader l.reader;
   none_refused : NoneRefused l.fn.writer l.writer;
   progress : Progress (bytes_left g.R.Read.remaining l.fn.reader) (bytes_left g.R.Read.remaining l.reader)
-      (responder (g.C.Control.names l.fn.control) g.C.Control.may_show g.C.Control.may_answer g.C.Control.may_close)
+      (responder (g.C.Control.names l.fn.control) g.C.Control.may_show g.C.Control.may_answer g.C.Control.may_close g.C.Control.may_total g.C.Control.may_tune g.C.Control.may_force)
       (bytes_held g.W.Write.contents l.fn.writer) (bytes_held g.W.Write.contents l.writer) l.received;
 }

@@ -1,12 +1,12 @@
-use Rattle.std.proofs.Common.{◌≡◌, ◌-◌, Some, sym, ap, subst, ◌∙◌, arith}
+use Rattle.std.proofs.Common.{◌≡◌, ◌-◌, Some, sym, ap, ◌∙◌, arith}
 use Rattle.bh_base.specs.Commands.{command_count}
-use Rattle.bh_base.specs.Ranges.{IsInRange}
 use Rattle.bh_base.specs.Runs.{State, View, step, view}
 use Rattle.bh_base.specs.Seen.{view_after}
 use Rattle.bh_base.specs.declared.step.Step.{Step}
+use Rattle.bh_base.proofs.Views.{step_ranges}
 use Rattle.bh_core.specs.CoreView.{Shows, view_at}
 use Rattle.bh_look.specs.Steps.{tally_with}
-use Rattle.bh_look.proofs.Adding.{each_step, fits, props_kept, then_times}
+use Rattle.bh_look.proofs.Adding.{count_kept, each_step, fits, then_times}
 use Rattle.bh_look.proofs.making.make_step.Goals as goal
 
 pub returns-in-Some-clause-tallies : goal.returns-in-Some-clause-tallies
@@ -21,10 +21,10 @@ returns-in-Some-clause-tallies c = λ s shown in_range count.
     let seen = c.apply_to.ensures.step.seen v shown.view_is in
     let both : Some w ≡ Some (view_after v x.op x.now) = sym after.view_is ∙ seen.1 in
     let is : w ≡ view_after v x.op x.now = cc in
-    let kept : t.present.props ≡ s.present.props = props_kept s x.op x.now in
+    let kept : command_count t.present.props ≡ command_count s.present.props = count_kept s x.op x.now in
     let fit = fits s c.args.lanes.now shown.sound in_range count in
     let noted = c.note_looks.ensures v (ap (λ k. view_at k g) c.core-4.ensures.core ∙ shown.view_is) fit in
-    let again = fits t c.note_looks.new.lanes after.sound (subst IsInRange (sym kept) in_range) (omega (arith, c.note_looks.auto.lanes, count, ap command_count kept)) in
+    let again = fits t c.note_looks.new.lanes after.sound (step_ranges s x.op x.now in_range) (omega (arith, c.note_looks.auto.lanes, count, kept)) in
     let added = c.add_looks.ensures w (ap (λ k. view_at k g) c.core-6.ensures.core ∙ after.view_is) again in
     let says = c.expires_some-expires.ensures v (ap (λ k. view_at k g) c.core-3.ensures.core ∙ shown.view_is) in
     let now_is = c.latest-moment.ensures.known w (ap (λ k. view_at k g) c.core-5.ensures.core ∙ after.view_is) in
@@ -46,10 +46,10 @@ returns-in-None-clause-tallies c = λ s shown in_range count.
     let seen = c.apply_to.ensures.step.seen v shown.view_is in
     let both : Some w ≡ Some (view_after v x.op x.now) = sym after.view_is ∙ seen.1 in
     let is : w ≡ view_after v x.op x.now = cc in
-    let kept : t.present.props ≡ s.present.props = props_kept s x.op x.now in
+    let kept : command_count t.present.props ≡ command_count s.present.props = count_kept s x.op x.now in
     let fit = fits s c.args.lanes.now shown.sound in_range count in
     let noted = c.note_looks.ensures v (ap (λ k. view_at k g) c.core-4.ensures.core ∙ shown.view_is) fit in
-    let again = fits t c.note_looks.new.lanes after.sound (subst IsInRange (sym kept) in_range) (omega (arith, c.note_looks.auto.lanes, count, ap command_count kept)) in
+    let again = fits t c.note_looks.new.lanes after.sound (step_ranges s x.op x.now in_range) (omega (arith, c.note_looks.auto.lanes, count, kept)) in
     let added = c.add_looks.ensures w (ap (λ k. view_at k g) c.core-6.ensures.core ∙ after.view_is) again in
     let says = c.expires_some-expires.ensures v (ap (λ k. view_at k g) c.core-3.ensures.core ∙ shown.view_is) in
     let now_is = c.latest-moment.ensures.known w (ap (λ k. view_at k g) c.core-5.ensures.core ∙ after.view_is) in

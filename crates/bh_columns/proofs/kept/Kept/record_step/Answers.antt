@@ -8,7 +8,7 @@ use Rattle.bh_base.specs.Seen.{view_after}
 use Rattle.bh_base.specs.declared.step.Step.{Step}
 use Rattle.bh_core.specs.CoreView.{Shows, view_at}
 use Rattle.bh_look.specs.declared.lane.Lane.{Lane}
-use Rattle.bh_look.proofs.Adding.{props_kept, set_here}
+use Rattle.bh_look.proofs.Adding.{count_kept, set_here}
 use Rattle.bh_columns.specs.Filled.{AreFilled, HasRoomsFor, SamePanel, Stands}
 use Rattle.bh_columns.specs.Panels.{EachAt, FitsLanes, HasLooked, HasTold, SameStanding}
 use Rattle.bh_columns.specs.Steps.{when_of}
@@ -104,8 +104,8 @@ returns c = record {
       let told : HasTold v x.op x.now m3.steps.items = subst (λ (ss : Vec Lane Global). HasTold v x.op x.now ss.items) (sym steps3) told1 in
       let lanes3 : length m3.lanes.items ≡ command_count s.present.props = standing.count ∙ stands.count in
       let count : length m3.steps.items ≡ length m3.lanes.items = ap (λ (ss : Vec Lane Global). length ss.items) steps3 ∙ c.make_step.ensures.count ∙ many0 ∙ sym lanes3 in
-      let props : w.present.props ≡ s.present.props = ap (λ (u : View). u.present.props) (sym is) ∙ props_kept s x.op x.now in
-      let fits3 : FitsLanes w m3.lanes.items = record { count = lanes3 ∙ sym (ap command_count props); few = subst (λ ps. command_count ps ≤ 16) (sym props) in_range.few_commands } in
+      let commands : command_count w.present.props ≡ command_count s.present.props = ap (λ (u : View). command_count u.present.props) (sym is) ∙ count_kept s x.op x.now in
+      let fits3 : FitsLanes w m3.lanes.items = record { count = lanes3 ∙ sym commands; few = omega (arith, commands, in_range.few_commands) } in
       let m4 : KeptPanel = c.add.new.self in
       let added = c.add.ensures.lanes w (ap (λ k. view_at k g) c.core-4.ensures.core ∙ seen) fits3 count in
       let p4 = set p3 n m4 in

@@ -10,6 +10,6 @@ invariant-loop-command l = record {
   view : view_in l.tickets l.self ≡ view_timed_below l.command (view_tests_timed_out (view_in l.fn.tickets l.fn.self));
   count : l.count ≡ length (filter (is_due_below l.command (view_tests_timed_out (view_in l.fn.tickets l.fn.self)).present) (view_in l.fn.tickets l.fn.self).present.tickets);
   few : l.count ≤ 4096 * l.command;
-  counted : counted_of l.self ≤ counted_of l.fn.self + 2 * l.count;
+  counted : counted_of l.self ≤ counted_of l.fn.self + 3 * l.count;
   left : Leaves l.fn.tickets l.fn.self l.tickets l.self;
 }

@@ -10,6 +10,6 @@ use Rattle.bh_tickets.specs.TicketsView.{TicketsView}
 abbrev pub invariant-loop-done : goal.invariant-loop-done
 invariant-loop-done l = record {
   view : (ts : TicketsView) → with_events (replicate (l.count - l.done) (timeout_of l.command)) (view_in ts l.self) ≡ with_events (replicate l.count (timeout_of l.command)) (view_in ts l.fn.self);
-  counted : counted_of l.self ≤ counted_of l.fn.self + 2 * l.done;
+  counted : counted_of l.self ≤ counted_of l.fn.self + 3 * l.done;
   left : (ts : TicketsView) → Leaves ts l.fn.self ts l.self;
 }

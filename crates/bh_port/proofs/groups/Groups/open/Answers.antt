@@ -1,8 +1,7 @@
-use Rattle.std.proofs.Common.{◌≡◌, ◌≤◌, ◌++◌, ◌∙◌, ℕ, List, [], ap, sym, subst, append-nil, arith}
+use Rattle.std.proofs.Common.{◌≡◌, ◌++◌, ◌∙◌, ℕ, List, [], ap, sym, subst, append-nil, arith}
 use Rattle.std.proofs.lemmas.Grind.{common_steps}
 use Rattle.std.specs.declared.iter.Enumerate.{Enumerate}
 use Rattle.bh_base.specs.Commands.{each_from}
-use Rattle.bh_base.specs.Ranges.{IsInRange}
 use Rattle.bh_props.specs.Shown.{settings_view}
 use Rattle.bh_port.specs.declared.groups.Entry.{Entry}
 use Rattle.bh_port.specs.Course.{listed_entries, opened_core}
@@ -10,7 +9,7 @@ use Rattle.bh_port.specs.Entries.{new_entry}
 use Rattle.bh_port.specs.Kept.{AreNumbered, AreOf}
 use Rattle.bh_port.specs.Latest.{AreLatest}
 use Rattle.bh_port.proofs.Keeping.{of_listed}
-use Rattle.bh_port.proofs.Lists.{all_weaker, each-map, every_of}
+use Rattle.bh_port.proofs.Lists.{each-map}
 use Rattle.bh_port.proofs.Naming.{numbered-none}
 use Rattle.bh_port.proofs.Noting.{latest-none}
 use Rattle.bh_port.proofs.Showing.{agrees-opened}
@@ -39,8 +38,7 @@ invariant_of-result c =
     let iter : c.loop-place.place-iterator.iter ≡ [] = grind (arith, common_steps) in
     let all : c.loop-place.entries.items ≡ listed_entries service =
     sym (append-nil c.loop-place.entries.items) ∙ sym (ap (λ ns. c.loop-place.entries.items ++ each_from c.loop-place.place-iterator.count (λ place name. new_entry name place) ns) iter) ∙ c.loop-place.invariant.listed in
-    let few = all_weaker (λ group. IsInRange group.1) (λ group. group.1.slots ≤ 4096) service.groups (λ group in_range. in_range.few_slots) (every_of (λ group. IsInRange group.1) service.groups c.args.settings.now.in_range) in
-    (c.loop-place.invariant.numbered, subst (λ k. AreOf k c.loop-place.entries.items) (sym c.in_ok-core.ensures.opened) (subst (AreOf (opened_core service)) (sym all) (of_listed service few)), c.loop-place.invariant.latest)
+    (c.loop-place.invariant.numbered, subst (λ k. AreOf k c.loop-place.entries.items) (sym c.in_ok-core.ensures.opened) (subst (AreOf (opened_core service)) (sym all) (of_listed service)), c.loop-place.invariant.latest)
 
 pub returns-clause-agrees : goal.returns-clause-agrees
 returns-clause-agrees c =

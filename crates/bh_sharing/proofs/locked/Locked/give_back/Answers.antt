@@ -5,7 +5,7 @@ use Rattle.bh_sharing.proofs.locked.Locked.give_back.Goals as goal
 
 pub invariant_of-self : goal.invariant_of-self
 invariant_of-self g c =
-    of_returned g.S.Service.facts c.moment-now.result c.args.leases.now.listed c.self.inside.lender c.give_back.new.self c.self.invariant c.in-Ok.ensures.given
+    of_returned g.S.Service.facts c.moment-now.result c.args.leases.now c.self.inside.lender c.give_back.new.self c.self.invariant c.in-Ok.ensures.given
 
 pub invariant_of-self-in-Err : goal.invariant_of-self-in-Err
 invariant_of-self-in-Err g c =

@@ -1,0 +1,1 @@
+pub mod Sending  -- what is printed of the tokens that were sent
