@@ -1,0 +1,7 @@
+package bulkhead.rx.functions;
+
+/** What is done without an argument. */
+public interface Action0 {
+    /** Does it. */
+    void call();
+}
