@@ -5,7 +5,9 @@ What one thread does is done in spells of a millisecond or so, many of which pas
 
 from __future__ import annotations
 
+import asyncio
 import atexit
+import os
 import socket
 import statistics
 import subprocess
@@ -13,7 +15,7 @@ import sys
 import tempfile
 import threading
 import time
-from collections.abc import Callable
+from collections.abc import Callable, Coroutine
 from concurrent.futures import ThreadPoolExecutor
 from pathlib import Path
 from typing import Any
@@ -26,16 +28,20 @@ except ImportError:
     circuit = None
 
 POOLS = [f"g{number}" for number in range(8)]
-SETTINGS = f"""service.groups = {[*POOLS, "permits"]}
+SETTINGS = f"""service = {{groups = {[*POOLS, "permits", "tasks"]}, slots = {{default = 96, tasks = 256}}}}
 hystrix.command.permits.execution.isolation.strategy = "SEMAPHORE"
+hystrix.command.tasks.execution.isolation = {{strategy = "SEMAPHORE", semaphore.maxConcurrentRequests = 200}}
 hystrix.threadpool.default = {{coreSize = 10, maxQueueSize = 64, queueSizeRejectionThreshold = 64}}
 """
-THREADS, SHARE = 32, 50
+THREADS, SHARE, COROUTINES = 32, 50, 200
 # how many spells of one thread a round has
 SPELLS = 20
 # of which way how much is asked, and beside which other one: a difference in microseconds, or a ratio
 COMPARED = (
     ("under SEMAPHORE", "the bare function", "more"),
+    ("under SEMAPHORE, with a listener", "under SEMAPHORE", "more"),
+    ("a fork, with a call in the child", "a fork", "more"),
+    ("200 coroutines at once", "200 bare coroutines at once", "more"),
     ("through a pool, executed", "ThreadPoolExecutor(10)", "more"),
     ("through a pool, queued and waited for", "ThreadPoolExecutor(10)", "more"),
     ("32 threads, 8 pools", "32 threads, 8 executors", "times"),
@@ -86,9 +92,38 @@ def loop(call: Callable[[int], Any], count: int) -> Callable[[], int]:
     return run
 
 
+def forked(call: Callable[[], Any]) -> Callable[[], int]:
+    """A process that is forked, does something, and ends."""
+
+    def run() -> int:
+        child = os.fork()
+        if not child:
+            call()
+            os._exit(0)
+        os.waitpid(child, 0)
+        return 1
+
+    return run
+
+
+def at_once(call: Callable[[int], Coroutine[Any, Any, int]]) -> Callable[[], int]:
+    """200 coroutines, all of which have begun before one ends."""
+
+    async def run() -> int:
+        return len(await asyncio.gather(*[call(number) for number in range(COROUTINES)]))
+
+    return lambda: asyncio.run(run())
+
+
+async def pausing(value: int) -> int:
+    await asyncio.sleep(0)
+    return value
+
+
 def ways_of_one() -> dict[str, Callable[[], int]]:
     """What one thread does."""
-    service = bulkhead.open(text=SETTINGS)
+    service, listened = bulkhead.open(text=SETTINGS), bulkhead.open(text=SETTINGS)
+    listened.on_event(lambda event: None)
     recorded = bulkhead.open(text=SETTINGS)
     recorded.record(Path(tempfile.mkdtemp()) / "record.jsonl")
     permits, of_record = service.command("permits")(function), recorded.command("permits")(function)
@@ -98,6 +133,9 @@ def ways_of_one() -> dict[str, Callable[[], int]]:
         told["circuitbreaker"] = loop(circuit()(function), 1_000)
     told["under SEMAPHORE"] = loop(permits, 200)
     told["under SEMAPHORE, with a record"] = loop(of_record, 200)
+    told["under SEMAPHORE, with a listener"] = loop(listened.command("permits")(function), 200)
+    told["200 bare coroutines at once"] = at_once(pausing)
+    told["200 coroutines at once"] = at_once(service.command("tasks")(pausing))
     told["ThreadPoolExecutor(10)"] = loop(lambda value: executor.submit(function, value).result(), 50)
     told["through a pool, executed"] = loop(pool, 50)
     told["through a pool, queued and waited for"] = loop(lambda value: pool.queue(value).result(), 50)
@@ -123,8 +161,10 @@ def ways_of_shared(program: str) -> dict[str, Callable[[], int]]:
 
 
 def ways_of_many() -> dict[str, Callable[[], int]]:
-    """What 32 threads do."""
-    told: dict[str, Callable[[], int]] = {}
+    """What 32 threads and a forked process do."""
+    forking = bulkhead.open(text=SETTINGS).command("permits")(function)
+    told: dict[str, Callable[[], int]] = {"a fork": forked(lambda: None)}
+    told["a fork, with a call in the child"] = forked(lambda: forking(7))
     for called, about in ((function, ""), (short, ", functions of 1 ms")):
         service = bulkhead.open(text=SETTINGS)
         executors = [ThreadPoolExecutor(10) for _ in POOLS]

@@ -30,6 +30,29 @@ METRICS = {
     "queued": 0,
     "total": 5,
 }
+# what is in force where nothing is said
+PROPERTIES = {
+    "circuitBreaker.enabled": True,
+    "circuitBreaker.errorThresholdPercentage": 50,
+    "circuitBreaker.forceClosed": False,
+    "circuitBreaker.forceOpen": False,
+    "circuitBreaker.requestVolumeThreshold": 20,
+    "circuitBreaker.sleepWindowInMilliseconds": 5000,
+    "coreSize": 10,
+    "execution.isolation.semaphore.maxConcurrentRequests": 10,
+    "execution.isolation.strategy": "THREAD",
+    "execution.isolation.thread.timeoutInMilliseconds": 1000,
+    "execution.timeout.enabled": True,
+    "fallback.enabled": True,
+    "fallback.isolation.semaphore.maxConcurrentRequests": 10,
+    "maxQueueSize": -1,
+    "metrics.healthSnapshot.intervalInMilliseconds": 500,
+    "metrics.rollingStats.numBuckets": 10,
+    "metrics.rollingStats.timeInMilliseconds": 10000,
+    "queueSizeRejectionThreshold": 5,
+    "requestCache.enabled": True,
+    "service.slots": 64,
+}
 
 
 @dataclass
@@ -61,6 +84,9 @@ class FakeService:
         self.said: defaultdict[str, deque[Optional[Answer]]] = defaultdict(deque)
         # operations whose lines are not answered before they are taken out
         self.held: set[str] = set()
+        # the contexts that each connection entered, and the properties that changed
+        self.entered: dict[int, list[int]] = {}
+        self.values: dict[tuple[str, str], Any] = {}
         self._open: dict[int, socket.socket] = {}
         self._is_up = False
         self.up()
@@ -164,6 +190,8 @@ class FakeService:
                     ticket.answer = {"reply": "error", "cause": "failure", "fallback": "missing"}
                     ticket.run_of = ticket.fallback_of = None
                 ticket.holders = [one for one in ticket.holders if one != number]
+            for context in self.entered.pop(number, []):
+                self._close(number, {"context": context})
             del self._open[number]
             self.changed.notify_all()
 
@@ -285,6 +313,22 @@ class FakeService:
             why = "failed" if line["end"] == "failure" else "missing"
             ticket.answer = {"reply": "error", "cause": ticket.cause, "fallback": why}
         return {"reply": "done"}
+
+    def _enter(self, number: int, line: Line) -> Answer:
+        self.entered.setdefault(number, []).append(line["context"])
+        return {"reply": "entered"}
+
+    def _tune(self, number: int, line: Line) -> Answer:
+        self.values[line.get("command", line["group"]), line["property"]] = line["value"]
+        return {"reply": "tuned"}
+
+    def _properties(self, number: int, line: Line) -> Answer:
+        name = line.get("command", line["group"])
+        told = {**PROPERTIES, **{of: value for (whose, of), value in self.values.items() if whose == name}}
+        return {"reply": "properties", "properties": told}
+
+    def _totals(self, number: int, line: Line) -> Answer:
+        return {"reply": "totals", "events": {"SUCCESS": 7}}
 
     def _close(self, number: int, line: Line) -> Answer:
         released = [one for one in self.tickets.values() if one.name and one.name[2] == line["context"]]

@@ -15,6 +15,10 @@ from typing import Any, Optional
 from bulkhead import CommandError
 
 
+# an earlier Python looks for signals at jumps, too, and not only where a call begins or ends
+FROM_3_11 = unittest.skipIf(sys.version_info < (3, 11), "before Python 3.11 an interrupt may leave something behind")
+
+
 class Interrupt(KeyboardInterrupt):
     """What the signal handler of these tests raises. A loop lets it out as it does a KeyboardInterrupt."""
 

@@ -2,6 +2,7 @@
 
 from __future__ import annotations
 
+import asyncio
 import contextlib
 import gc
 import logging
@@ -63,11 +64,34 @@ class Gate:
             assert self.begun.acquire(timeout=10)
 
 
+class LoopEvent:
+    """An `asyncio.Event` that is made by its first use, within the loop, as Python 3.9 wants it."""
+
+    def __init__(self) -> None:
+        self._event: Optional[asyncio.Event] = None
+
+    def _made(self) -> asyncio.Event:
+        if self._event is None:
+            self._event = asyncio.Event()
+        return self._event
+
+    def set(self) -> None:
+        self._made().set()
+
+    def is_set(self) -> bool:
+        return self._made().is_set()
+
+    async def wait(self) -> None:
+        await self._made().wait()
+
+
 class Case(unittest.TestCase):
     """A test with services that are closed behind it."""
 
     def open(self, text: str = SETTINGS, **options: Any) -> bulkhead.CommandService:
-        service = bulkhead.open(text=text, **options)
+        with warnings.catch_warnings():
+            warnings.simplefilter("ignore", bulkhead.SettingsWarning)
+            service = bulkhead.open(text=text, **options)
         self.addCleanup(service.close)
         return service
 

@@ -7,7 +7,7 @@ import threading
 from typing import Any
 
 import bulkhead
-from support import SETTINGS, Case, Gate
+from support import SETTINGS, Case, Gate, LoopEvent
 
 SHORT = SETTINGS + "\n[hystrix.command.permits.execution.isolation.thread]\ntimeoutInMilliseconds = 30\n"
 
@@ -95,7 +95,7 @@ class Coroutines(Case):
         self.assert_idle(service)
 
     def test_a_function_that_outstays_its_cancelling_keeps_its_permit_alone(self) -> None:
-        service, gate = self.open(SHORT), asyncio.Event()
+        service, gate = self.open(SHORT), LoopEvent()
 
         @service.command("permits")
         async def stay() -> None:

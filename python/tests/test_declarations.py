@@ -148,7 +148,7 @@ class Declarations(Case):
 
     def test_the_package_tells_its_version_and_where_its_library_lies(self) -> None:
         told = subprocess.run([sys.executable, "-m", "bulkhead"], capture_output=True, text=True, check=True)
-        self.assertEqual(told.stdout, f"bulkhead {bulkhead.__version__}, interface 3\n{bulkhead._library.path()}\n")
+        self.assertEqual(told.stdout, f"bulkhead {bulkhead.__version__}, interface 4\n{bulkhead._library.path()}\n")
 
     def test_a_clock_that_gives_no_moment_is_told(self) -> None:
         for moment in (1.5, 1 << 64, "noon", None):

@@ -9,7 +9,6 @@ import signal
 import subprocess
 import sys
 import threading
-import unittest
 import weakref
 
 import bulkhead
@@ -151,66 +150,6 @@ print("ends")
         self.assertEqual((ended.returncode, ended.stdout, ended.stderr), (0, "ends\n", ""))
         last = path.read_bytes().splitlines()[-1]
         self.assertIn(b'"record":"whole"', last)
-
-    def test_a_forked_child_is_stopped_and_its_parent_goes_on(self) -> None:
-        path = self.folder() / "record.jsonl"
-        ended = self.run_python(
-            f"""
-import os, sys
-import bulkhead
-service = bulkhead.open(text={SETTINGS!r})
-record = service.record({str(path)!r})
-pooled, permitted = service.command("pool")(lambda: 1), service.command("permits")(lambda: 1)
-pooled(), permitted()
-child = os.fork()
-if not child:
-    for call in (pooled, permitted):
-        try:
-            call()
-        except bulkhead.Stopped:
-            continue
-        os._exit(1)
-    service.close()
-    sys.exit(7)
-print(os.waitstatus_to_exitcode(os.waitpid(child, 0)[1]), pooled(), permitted())
-service.close()
-print(record.is_whole)
-"""
-        )
-        self.assertEqual((ended.returncode, ended.stdout, ended.stderr), (0, "7 1 1\nTrue\n", ""))
-        lines = path.read_bytes().splitlines()
-        self.assertEqual(len([line for line in lines if b'"submit"' in line]), 4)
-
-    @unittest.skipUnless(hasattr(os, "fork"), "there is no fork")
-    def test_forks_while_other_threads_call(self) -> None:
-        service, stop = self.open(), threading.Event()
-        calls = [service.command(name)(lambda: 1) for name in ("pool", "permits")]
-
-        def work() -> None:
-            while not stop.is_set():
-                for call in calls:
-                    try:
-                        call()
-                    except bulkhead.CommandError:
-                        pass
-
-        threads = [threading.Thread(target=work) for _ in range(4)]
-        for thread in threads:
-            thread.start()
-        for _ in range(20):
-            child = os.fork()
-            if not child:
-                try:
-                    calls[1]()
-                except bulkhead.Stopped:
-                    os._exit(0)
-                finally:
-                    os._exit(1)
-            self.assertEqual(os.waitpid(child, 0)[1], 0)
-        stop.set()
-        for thread in threads:
-            thread.join()
-        self.assert_idle(service)
 
     def test_a_call_within_a_turn_is_reentered_and_does_not_wait(self) -> None:
         seen: list[type] = []

@@ -15,13 +15,14 @@ from typing import Any, Optional
 
 import bulkhead
 from bulkhead._coroutines import Carried
-from interrupts import Alarm, Interrupt, at_place
+from interrupts import FROM_3_11, Alarm, Interrupt, at_place
 from support import SETTINGS, Case, Gate
 
 ROUNDS = 2_000
 
 
 class Interrupts(Case):
+    @FROM_3_11
     def test_a_call_under_permits_may_be_interrupted_by_the_kernel_at_random_places(self) -> None:
         service = self.open(SETTINGS)
         calls = [
@@ -33,6 +34,7 @@ class Interrupts(Case):
         ]
         self.interrupt_at_random(service, calls)
 
+    @FROM_3_11
     def test_a_context_may_be_interrupted_by_the_kernel_at_random_places(self) -> None:
         service, alarm, opened, count = self.open(), Alarm(self), [], 0
         call = service.command("permits", key=lambda: 1)(lambda: 1)
@@ -182,6 +184,54 @@ class Interrupts(Case):
                 self.assert_idle(service)
                 self.assertEqual({metrics.free for metrics in service.metrics().values()}, {64})
 
+    def test_each_place_of_a_call_that_is_listened_to_may_be_interrupted(self) -> None:
+        service, told = self.open(), Counter[str]()
+        service.on_event(lambda event: told.update([event.kind]))
+        for name in ("permits", "pool"):
+            call = service.command(name, fallback=lambda value, *, cause: 1 // value)(lambda value: 1 // value)
+            for value in (1, 0):
+                for number in range(1, 1_000):
+                    if not at_place(lambda: call(value), number):
+                        break
+                    self.assert_idle(service)
+                self.assertGreater(number, 20)
+        counts = service.metrics().values()
+        for kind in ("success", "failure", "bad_request", "fallback_failure", "fallback_missing", "exception_thrown"):
+            self.until(lambda: told[kind] == sum(getattr(metrics, kind) for metrics in counts))
+
+    def test_each_place_of_a_call_of_a_full_group_may_be_interrupted(self) -> None:
+        settings = 'service = {groups = ["permits"], slots.permits = 1}\n' + (
+            'hystrix.command.permits.execution.isolation.strategy = "SEMAPHORE"\n'
+            "hystrix.command.permits.fallback.isolation.semaphore.maxConcurrentRequests = 1\n"
+        )
+        service, gate = self.open(settings), Gate()
+        call = service.command("permits", fallback=lambda value, *, cause: type(cause).__name__)(gate)
+        thread = threading.Thread(target=call, args=(7,))
+        thread.start()
+        gate.wait()
+        for number in range(1, 1_000):
+            if not at_place(lambda: call(7), number):
+                break
+            self.assertEqual(call(7), "GroupFull")
+        self.assertGreater(number, 10)
+        gate.open()
+        thread.join()
+        self.assert_idle(service)
+
+    def test_each_place_of_a_change_may_be_interrupted(self) -> None:
+        service = self.open()
+        call = service.command("permits", fallback=lambda *, cause: type(cause).__name__)(lambda: 7)
+        (place,) = service.turns.groups["permits"].places
+        for number in range(1, 1_000):
+            is_open = place.settings.circuit_moves
+            was_interrupted = at_place(lambda: service.tune("permits", circuitBreaker_forceOpen=is_open), number)
+            # Python goes by the value that the core has
+            self.assertEqual(call() == 7, place.settings.circuit_moves)
+            if not was_interrupted:
+                break
+        self.assertGreater(number, 20)
+        self.assert_idle(service)
+
     def test_each_place_of_a_registration_and_of_a_retirement_may_be_interrupted(self) -> None:
         service, reached = self.open(), 0
         for number in range(1, 1_000):
@@ -203,10 +253,11 @@ class Interrupts(Case):
         """Python has note of a group exactly where the core has."""
         try:
             number = service.turns.groups[name].number if name in service.turns.groups else None
-            self.assertEqual(service._opened.group(name), number)
+            self.assertEqual(service.turns.opened.group(name), number)
         except bulkhead.NoSuchGroup:
             self.assertIsNone(number)
 
+    @FROM_3_11
     def test_each_place_of_the_end_of_a_context_may_be_interrupted(self) -> None:
         service = self.open()
         calls = [service.command(name, key=lambda: 1)(lambda: 1) for name in ("permits", "pool")]
@@ -239,6 +290,7 @@ class Interrupts(Case):
                 break
         self.assertGreater(number, 20)
 
+    @FROM_3_11
     def test_each_place_of_a_coroutines_call_may_be_interrupted(self) -> None:
         for value in (1, 0):
             for then in (self.go_on_with, self.leave, self.close_loop):

@@ -58,19 +58,39 @@ class Metrics(Case):
             f'bulkhead_circuit_state{{{labels},state="open"}} 1',
             f'bulkhead_circuit_state{{{labels},state="closed"}} 0',
             'bulkhead_free_slots{group="tenant-7"} 64',
-            f'bulkhead_rolling_events{{{labels},event="failure"}} 2',
+            f'bulkhead_circuit_state{{{labels},state="forced-open"}} 0',
+            f"bulkhead_circuit_opened_total{{{labels}}} 1",
+            f"bulkhead_permits{{{labels}}} 2",
+            'bulkhead_pool_workers{group="tenant-7"} 2',
             f'bulkhead_runs_total{{{labels},end="success"}} 1',
             f'bulkhead_runs_total{{{labels},end="failure"}} 2',
-            f'bulkhead_answers_total{{{labels},answer="value"}} 1',
-            f'bulkhead_answers_total{{{labels},answer="fallback-value"}} 3',
+            f'bulkhead_fallbacks_total{{{labels},end="success"}} 3',
+            f"bulkhead_errors_total{{{labels}}} 0",
             f'bulkhead_rejections_total{{{labels},reason="short-circuited"}} 1',
-            f'bulkhead_run_duration_seconds_bucket{{{labels},le="0.025"}} 0',
-            f'bulkhead_run_duration_seconds_bucket{{{labels},le="0.05"}} 3',
+            f'bulkhead_run_duration_seconds_bucket{{{labels},le="0.023"}} 0',
+            f'bulkhead_run_duration_seconds_bucket{{{labels},le="0.032"}} 3',
             f'bulkhead_run_duration_seconds_bucket{{{labels},le="+Inf"}} 3',
             f"bulkhead_run_duration_seconds_sum{{{labels}}} 0.09",
             f"bulkhead_run_duration_seconds_count{{{labels}}} 3",
         ):
             self.assertIn(line, lines)
+
+    def states(self, service: bulkhead.CommandService, command: str) -> list[str]:
+        """The states in which the gauge has the circuit breaker of a command."""
+        of = f'bulkhead_circuit_state{{group="permits",command="{command}",state="'
+        lines = [line[len(of) :] for line in service.prometheus().splitlines() if line.startswith(of)]
+        self.assertEqual(len(lines), 4)
+        return [line.partition('"')[0] for line in lines if line.endswith(" 1")]
+
+    def test_a_circuit_that_is_held_open_is_told_as_such(self) -> None:
+        further = 'service.command.later.group = "permits"\nhystrix.command.later.circuitBreaker.forceOpen = true\n'
+        service = self.open(further + SETTINGS)
+        self.assertEqual((self.states(service, "permits"), self.states(service, "later")), (["closed"], ["forced-open"]))
+        service.tune("permits", circuitBreaker_forceOpen=True)
+        service.tune("permits", "later", circuitBreaker_forceOpen=False)
+        self.assertEqual((self.states(service, "permits"), self.states(service, "later")), (["forced-open"], ["closed"]))
+        service.tune("permits", circuitBreaker_enabled=False)
+        self.assertEqual(self.states(service, "permits"), ["closed"], "a breaker that is switched off holds nothing up")
 
     @unittest.skipUnless(shutil.which("promtool"), "promtool is not there")
     def test_promtool_finds_nothing_in_the_text(self) -> None:

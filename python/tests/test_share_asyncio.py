@@ -10,6 +10,7 @@ import bulkhead
 from bulkhead import _client_coroutines
 from fake_share import FALLBACK_DUE
 from share_support import ShareCase
+from support import LoopEvent
 
 
 class Own(Exception):
@@ -23,9 +24,12 @@ class Coroutines(ShareCase):
 
     async def until(self, holds: Callable[[], object]) -> None:  # type: ignore[override]
         """Lets the loop go on until something holds."""
-        async with asyncio.timeout(10):
+
+        async def come() -> None:
             while not holds():
                 await asyncio.sleep(0.001)
+
+        await asyncio.wait_for(come(), 10)
 
     def test_values_and_errors(self) -> None:
         client = self.client()
@@ -89,7 +93,7 @@ class Coroutines(ShareCase):
         self.assertEqual(raised.exception.fallback, "failed")
 
     def test_at_its_timeout_a_caller_is_answered_and_the_task_is_cancelled(self) -> None:
-        client, ended = self.client(known=self.known(10)), asyncio.Event()
+        client, ended = self.client(known=self.known(10)), LoopEvent()
 
         async def slow() -> None:
             try:
@@ -112,7 +116,7 @@ class Coroutines(ShareCase):
         self.assertEqual(_client_coroutines._carried, {})
 
     def test_a_task_that_does_not_end_keeps_its_run_and_not_its_caller(self) -> None:
-        client, stop = self.client(known=self.known(10)), asyncio.Event()
+        client, stop = self.client(known=self.known(10)), LoopEvent()
 
         async def stubborn() -> None:
             while not stop.is_set():
@@ -136,7 +140,7 @@ class Coroutines(ShareCase):
         self.assert_settled()
 
     def test_a_caller_that_is_cancelled_cancels_its_run(self) -> None:
-        client, begun = self.client(), asyncio.Event()
+        client, begun = self.client(), LoopEvent()
 
         async def wait() -> None:
             begun.set()
@@ -158,7 +162,7 @@ class Coroutines(ShareCase):
         return client.command("catalog", key=lambda: "same", encode=str, decode=int)(run)
 
     def test_who_waits_for_another_process_does_not_hold_up_the_loop(self) -> None:
-        first, second, go_on = self.client(), self.client(), asyncio.Event()
+        first, second, go_on = self.client(), self.client(), LoopEvent()
 
         async def wait() -> int:
             await go_on.wait()

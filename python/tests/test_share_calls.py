@@ -90,6 +90,28 @@ class Calls(ShareCase):
         call = self.client().command("catalog", fallback=lambda *, cause: 1 // 0)(lambda: 1 // 0)
         error = self.told(call)
         self.assertEqual((type(error), error.fallback), (bulkhead.Failed, "failed"))
+        self.assertIn("catalog: failure; the fallback raised ZeroDivisionError: ", str(error))
+        self.assertIs(error.fallback_error, error.__context__)
+        self.assert_settled()
+
+    def test_an_ignored_exception_passes_through_as_a_bad_request(self) -> None:
+        def fail() -> None:
+            raise Own("no such item")
+
+        call = self.client().command("catalog", fallback=lambda *, cause: 1, ignored=Own)(fail)
+        with self.assertRaisesRegex(Own, "no such item"):
+            call()
+        self.assertIn({"op": "fail", "group": "catalog", "ticket": 1, "bad": True}, [line for _, line in self.fake.lines])
+        self.assert_settled()
+
+    def test_a_failed_result_goes_to_the_fallback(self) -> None:
+        def fallback(*, cause: bulkhead.FailedResult) -> tuple[str, int]:
+            return type(cause).__name__, cause.value
+
+        command = self.client().command("catalog", fallback=fallback, failed_result=lambda status: status == 503)
+        call: Any = command(lambda: 503)
+        self.assertEqual(call(), ("FailedResult", 503))
+        self.assertIn({"op": "fail", "group": "catalog", "ticket": 1, "bad": False}, [line for _, line in self.fake.lines])
         self.assert_settled()
 
     def test_a_refused_call_does_not_run_and_falls_back(self) -> None:
@@ -106,6 +128,43 @@ class Calls(ShareCase):
         self.fake.say("collect", {"reply": "error", "cause": "short-circuited", "fallback": "disabled"})
         error = self.told(self.client().command("catalog", fallback=lambda *, cause: 1)(lambda: 1))
         self.assertEqual((type(error), error.fallback), (bulkhead.ShortCircuited, "disabled"))
+
+    def test_a_property_changes_for_all_processes(self) -> None:
+        client = self.client()
+        client.tune("catalog", circuitBreaker_forceOpen=True)
+        client.tune("catalog", "report", {"fallback.enabled": False, "circuitBreaker.sleepWindowInMilliseconds": 7})
+        self.assertEqual(
+            self.fake.values,
+            {
+                ("catalog", "circuitBreaker.forceOpen"): True,
+                ("report", "fallback.enabled"): False,
+                ("report", "circuitBreaker.sleepWindowInMilliseconds"): 7,
+            },
+        )
+        for error in ("property", "field", "range", "tune"):
+            self.fake.say("tune", {"error": error})
+            with self.assertRaises(bulkhead.Refused):
+                client.tune("catalog", coreSize=7)
+        with self.assertRaises(bulkhead.NoSuchGroup):
+            client.tune("nobody", coreSize=7)
+        with self.assertRaises(bulkhead.NoSuchCommand):
+            client.tune("catalog", "nobody", coreSize=7)
+
+    def test_a_timeout_that_changes_holds_for_a_client_that_knows_the_settings(self) -> None:
+        text = b'service.groups = ["catalog"]\nhystrix.command.catalog.execution.isolation.strategy = "SEMAPHORE"'
+        with bulkhead.Service(text) as service:
+            known = bulkhead.settings.in_force(service.check())
+        client = self.client(known=known)
+        client.tune("catalog", execution_isolation_thread_timeoutInMilliseconds=7, requestCache_enabled=False)
+        (place,) = client._groups[0].places
+        self.assertEqual((place.limit, place.settings.is_cached), (7, False))
+
+    def test_totals_are_those_of_all_processes(self) -> None:
+        client = self.client()
+        self.assertEqual(client.totals("catalog", "report"), bulkhead.Totals(success=7))
+        self.fake.say("totals", {"reply": "worn"})
+        with self.assertRaises(bulkhead.Worn):
+            client.totals("catalog")
 
     def test_calls_without_a_ticket_are_told_why(self) -> None:
         call = self.client().command("catalog")(lambda: 1)
@@ -231,7 +290,7 @@ class Calls(ShareCase):
         self.assertEqual(client.metrics("report"), metrics)
         self.assertEqual(client.metrics(), {"catalog": metrics, "report": metrics})
         text = client.prometheus()
-        self.assertIn('bulkhead_rolling_events{group="catalog",command="catalog",event="success"} 3\n', text)
+        self.assertIn('bulkhead_circuit_state{group="catalog",command="catalog",state="closed"} 1\n', text)
         self.assertIn('bulkhead_runs_total{group="catalog",command="catalog",end="failure"} 1\n', text)
         self.assertIn('bulkhead_unreachable_total{group="catalog",command="catalog"} 0\n', text)
         with self.assertRaises(bulkhead.NoSuchCommand):

@@ -208,13 +208,61 @@ class Shared(ShareCase):
         with client.context(5):
             self.fake.held.add("submit")
             self.assertIsInstance(self.told(call, "lamp"), bulkhead.Unreachable)
-        self.assertEqual(self.fake.ops(), ["submit", "close"])
+        self.assertEqual(self.fake.ops(), ["enter", "submit", "close"])
         self.fake.let_go("submit")
         # behind the submit its connection has the end of the context once more
-        self.fake.until(lambda: self.fake.ops() == ["submit", "close", "close"])
+        self.fake.until(lambda: self.fake.ops() == ["enter", "submit", "close", "close"])
         self.assert_settled()
         self.assertEqual([ticket.name for ticket in self.fake.tickets.values()], [None])
         self.fake.until(lambda: self.fake.open_now() == 1)
+
+    def entered(self) -> list[tuple[int, int]]:
+        """The connections by which contexts were entered, and their numbers."""
+        return [(number, line["context"]) for number, line in self.fake.lines if line["op"] == "enter"]
+
+    def test_a_process_enters_a_context_before_its_first_call_with_a_key(self) -> None:
+        client = self.client()
+        call, plain = self.declared(client, lambda item: 7), client.command("report")(lambda: 8)
+        with client.context(5):
+            plain()
+            self.assertEqual(self.entered(), [])
+            call("lamp"), call("lamp"), call("chair")
+        with client.context(6):
+            call("lamp")
+        self.assertEqual(self.entered(), [(1, 5), (1, 6)])
+        self.assert_settled()
+
+    def test_it_enters_again_over_a_new_connection(self) -> None:
+        client = self.client()
+        call = self.declared(client, lambda item: 7)
+        with client.context(5):
+            call("lamp")
+            self.fake.drop()
+            self.assertEqual(call("lamp"), 7)
+            (first, _), (second, _) = self.entered()
+            self.assertNotEqual(first, second)
+            call("chair")
+        self.assertEqual(len(self.entered()), 2)
+        self.assert_settled()
+
+    def test_a_process_that_dies_leaves_no_answer_of_its_context(self) -> None:
+        client = self.client()
+        call = self.declared(client, lambda item: 7)
+        with client.context(5):
+            call("lamp")
+            client.close()
+            self.fake.until(lambda: not self.fake.open_now())
+            self.assertEqual([ticket.name for ticket in self.fake.tickets.values()], [None])
+
+    def test_a_service_that_keeps_no_more_contexts_answers_all_the_same(self) -> None:
+        client = self.client()
+        call = self.declared(client, lambda item: 7)
+        for answer in ({"error": "full"}, {"error": "op"}):
+            self.fake.say("enter", answer)
+            with client.context():
+                self.assertEqual((call("lamp"), call("lamp")), (7, 7))
+        self.assertEqual(len(self.entered()), 2)
+        self.assert_settled()
 
     def test_a_call_that_would_wait_for_its_own_thread_is_refused(self) -> None:
         client = self.client()

@@ -2,6 +2,7 @@
 
 from __future__ import annotations
 
+import contextlib
 import itertools
 import random
 import sys
@@ -9,7 +10,8 @@ import warnings
 from collections.abc import Callable
 from typing import Any
 
-from interrupts import Alarm, Interrupt, at_place
+import bulkhead
+from interrupts import FROM_3_11, Alarm, Interrupt, at_place
 from share_support import ShareCase
 
 
@@ -46,11 +48,15 @@ class Interrupts(ShareCase):
         def after() -> None:
             self.assertEqual(([*client._bodies[0].at], [*client._links._lent]), ([], []))
 
+        def shared() -> None:
+            with contextlib.suppress(bulkhead.BadRequest):  # what the other call's run is told as, where it is interrupted
+                call(value)
+
         for value in (1, 0):
             for number in itertools.count(1):
                 # one call runs the function, and one shares the answer
                 with client.context():
-                    was_reached = [at_place(lambda: call(value), number) for _ in range(2)]
+                    was_reached = [at_place(shared, number) for _ in range(2)]
                 self.fake.until(self.fake.settled)
                 after()
                 if not any(was_reached):
@@ -58,6 +64,7 @@ class Interrupts(ShareCase):
             self.assertGreater(number, 50)
             self.fake.until(lambda: all(ticket.name is None for ticket in self.fake.tickets.values()))
 
+    @FROM_3_11
     def test_contexts_may_be_interrupted_by_the_kernel_at_random_places(self) -> None:
         client, alarm, count = self.client(), Alarm(self), 0
         call = client.command("catalog", key=lambda value: value, encode=str, decode=int)(lambda value: 1 // value)

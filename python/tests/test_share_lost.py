@@ -68,6 +68,8 @@ class Lasting(ShareCase):
         self.fake.down()
         error = self.told(call)
         self.assertEqual((type(error), error.fallback), (bulkhead.Unreachable, "failed"))
+        self.assertIsInstance(error.fallback_error, ZeroDivisionError)
+        self.assertIn("; the fallback raised ZeroDivisionError: ", str(error))
 
     def test_a_connection_that_was_lost_is_opened_anew_by_the_next_call(self) -> None:
         call = self.client().command("catalog")(lambda: 7)

@@ -159,3 +159,18 @@ class Steps(unittest.TestCase):
         for thread in threads:
             thread.join()
         self.assertEqual(kinds, ["metrics"] * 1600)
+
+    def test_a_property_changes_and_totals_are_told(self) -> None:
+        settings = b'service = {groups = ["pool"], command.more.group = "pool"}'
+        with bulkhead.Service(settings) as service:
+            told = service.step("tune", "pool", 0, text="circuitBreaker.forceOpen", context=1, command="more")
+            self.assertEqual(told, bulkhead.Reply("tuned"))
+            self.assertEqual(service.step("submit", "pool", 1, command="more").cause, "short-circuited")
+            totals = service.step("totals", "pool", 2, command="more").totals
+            assert totals is not None
+            self.assertEqual({kind: count for kind, count in totals.items() if count}, {"short_circuited": 1})
+            for text, value in (("maxQueueSize", 7), ("coreSize", 65), ("circuitBreaker.forceOpen", 2)):
+                with self.assertRaises(bulkhead.Refused):
+                    service.step("tune", "pool", 3, text=text, context=value)
+            with self.assertRaises(bulkhead.BadStep):
+                service.step("tune", "pool", 3, text="x" * 65)

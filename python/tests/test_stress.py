@@ -18,6 +18,8 @@ import bulkhead
 from support import Case, needs_program, replayed
 
 SECONDS = float(os.environ.get("BULKHEAD_STRESS_SECONDS", "2"))
+# so many calls are more than 5,000 steps
+ENOUGH = 2_500
 NAMES = [f"g{number}" for number in range(8)]
 SETTINGS = f"""service = {{groups = {NAMES}, slots.default = 256, command.more.group = "g0"}}
 hystrix.command.g4.execution.isolation.strategy = "SEMAPHORE"
@@ -47,7 +49,7 @@ class Stress(Case):
             self.folder_of_record / "record.jsonl", replies=self.folder_of_record / "replies.jsonl"
         )
         self.declare()
-        self.end = time.monotonic() + SECONDS
+        self.begun = time.monotonic()
         threads = [threading.Thread(target=self.caller) for _ in range(31)]
         threads.append(threading.Thread(target=self.comes_and_goes))
         for thread in threads:
@@ -124,8 +126,13 @@ class Stress(Case):
 
         asyncio.run(several())
 
+    def goes_on(self) -> bool:
+        """Whether its time is not over, or on a slow machine too few calls were made yet."""
+        gone = time.monotonic() - self.begun
+        return gone < SECONDS or (sum(self.counts.values()) < ENOUGH and gone < SECONDS + 60)
+
     def caller(self) -> None:
-        while time.monotonic() < self.end:
+        while self.goes_on():
             with self.service.context():
                 ours = [threading.Thread(target=contextvars.copy_context().run, args=(self.one,)) for _ in range(3)]
                 for thread in ours:
@@ -136,7 +143,7 @@ class Stress(Case):
 
     def comes_and_goes(self) -> None:
         number = 0
-        while time.monotonic() < self.end:
+        while self.goes_on():
             name = f"t{number % 3}"
             number += 1
             self.service.register(name, like="g0")

@@ -37,10 +37,12 @@ class Wheel(Case):
         python = str(folder / "bin/python")
         self.run_words(python, "-m", "pip", "install", "--no-index", "--quiet", str(wheel))
         told = self.run_words(python, "-m", "bulkhead").splitlines()
-        self.assertEqual(told[0], f"bulkhead {bulkhead.__version__}, interface 3")
+        self.assertEqual(told[0], f"bulkhead {bulkhead.__version__}, interface 4")
         self.assertTrue(Path(told[1]).is_relative_to(folder), told)
         program = f"import bulkhead; print(bulkhead.open(text={SETTINGS!r}).command('pool')(lambda: 7)())"
         self.assertEqual(self.run_words(python, "-c", program), "7\n")
+        page = self.run_words(python, "-c", "from bulkhead.page._endpoints import path; print(path().resolve())").strip()
+        self.assertTrue(Path(page).is_relative_to(folder) and Path(page).stat().st_size > 10_000, page)
 
     def run_words(self, *words: str) -> str:
         """What a command writes, which finds no compiler and none of this test's variables."""

@@ -14,12 +14,18 @@
 
 `python/README.md` is a tutorial. `bulkhead.connect` is the same for processes that share one service (`docs/SHARE.md`), and
 `bulkhead.work` runs what such a service queues. `bulkhead.Service` is the service step by step, for those who keep their own
-threads.
+threads. `bulkhead.page` shows a service live (`docs/PAGE.md`).
 """
 
 from __future__ import annotations
 
+from importlib import import_module
+from typing import Any
+
 from ._client_commands import AsyncClientCommand, ClientCommand
+from ._events import Event
+from ._lint import Finding, lint
+from ._reloading import Tuning
 from .client import Client, connect
 from .commands import AsyncCommand, Command
 from .contexts import RequestContext
@@ -32,28 +38,40 @@ from .errors import (
     CommandError,
     Error,
     Failed,
+    FailedResult,
     GroupFull,
     Interrupted,
     NoMemory,
     NoSuchCommand,
     NoSuchGroup,
     NotOpen,
+    NotTunable,
     PoolRejected,
     Reentered,
     Refused,
     SemaphoreRejected,
+    SettingsWarning,
     ShortCircuited,
     Stopped,
     TimedOut,
+    UnknownNameWarning,
     Unreachable,
     Worn,
 )
-from .metrics import Metrics
+from .metrics import Metrics, Totals
 from .service import CommandService, open
 from .steps import Reply, Service
 from .workers import Worker, work
 
-__version__ = "0.3.0"
+__version__ = "1.0.0"
+
+
+def __getattr__(name: str) -> Any:
+    """`bulkhead.page`, which a program that serves none does not load."""
+    if name == "page":
+        return import_module(".page", __name__)
+    raise AttributeError(f"module {__name__!r} has no attribute {name!r}")
+
 
 __all__ = [
     "AsyncClientCommand",
@@ -69,7 +87,10 @@ __all__ = [
     "CommandError",
     "CommandService",
     "Error",
+    "Event",
     "Failed",
+    "FailedResult",
+    "Finding",
     "GroupFull",
     "Interrupted",
     "Metrics",
@@ -77,6 +98,7 @@ __all__ = [
     "NoSuchCommand",
     "NoSuchGroup",
     "NotOpen",
+    "NotTunable",
     "PoolRejected",
     "Reentered",
     "Refused",
@@ -84,14 +106,19 @@ __all__ = [
     "RequestContext",
     "SemaphoreRejected",
     "Service",
+    "SettingsWarning",
     "ShortCircuited",
     "Stopped",
     "TimedOut",
+    "Totals",
+    "Tuning",
+    "UnknownNameWarning",
     "Unreachable",
     "Worker",
     "Worn",
     "__version__",
     "connect",
+    "lint",
     "open",
     "work",
 ]

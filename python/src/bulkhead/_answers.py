@@ -7,7 +7,9 @@ from bisect import bisect_left
 from typing import Any, Optional
 
 from . import _library, _words as words
-from ._runs import ANSWERED, FALLBACK_DUE, IN_FALLBACK, NOBODY, STILL_OPEN, End, FallbackEnd, Holder, Run
+from ._events import EXCEPTION_THROWN, FALLBACK_REJECTION, NOTHING, OF_ENDS, of_fallback, of_giving_up
+from ._failures import End
+from ._runs import ANSWERED, FALLBACK_DUE, IN_FALLBACK, NOBODY, STILL_OPEN, FallbackEnd, Holder, Run
 from ._submits import Submits
 from .metrics import RUN_BOUNDS
 
@@ -15,6 +17,7 @@ _MISSING = words.FALLBACK_MISSING
 _FINISH, _FAIL, _DONE, _COLLECT, _VALUE = words.FINISH, words.FAIL, words.DONE, words.COLLECT, words.VALUE
 _ANSWERS = (words.VALUE, words.FALLBACK_VALUE, words.ERROR, words.BAD_REQUEST)
 _KIND_AT, _CAUSE_AT, _FALLBACK_AT = _library.KIND_AT, _library.CAUSE_AT, _library.FALLBACK_AT
+_OPERATION_AT = _library.OPERATION_AT
 
 
 class Answers(Submits):
@@ -38,12 +41,19 @@ class Answers(Submits):
         if kind != _DONE or took or not is_usual:
             self._ended(run, ended, own)
             return
+        log = self.events
+        if log.tells_success:
+            events, tellers = log.of_success(place, took)
+            log.kept += events
+            if tellers:
+                self.told += tellers
+                log.asleep = ()
         # what is usual is taken over in place, and nothing is called
         holder = waiting[0]
         holder.runs_it = False
         run.task, run.waiting = None, waiting
         run.value, run.state = value, ANSWERED
-        place.counters.ended[_FINISH][0] += 1
+        place.counters.ended[_FINISH][0] += 1  # below a millisecond
         self.todo += (run,)
         self.unit = None
         if self.make_next(_COLLECT, (self.collected, run, holder, NOBODY)) != _VALUE:
@@ -51,7 +61,6 @@ class Answers(Submits):
             return
         holder.value, holder.outcome = value, _VALUE
         run.waiting = NOBODY
-        place.counters.answered[_VALUE] += 1
         if own is None:
             self.told += (holder,)
         del group.runs[run.ticket], self.todo[-1]
@@ -59,6 +68,7 @@ class Answers(Submits):
 
     def _ended(self, run: Run, ended: End, own: Optional[Holder]) -> None:
         kind, place, waiting, changes, row = self.reply[_KIND_AT], run.place, run.waiting, None, None
+        (events, tellers), late = NOTHING, place.late
         operation, value, error = ended
         took = run.group.latest - run.started
         bucket = bisect_left(RUN_BOUNDS, took)
@@ -67,10 +77,18 @@ class Answers(Submits):
         if kind != _DONE:
             self._not_ended(run, own, kind)
         elif place.circuit.state:
-            changes = self.circuit_changes(place, place.circuit.ended(run.ticket, operation == _FINISH))
+            changes = self.circuit_changes(place, place.circuit.ended(run, operation))
+        if kind == _DONE:
+            events, tellers = self.events.of(place, took, (OF_ENDS[operation], error))
         if kind in (_DONE, words.LATE):
             row = place.counters.ended[operation if kind == _DONE else words.EXPIRE]
+        if late:
+            late = [one for one in late if one is not run]
         # from here on nothing is called
+        self.events.kept += events
+        if tellers:
+            self.told += tellers
+            self.events.asleep = ()
         run.waiting, run.thread, run.task = waiting, None, None
         if own is not None:
             own.runs_it = False
@@ -78,8 +96,9 @@ class Answers(Submits):
             run.state = FALLBACK_DUE if operation == _FAIL else ANSWERED
             run.value, run.error = value, error
         if changes:
-            place.circuit.state, place.circuit.test, self.changes, told_of = changes
+            place.circuit, self.changes, told_of = changes
             self.told += told_of
+        place.late = late
         if row is not None:
             row[bucket] += 1
             place.counters.run_ms += took
@@ -109,7 +128,19 @@ class Answers(Submits):
             self.is_over(run.group, kind)
         if holder is not None:
             waiting = [holder, *waiting]
+        (events, tellers), counts, first, thrown = NOTHING, run.place.counters.events, 0, 0
+        if kind == words.DONE:
+            told = of_fallback(self.given[_OPERATION_AT], run.error, value)
+            events, tellers = self.events.of(run.place, None, *told)
+            first, thrown = told[0][0], len(told) - 1
         # from here on nothing is called
+        if kind == words.DONE:
+            counts[first] += 1
+            counts[EXCEPTION_THROWN] += thrown
+        self.events.kept += events
+        if tellers:
+            self.told += tellers
+            self.events.asleep = ()
         run.waiting, run.value, run.state, run.is_unowned, run.thread = waiting, value, ANSWERED, False, None
         if holder is not None and kind == words.DONE:
             holder.outcome = words.PENDING
@@ -144,12 +175,23 @@ class Answers(Submits):
         reply = self.reply
         kind, cause = reply[_KIND_AT], reply[_CAUSE_AT]
         if kind in _ANSWERS:
-            answered, holders = run.place.counters.answered, run.holders - 1
+            counts, holders, thrown, rejected = run.place.counters.events, run.holders - 1, 0, 0
+            events, tellers = NOTHING
+            if kind == words.ERROR and run.state == FALLBACK_DUE:  # nobody was asked for it before
+                told = of_giving_up(reply[_FALLBACK_AT], run.error)
+                events, tellers = self.events.of(run.place, None, *told)
+                thrown, rejected = 1, len(told) - 1
             # from here on nothing is called
+            if thrown:
+                counts[EXCEPTION_THROWN] += 1
+                counts[FALLBACK_REJECTION] += rejected
+            self.events.kept += events
+            if tellers:
+                self.told += tellers
+                self.events.asleep = ()
             run.holders, run.waiting, holder.value, holder.outcome = holders, left, run.value, kind
             if kind != _VALUE:
                 run.state, holder.error, holder.cause, holder.fallback = ANSWERED, run.error, cause, reply[_FALLBACK_AT]
-            answered[kind] += 1
             if holder.is_told:
                 self.told += (holder,)
             if not holders and not run.is_cached:

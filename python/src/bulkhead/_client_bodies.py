@@ -8,6 +8,8 @@ from typing import TYPE_CHECKING, Any, NamedTuple, Optional
 from weakref import WeakValueDictionary
 
 from . import _lines, _words as words
+from ._events import EXCEPTION_THROWN, FALLBACK_FAILURE, FALLBACK_MISSING, FALLBACK_REJECTION, FALLBACK_SUCCESS, TIMEOUT
+from ._failures import PLAIN, Judge
 from ._groups import Place
 from ._runs import Body
 from .errors import Refused
@@ -41,8 +43,9 @@ class ClientBody(Body):
         is_awaited: bool,
         texts: Optional[Texts],
         falls_back: bool,
+        judge: Judge = PLAIN,
     ) -> None:
-        super().__init__(place, function, fallback, is_awaited)
+        super().__init__(place, function, fallback, is_awaited, judge)
         self.links, self.texts, self.falls_back = links, texts, falls_back
         self.group_name = place.group.name
         self.command_name = place.settings.name if place.number else None
@@ -65,10 +68,15 @@ class ClientBody(Body):
 
     # -- counts, which threads share
 
-    def count_rejection(self, why: str) -> None:
-        """A call got no run."""
+    def count_event(self, kind: int) -> None:
+        """An event of a call, by the number of its kind."""
         with self.links.counting:
-            self.place.counters.rejections[why] += 1
+            self.place.counters.events[kind] += 1
+
+    def count_full(self) -> None:
+        """A call found no slot free."""
+        with self.links.counting:
+            self.place.counters.full += 1
 
     def count_end(self, operation: int, told: object, took: float) -> None:
         """A run ended after so many seconds, and the service said "done" or "late"."""
@@ -79,17 +87,25 @@ class ClientBody(Body):
             row = counters.ended[operation if told == "done" else words.EXPIRE]
             row[bisect_left(RUN_BOUNDS, milliseconds)] += 1
             counters.run_ms += milliseconds
-            counters.timeouts += told == "late"
+            counters.events[TIMEOUT] += told == "late"
 
-    def count_answer(self, kind: int) -> None:
-        """A call was answered, by the number of the reply."""
-        with self.links.counting:
-            self.place.counters.answered[kind] += 1
+    def count_answer(self, reply: object, fallback: Optional[str]) -> None:
+        """A call that shares no answer was answered, with why no fallback gave a value where that is so."""
+        if reply == "fallback-value":
+            self.count_event(FALLBACK_SUCCESS)
+        elif reply == "error":
+            self.count_event(EXCEPTION_THROWN)
+            if fallback in _OF_FALLBACKS:
+                self.count_event(_OF_FALLBACKS[fallback])
 
     def count_unreachable(self) -> None:
         """A call found no service."""
         with self.links.counting:
             self.unreachable += 1
+
+
+# the events of a fallback that gave no value, by the words of a reply
+_OF_FALLBACKS = {"failed": FALLBACK_FAILURE, "missing": FALLBACK_MISSING, "rejected": FALLBACK_REJECTION}
 
 
 def thread_refused(name: str) -> Refused:

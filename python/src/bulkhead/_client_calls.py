@@ -13,7 +13,9 @@ from typing import Any, Optional
 from . import _lines, _words as words
 from ._client_bodies import ClientBody, Keyed
 from ._connection import Answer, Connection, Look, Lost
-from ._runs import End, FallbackEnd, Holder, Run
+from ._events import OF_CAUSES, RESPONSE_FROM_CACHE
+from ._failures import End, passes_through
+from ._runs import FallbackEnd, Holder, Run, copied
 from .errors import (
     BadRequest,
     CommandError,
@@ -23,6 +25,7 @@ from .errors import (
     Reentered,
     Refused,
     Unreachable,
+    add_fallback_error,
     error_of,
 )
 
@@ -91,9 +94,13 @@ class Call(Run):
         if self.keyed is not None and not self.keyed[0].is_open:
             self.keyed[0].end_in(body.group_name)
         if reply == "fallback-due":
-            body.count_rejection(answer["cause"])
+            body.count_event(OF_CAUSES[_CAUSES[answer["cause"]]])
+        elif reply == "joined":
+            body.count_event(RESPONSE_FROM_CACHE)
         elif reply == "group-full":
-            body.count_rejection(reply)
+            body.count_full()
+            self.is_full = True
+            return
         if reply not in _PLACED:
             raise self._not_placed(answer)
         self._look_placed()
@@ -110,6 +117,8 @@ class Call(Run):
             # nothing was run yet, and what the old connection got is taken back, so it may be asked for again
             self.body.links.slowed(lost)
             self.body.links.drop_free()
+            if self.keyed is not None:
+                self.keyed[0].left(self.body.group_name)
             return self._submitted()
 
     def _submit_line(self) -> bytes:
@@ -142,6 +151,7 @@ class Call(Run):
             self.open()
         link, line = self.linked(), self._submit_line()
         if self.keyed is not None:
+            self.keyed[0].enter(self.body.group_name)
             # where no answer comes, the submit may be done behind the end of its context, and would keep a slot for good
             link.last_words = _lines.close(self.body.group_name, self.keyed[0].number)
         self.is_asked = True
@@ -162,7 +172,7 @@ class Call(Run):
             return NoSuchGroup(f"{spelled}: the service has no such group")
         if why == "command":
             return NoSuchCommand(f"{spelled}: the service has no such command")
-        if answer.get("reply") in ("group-full", "worn"):
+        if answer.get("reply") == "worn":
             return self._holder(answer).exception()  # type: ignore[return-value]
         return Error(f"{spelled}: the service answered {answer}")
 
@@ -228,8 +238,8 @@ class Call(Run):
         reply = self.told.get("reply")
         if reply in _ANSWERS or reply == "worn":
             self.is_held = False
-            if reply in _ANSWERS:
-                self.body.count_answer(_KINDS[reply])
+            if reply in _ANSWERS and not self.is_joined:
+                self.body.count_answer(reply, self.told.get("fallback"))
         elif reply == "run-fallback":
             self.is_in_fallback, self.cause = True, _CAUSES.get(self.told["cause"], 0)
         else:
@@ -246,8 +256,8 @@ class Call(Run):
         if operation == words.FALLBACK_SUCCESS and self.keyed is not None:
             try:
                 text = body.checked_text(value)
-            except Exception:
-                operation, value = words.FALLBACK_FAILURE, None
+            except Exception as error:
+                operation, value = words.FALLBACK_FAILURE, error
         self.fell_back = operation, value
         said = text if operation == words.FALLBACK_SUCCESS else None
         line = _lines.fallback(body.group_name, self.ticket, _FALLBACK_ENDS[operation], said)
@@ -259,7 +269,7 @@ class Call(Run):
         """The value of the answer, or raises what it says."""
         reply, ended, fell_back = self.told.get("reply"), self.ended, self.fell_back
         if ended is not None and ended[0] == words.FAIL_BAD_REQUEST and ended[2] is not None:
-            if not isinstance(ended[2], BadRequest) or reply == "bad-request":
+            if not passes_through(ended[2]) or reply == "bad-request":
                 raise ended[2]
         if reply == "value" and ended is not None and ended[0] == words.FINISH:
             return ended[1]
@@ -277,8 +287,20 @@ class Call(Run):
         holder.cause = _CAUSES.get(answer.get("cause", ""), 0)
         holder.fallback = _FALLBACKS.get(answer.get("fallback", ""), 0)
         holder.error = self.error
+        if self.fell_back is not None and self.fell_back[0] == words.FALLBACK_FAILURE:
+            holder.value = self.fell_back[1]
         if self.is_joined and holder.outcome == words.BAD_REQUEST:
             holder.error = BadRequest(f"{self.place.spelled}: the run of another call found the request bad")
+        return holder
+
+    # -- where no slot was free
+
+    def refused_holder(self) -> Holder:
+        """One who was told that no slot was free, and may have to run the fallback."""
+        holder = Holder()
+        with self.body.links.counting:
+            holder.fallback = self.enter_fallback()
+        holder.outcome, holder.refused = words.GROUP_FULL, self
         return holder
 
     # -- without the service
@@ -306,8 +328,9 @@ class Call(Run):
             operation, value = self.fell_back
             if operation == words.FALLBACK_SUCCESS:
                 return value
-            fallback = "missing" if operation == words.FALLBACK_MISSING else "failed"
-            raise error_of(self.place.spelled, self.cause, _FALLBACKS[fallback], self.error)
+            is_missing = operation == words.FALLBACK_MISSING
+            fallback, raised = (words.MISSING, None) if is_missing else (words.FAILED, value)
+            raise error_of(self.place.spelled, self.cause, fallback, self.error, raised)
         assert self.ended is not None, "it has ended"
         _, value, error = self.ended
         if error is not None:
@@ -323,9 +346,10 @@ class Call(Run):
             error.fallback = "missing"
             raise error
         try:
-            return fallback(*self.arguments, **self.named, cause=error)
-        except Exception:
+            return fallback(*self.arguments, **self.named, cause=copied(error))
+        except Exception as raised:
             error.fallback = "failed"
+            add_fallback_error(error, raised)
         raise error
 
     # -- what is given back
@@ -423,6 +447,8 @@ def execute(call: Call) -> Any:
         try:
             call.enter(threading.get_ident())
             call.submit()
+            if call.is_full:
+                return _refused(call)
             if call.is_running:
                 call.end(call.perform())
             call.collect()
@@ -438,6 +464,13 @@ def execute(call: Call) -> Any:
         raise
     finally:
         call.release()
+
+
+def _refused(call: Call) -> Any:
+    """What a call comes to that found no slot."""
+    holder = call.refused_holder()
+    holder.fall_back()
+    return holder.answer()
 
 
 def _alone(call: Call, lost: Lost) -> Any:

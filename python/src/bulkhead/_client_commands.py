@@ -4,13 +4,14 @@ from __future__ import annotations
 
 from collections.abc import Callable, Coroutine
 from concurrent.futures import Future
-from typing import TYPE_CHECKING, Any, Generic, Optional, ParamSpec, TypeVar
+from typing import TYPE_CHECKING, Any, Generic, Optional, TypeVar
 
 from . import _client_calls, _client_coroutines
 from ._client_bodies import ClientBody, Keyed
 from ._client_calls import Call
 from ._client_contexts import ClientContext, key_name
 from ._declared import Declared, not_queued
+from ._typing import ParamSpec
 from .contexts import checked_key
 from .errors import Refused
 

@@ -10,11 +10,13 @@ from hashlib import blake2b
 from typing import TYPE_CHECKING, Any, Optional
 
 from . import _lines
+from ._connection import Lost
 from .contexts import RequestContext
 from .errors import Error, Stopped
 
 if TYPE_CHECKING:
     from ._links import Links
+    from ._shared_connection import SharedConnection
 
 _NUMBERS = 1 << 64
 
@@ -44,6 +46,30 @@ class ClientContext(RequestContext):
         super().__init__(_Direct(), current, secrets.randbits(64) if number is None else number)  # type: ignore[arg-type]
         self._links = links
         self.used: dict[str, None] = {}
+        # over which connection the service was told that this process is within it, by groups
+        self._entered: dict[str, SharedConnection] = {}
+
+    def enter(self, group: str) -> None:
+        """Tells the service that this process is within it, once for each connection that calls share. Raises `Lost`.
+
+        Where the process dies, the service then ends the context for it. One that keeps no more of them, or knows of none,
+        says so, and the calls go on: a death may leave a slot taken then.
+        """
+        link = self._links.shared()
+        if self._entered.get(group) is link:
+            return
+        line = _lines.enter(group, self.number)
+        try:
+            link.ask(line)
+        except Lost as lost:  # while nobody used it, as where the service began anew
+            self._links.slowed(lost)
+            link = self._links.shared()
+            link.ask(line)
+        self._entered[group] = link
+
+    def left(self, group: str) -> None:
+        """A connection was lost, and perhaps all were: the service may have ended it, and is told again."""
+        self._entered.pop(group, None)
 
     def _close(self) -> None:
         """Ends it in each group, or has that done with the next connection. Begun anew where it was broken off."""

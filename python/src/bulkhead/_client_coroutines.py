@@ -16,7 +16,8 @@ from . import _lines, _words as words
 from ._client_calls import Call
 from ._connection import Lost
 from ._coroutines import fall_back
-from ._runs import end_of
+from ._failures import End
+from .errors import add_fallback_error
 
 # how long a call that timed out here waits until the service has timed it out too, in seconds, at first and at most
 _LOOK, _LONGEST_LOOK = 0.001, 0.05
@@ -43,7 +44,7 @@ class Carried:
         call.enter(task)
         await asyncio.wait({task}, timeout=None if call.place.limit == inf else call.place.limit / 1000)
         if task.done():
-            call.end(_end_of(task))
+            call.end(_end_of(call, task))
             return
         task.cancel()
         pause = _LOOK
@@ -55,7 +56,7 @@ class Carried:
     def _end_late(self, task: asyncio.Task[Any]) -> None:
         """Tells the end of a run that timed out, or whose caller has left."""
         with suppress(Lost):  # the service has ended it then
-            self.call.end_late(_end_of(task))
+            self.call.end_late(_end_of(self.call, task))
 
     def leave(self) -> None:
         """The caller goes on: what is left is done now, or once the task has ended."""
@@ -80,12 +81,12 @@ class Carried:
             self.call.release()
 
 
-def _end_of(task: asyncio.Task[Any]) -> tuple[int, Any, Optional[BaseException]]:
+def _end_of(call: Call, task: asyncio.Task[Any]) -> End:
     """How a run ended, by its task."""
     if task.cancelled():
         return words.FAIL_BAD_REQUEST, None, asyncio.CancelledError()
-    error = task.exception()
-    return (words.FINISH, task.result(), None) if error is None else (end_of(error), None, error)
+    error, judge = task.exception(), call.body.judge
+    return judge.of_value(task.result()) if error is None else judge.of_error(error)
 
 
 def _sweep() -> None:
@@ -106,6 +107,8 @@ async def execute(call: Call) -> Any:
             if not call.open_ready():
                 await _open(call)
             call.submit()
+            if call.is_full:
+                return await _refused(call)
             await _answered(call, carried)
             if call.owes_fallback():
                 call.end_fallback(await fall_back(call))
@@ -139,13 +142,21 @@ async def _answered(call: Call, carried: Carried) -> None:
         try:
             coroutine = call.body.function(*call.arguments, **call.named)
         except Exception as error:
-            call.end((end_of(error), None, error))
+            call.end(call.body.judge.of_error(error))
         else:
             await carried.run(coroutine)
     if call.is_alone and not call.told:
         line = _lines.collect(call.body.group_name, call.ticket, True)
         call.told = await call.linked().wait_in_loop(line, call.look_for_service())
     call.collect()
+
+
+async def _refused(call: Call) -> Any:
+    """What a call comes to that found no slot."""
+    holder = call.refused_holder()
+    if holder.owes_fallback():
+        holder.take_fallback(await fall_back(call))
+    return holder.answer()
 
 
 async def _alone(call: Call, lost: Lost) -> Any:
@@ -158,6 +169,7 @@ async def _alone(call: Call, lost: Lost) -> Any:
         return answer
     try:
         return await answer
-    except Exception:
+    except Exception as raised:
         error.fallback = "failed"
+        add_fallback_error(error, raised)
     raise error

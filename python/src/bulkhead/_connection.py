@@ -28,7 +28,7 @@ _READ = 1 << 16
 _read_json = json.JSONDecoder().raw_decode
 _PATH_LIMIT = 107
 # what the system says where a time is over
-_SLOW = (TimeoutError, BlockingIOError)
+_SLOW = (TimeoutError, socket.timeout, BlockingIOError)
 
 
 class Lost(Exception):
@@ -204,7 +204,7 @@ class Connection:
         while True:
             try:
                 return self._socket.recv(_READ)
-            except TimeoutError:
+            except socket.timeout:  # TimeoutError from Python 3.10 on
                 if look is None:
                     raise
                 look.once()

@@ -9,11 +9,13 @@ from typing import TYPE_CHECKING, Any, Optional, Union
 
 from . import _library, _words as words
 from ._answers import Answers
+from ._events import TIMEOUT, Listener
 from ._groups import Group, Place
 from ._pools import Worker
+from ._reopening import Reopening
 from ._runs import FALLBACK_DUE, LIVE, RETIRED, STOPPED, Run
 from ._timer import Timer
-from ._transitions import Teller
+from ._transitions import Changes, TransitionTeller
 from .errors import NoSuchGroup, Stopped, Worn
 
 if TYPE_CHECKING:
@@ -28,8 +30,17 @@ _KIND_AT, _COMMAND_AT = _library.KIND_AT, _library.COMMAND_AT
 class Core(Answers):
     """The lock, the steps, and what is kept of each ticket."""
 
-    def __init__(self, opened: StepService, clock: Optional[Callable[[], int]]) -> None:
+    teller: Optional[TransitionTeller] = None
+
+    def __init__(
+        self, settings: bytes, opened: StepService, clock: Optional[Callable[[], int]], reopens: bool = False
+    ) -> None:
         super().__init__(opened, clock)
+        # what a forked process opens the service by, if it does; how many groups are those of the settings
+        self.settings, self.reopens, self.listed = settings, reopens, 0
+        # whether it is to be closed, where it has still to be opened anew
+        self.is_closing = False
+        self.has_timer = False
         # the tasks that run functions, and those who wait, by their loops
         self.loops: dict[AbstractEventLoop, dict[Union[Awaiter, Carried], None]] = {}
         # the moment of the latest step when the timer looked last
@@ -43,9 +54,15 @@ class Core(Answers):
 
     def start_teller(self, call: Callable[[str, str, str], object]) -> None:
         """Has changes of circuit breakers told from now on."""
-        teller = Teller(self, call)
+        teller = TransitionTeller(self, call)
         teller.start()
         self.teller = teller
+
+    def listen(self, listener: Listener) -> None:
+        """Has events told from now on."""
+        if not self.is_open:
+            raise Stopped("the service is closed")
+        self.events.add(listener)
 
     def fall_short(self, group: Group) -> None:
         if group not in self.short:
@@ -58,7 +75,7 @@ class Core(Answers):
     def start_timer(self) -> None:
         """Starts the thread that times out what is due."""
         timer = Timer(self)
-        self.alarm, self.alarm_at = timer, inf
+        self.alarm, self.alarm_at, self.has_timer = timer, inf, True
         timer.start()
 
     def expire(self, group: Group) -> int:
@@ -79,13 +96,21 @@ class Core(Answers):
             place = run.place
             if run.task is not None:
                 self.told += (run.task,)
-            changes = self.circuit_changes(place, place.circuit.ended(run.ticket, False))
+            changes = self.circuit_changes(place, place.circuit.ended(run, words.FAIL))
+            took = None if run.is_queued else group.latest - run.started
+            events, tellers = self.events.of(place, took, (TIMEOUT, None))
             if changes:
-                place.circuit.state, place.circuit.test, self.changes, told_of = changes
+                place.circuit, self.changes, told_of = changes
                 self.told += told_of
             if run.state == LIVE:
                 run.state, group.queued = FALLBACK_DUE, group.queued - run.is_queued
-                place.counters.timeouts += 1
+                place.counters.events[TIMEOUT] += 1
+                if not run.is_queued:
+                    place.late += (run,)
+                self.events.kept += events
+                if tellers:
+                    self.told += tellers
+                    self.events.asleep = ()
         self.todo += late
         self.unit = None
 
@@ -156,23 +181,49 @@ class Core(Answers):
             for group in [*self.groups.values()]:
                 self.end_group(group, STOPPED)
             self.is_open = False
-            for thread in (self.alarm, self.teller):
+            for thread in (self.alarm, self.teller, *self.events.listeners):
                 if thread is not None:
                     self.say(thread)
-            self._opened.close()
+            self.opened.close()
+
+    # -- forks
 
     def locks(self) -> list[Any]:
         """What a fork waits for, in order."""
         return [self._lock]
 
+    def go_on_in_child(self) -> None:
+        """In a forked process: nothing of the parent's is used, and the next turn opens the service anew, or none does.
+
+        A fork in the midst of a turn, as by a clock of a test's own, leaves no service that could be opened anew.
+        """
+        if not self.is_open:
+            return
+        if not self.reopens or self.is_turning:
+            self.stop_in_child()
+            return
+        for group in self.every_group:
+            group.renew(STOPPED)
+        if self.record is not None:
+            self.record.drop()
+        self.opened.forget()
+        reopening = Reopening(self.listed, self.has_timer)
+        self.owed, self._untold, self.todo, self.unit = [reopening], [], [], None
+        self.loops, self.short, self.changes, self._looked_at = {}, set(), Changes(), -1
+        self.alarm, self.alarm_at, self.has_acted = None, -inf, False
+        self.teller = None if self.teller is None else self.teller.anew()
+        self.events = self.events.anew()
+
     def stop_in_child(self) -> None:
         """In a forked process: the service is its parent's alone, and everything here is `Stopped`."""
         self.is_open = False
-        for group in self.groups.values():
-            group.over, group.runs = group.over or STOPPED, {}
+        for group in self.every_group:
+            group.renew(STOPPED)
+            group.over = group.over or STOPPED
         if self.record is not None:
             self.record.drop()
-        self._opened.forget()
+            self.record = None
+        self.opened.forget()
 
 
 def _late(group: Group, moment: int) -> list[Run]:

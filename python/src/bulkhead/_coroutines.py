@@ -9,7 +9,8 @@ from contextlib import suppress
 from typing import TYPE_CHECKING, Any, Optional, Union
 
 from . import _words as words
-from ._runs import UNTOLD, End, FallbackEnd, Holder, Run, end_of
+from ._failures import End, LoopClosed
+from ._runs import UNTOLD, FallbackEnd, Holder, Run
 from .errors import Reentered
 
 if TYPE_CHECKING:
@@ -71,7 +72,7 @@ class Carried:
         try:
             coroutine = run.body.function(*run.arguments, **run.named)
         except Exception as error:
-            self._turns.turn_of(self._turns.end, run, (end_of(error), None, error), None)
+            self._turns.turn_of(self._turns.end, run, run.body.judge.of_error(error), None)
             holder.runs_it = False
             return
         self.task = self._loop.create_task(coroutine)
@@ -97,11 +98,8 @@ class Carried:
         if task.cancelled():
             self.end((words.FAIL_BAD_REQUEST, None, asyncio.CancelledError()))
             return
-        error = task.exception()
-        if error is None:
-            self.end((words.FINISH, task.result(), None))
-        else:
-            self.end((end_of(error), None, error))
+        error, judge = task.exception(), self._run.body.judge
+        self.end(judge.of_value(task.result()) if error is None else judge.of_error(error))
 
     def end(self, ended: End) -> None:
         """Tells how the run ended, unless it was told."""
@@ -115,7 +113,7 @@ class Carried:
     def sweep(self) -> None:
         """Ends the run of a loop that does not run: where the loop was closed, or an interrupt kept the end from it."""
         if self._loop.is_closed():
-            self.end((words.FAIL_BAD_REQUEST, None, RuntimeError("the event loop was closed")))
+            self.end((words.FAIL_BAD_REQUEST, None, LoopClosed("the event loop was closed")))
         elif self.task is not None and self.task.done():
             self._done(self.task)
 
@@ -158,6 +156,8 @@ async def execute(
     try:
         turns.loops.setdefault(loop, {})[holder] = None
         turns.turn_of(turns.submit, run, holder, shared)
+        if holder.owes_fallback():
+            holder.take_fallback(await fall_back(run))
         if holder.run is None:
             return holder.answer()
         run = holder.run
@@ -189,5 +189,5 @@ async def fall_back(run: Run) -> FallbackEnd:
         return operation, value
     try:
         return operation, await value
-    except Exception:
-        return words.FALLBACK_FAILURE, None
+    except Exception as error:
+        return words.FALLBACK_FAILURE, error

@@ -17,7 +17,7 @@ _held: list[Any] = []
 
 
 def watch(service: CommandService) -> None:
-    """Has a service closed at the interpreter's end or when it is dropped, and stopped in a forked process."""
+    """Has a service closed at the interpreter's end or when it is dropped, and opened anew or stopped in a forked process."""
     _services.add(service)
     weakref.finalize(service, _dropped, service.turns).atexit = False
 
@@ -25,6 +25,7 @@ def watch(service: CommandService) -> None:
 def _dropped(turns: Core) -> None:
     with suppress(Exception):
         if turns.is_open:
+            turns.is_closing = True
             turns.turn(turns.close)
 
 
@@ -48,9 +49,11 @@ def _after_fork() -> None:
 
 
 def _after_fork_in_child() -> None:
-    for service in [*_services]:
-        service.turns.stop_in_child()
-    _after_fork()
+    try:
+        for service in [*_services]:
+            service.turns.go_on_in_child()
+    finally:
+        _after_fork()
 
 
 atexit.register(_close_all)

@@ -3,11 +3,13 @@
 from __future__ import annotations
 
 import threading
+from collections.abc import Callable
 from concurrent.futures import Future, InvalidStateError
+from functools import partial
 from typing import TYPE_CHECKING, Any, Optional
 
 from . import _words as words
-from ._runs import FallbackEnd, Holder
+from ._runs import FallbackEnd, Holder, Run
 
 if TYPE_CHECKING:
     from ._core import Core
@@ -63,17 +65,19 @@ class FutureHolder(Holder):
         except InvalidStateError:
             pass  # it was cancelled, or has its answer
 
+    def fall_back_apart(self) -> None:
+        """Runs the fallback of a call that got no ticket, in a helper."""
+        if self.refused is not None:
+            self.begin()
+            self.take_fallback(_fallen_back(self.refused.fall_back, self.refused))
+        self.resolve()
+
     def _fall_back(self) -> None:
         """Runs the fallback in the variables of the ticket's first caller; that turn tells the future again."""
         turns, run = self._turns, self.run
         assert run is not None, "a fallback is of a ticket"
         self.begin()
-        try:
-            variables = run.variables.copy() if run.variables is not None else None
-            ended = variables.run(turns.run_fallback, run) if variables else turns.run_fallback(run)
-        except BaseException:
-            ended = words.FALLBACK_FAILURE, None
-        self._fell_back = ended
+        self._fell_back = ended = _fallen_back(partial(turns.run_fallback, run), run)
         try:
             turns.turn_of(turns.end_fallback, run, ended, self)
         except BaseException:
@@ -81,3 +85,11 @@ class FutureHolder(Holder):
             raise
         if not self.is_open():
             self.resolve()
+
+
+def _fallen_back(fall_back: Callable[[], FallbackEnd], run: Run) -> FallbackEnd:
+    """How a fallback ended that was run in the variables of a call's caller. Raises nothing."""
+    try:
+        return fall_back() if run.variables is None else run.variables.copy().run(fall_back)
+    except BaseException as error:
+        return words.FALLBACK_FAILURE, error

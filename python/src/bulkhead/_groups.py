@@ -2,40 +2,70 @@
 
 from __future__ import annotations
 
+import copy
 from math import inf
-from typing import TYPE_CHECKING
+from typing import TYPE_CHECKING, Optional
+from weakref import WeakSet
 
 from . import _words as words
 from ._helpers import Helpers
-from .metrics import Counters
+from .metrics import Counters, Health, health_of
 from .settings import CommandSettings, GroupSettings
 
 if TYPE_CHECKING:
     from ._pools import Worker
     from ._runs import Run
+    from ._tuning import Value
 
 
 class Circuit:
-    """The state of a command's circuit breaker as the replies tell it: what `read` would say, without a step."""
+    """A command's circuit breaker as the replies tell it: what `read` would say, without a step. It never changes."""
 
-    __slots__ = ("state", "test")
+    __slots__ = ("healthy_from", "opened", "since", "state", "test", "trips")
 
     def __init__(self) -> None:
         self.state, self.test = 0, 0
+        # since when it is closed, or is not; when it opened last; and how often it did
+        self.since: Optional[int] = None
+        self.opened: Optional[int] = None
+        self.trips = 0
+        # the runs, and the wrong ones of them, that no longer count, as it closed since
+        self.healthy_from = Health()
 
-    def submitted(self, kind: int, cause: int, ticket: int) -> tuple[int, int]:
-        """State and test call after a submit that made a ticket."""
-        if kind == words.FALLBACK_DUE and cause == words.SHORT_CIRCUITED:
-            return (1, 0) if self.state == 0 else (self.state, self.test)
+    def _then(self, state: int, test: int = 0) -> Circuit:
+        after = copy.copy(self)
+        after.state, after.test = state, test
+        return after
+
+    def _open_at(self, moment: int) -> Circuit:
+        after = self._then(1)
+        after.opened, after.trips = moment, self.trips + 1
         if self.state == 0:
-            return 0, 0
-        return (1, 0) if kind == words.FALLBACK_DUE else (2, ticket)
+            after.since = moment
+        return after
 
-    def ended(self, ticket: int, is_success: bool) -> tuple[int, int]:
-        """State and test call after the end of a run."""
-        if self.state != 2 or ticket != self.test:
-            return self.state, self.test
-        return (0 if is_success else 1), 0
+    def submitted(self, kind: int, cause: int, ticket: int, moment: int) -> Circuit:
+        """How it is after a submit that made a ticket."""
+        is_due = kind == words.FALLBACK_DUE
+        if is_due and cause == words.SHORT_CIRCUITED:
+            return self._open_at(moment) if self.state == 0 else self
+        if self.state == 0:
+            return self
+        return self._open_at(moment) if is_due else self._then(2, ticket)
+
+    def ended(self, run: Run, operation: int) -> Circuit:
+        """How it is after the end of a run, by its operation: a bad request says nothing of the dependency."""
+        if self.state != 2 or run.ticket != self.test:
+            return self
+        if operation == words.FAIL_BAD_REQUEST:
+            return self._then(1)
+        moment = run.group.latest
+        if operation != words.FINISH:
+            return self._open_at(moment)
+        after = self._then(0)
+        errors, total = health_of(run.place.counters.counted().totals())
+        after.since, after.opened, after.healthy_from = moment, None, Health(errors, total + 1)
+        return after
 
 
 class Place:
@@ -47,20 +77,31 @@ class Place:
         self.spelled = spelled
         # how long a run may take, in milliseconds
         self.limit = inf if settings.timeout_ms is None else settings.timeout_ms
+        self.renew()
+
+    def renew(self) -> None:
+        """Nothing has happened yet."""
         self.circuit, self.counters = Circuit(), Counters()
+        # the runs that timed out and go on
+        self.late: list[Run] = []
+        # the calls that found no slot, and are at their fallback
+        self.in_fallback: WeakSet[Run] = WeakSet()
 
 
 class Group:
     """A group: its commands by their numbers, its threads, and the tickets that somebody needs yet."""
 
     def __init__(self, number: int, settings: GroupSettings, name: str) -> None:
-        self.number, self.name, self.like, self.core_size = number, name, settings.name, settings.core_size
+        self.number, self.name, self.settings = number, name, settings
+        self.like, self.core_size = settings.name, settings.core_size
         own, *others = settings.commands
         before = "" if name == settings.name else f"{name}/"
         self.places = (
             Place(self, 0, own, name),
             *(Place(self, at, other, before + other.name) for at, other in enumerate(others, 1)),
         )
+        # the properties that changed since, by the number of the command and the name
+        self.tunes: dict[tuple[int, str], Value] = {}
         self.runs: dict[int, Run] = {}
         # the moment of its latest step
         self.latest = -1
@@ -70,6 +111,22 @@ class Group:
         self.helpers = Helpers(name)
         # why no step is handed in any more: 0, STOPPED, RETIRED or WORN
         self.over = 0
+
+    def renew(self, why: int) -> None:
+        """In a forked process: the group is as it was opened. Whoever has a ticket of the parent's is told why it is over."""
+        gone = copy.copy(self)
+        gone.over, runs = self.over or why, [*self.runs.values()]
+        gone.runs = {}
+        for run in runs:
+            run.group = gone
+            run.stop_callers(gone.over)
+        self.runs, self.latest, self.queued, self.threads = {}, -1, 0, 0
+        self.idle, self.workers, self.helpers = [], [], Helpers(self.name)
+        gone.helpers = self.helpers
+        if self.over == words.WORN:
+            self.over = 0
+        for place in self.places:
+            place.renew()
 
     def command_names(self) -> list[str]:
         """The names of the commands by their numbers: the own one goes by the name of the group."""

@@ -12,7 +12,7 @@ from typing import Any
 
 from . import _words as words
 
-INTERFACE = 3
+INTERFACE = 4
 ANSWER_ROOM = 2048
 WHY_ROOM = 256
 KEY_ROOM = 32

@@ -3,7 +3,7 @@
 from __future__ import annotations
 
 import json
-from typing import Any, Optional
+from typing import Any, Optional, Union
 
 from .errors import BadText
 
@@ -67,6 +67,26 @@ def close(group: str, context: int) -> bytes:
 def metrics(group: str, command: Optional[str]) -> bytes:
     """Asks for the metrics of a command."""
     return _line(op="metrics", group=group, command=command)
+
+
+def tune(group: str, command: Optional[str], name: str, value: Union[int, bool]) -> bytes:
+    """Asks that a property of a command has a value from now on."""
+    return _line(op="tune", group=group, command=command, property=name, value=value)
+
+
+def properties(group: str, command: Optional[str]) -> bytes:
+    """Asks which properties of a command are in force."""
+    return _line(op="properties", group=group, command=command)
+
+
+def totals(group: str, command: Optional[str]) -> bytes:
+    """Asks how many events of each kind a command has had."""
+    return _line(op="totals", group=group, command=command)
+
+
+def enter(group: str, context: int) -> bytes:
+    """Tells that this process is within a request context, which then ends with the connection at the latest."""
+    return _line(op="enter", group=group, context=context)
 
 
 GROUPS = _line(op="groups")

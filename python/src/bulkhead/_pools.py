@@ -6,9 +6,10 @@ import threading
 from typing import TYPE_CHECKING, Any, Optional
 
 from . import _library, _words as words
+from ._failures import PLAIN, End
 from ._groups import Group
 from ._helpers import NO_THREAD
-from ._runs import End, Run, Waiter, end_of
+from ._runs import Run, Waiter
 from ._unraisable import tell_unraisable
 
 if TYPE_CHECKING:
@@ -108,6 +109,7 @@ class Worker:
         kind = turns.reply[_KIND_AT]
         if kind == _ASSIGNED:
             self._given = run = group.runs[turns.numbers[_NUMBER_WORD]]
+            run.submitted = run.started
             run.is_queued, run.started, group.queued = False, group.latest, group.queued - 1
         elif kind == words.WORN:
             turns.is_over(group, kind)
@@ -126,5 +128,5 @@ def _run(run: Run) -> End:
         assert run.variables is not None, "a run of a worker"
         ended: End = run.variables.run(run.perform)
     except BaseException as error:
-        return end_of(error), None, error
+        return PLAIN.of_error(error)
     return ended

@@ -4,6 +4,7 @@ from __future__ import annotations
 
 import json
 import logging
+import os
 import threading
 from pathlib import Path
 from typing import TYPE_CHECKING, Any, BinaryIO, NamedTuple, Optional, Union
@@ -61,21 +62,24 @@ class Record:
     def __init__(
         self, path: Path, replies: Optional[Path], settings: bytes, turns: Core, timeout: float = 5.0
     ) -> None:
-        self.path, self.replies, self.settings = path, replies, path.with_suffix(".toml")
-        if self.settings in (path, replies) or path == replies:
+        if path.with_suffix(".toml") in (path, replies) or path == replies:
             raise Error("a record, its replies and its settings are three files")
+        self._given, self._content, self._turns, self._timeout = (path, replies), settings, turns, timeout
+        self._begin(path, replies)
+
+    def _begin(self, path: Path, replies: Optional[Path]) -> None:
+        self.path, self.replies, self.settings = path, replies, path.with_suffix(".toml")
         self.is_whole = True
         self.error: Optional[Exception] = None
         self.pending: list[Entry] = []
         self.is_last = False
-        self._turns = turns
         self._groups: dict[int, Group] = {}
-        self._timeout, self._over = timeout, threading.Event()
+        self._over, self._claim = threading.Event(), threading.Lock()
         self._thread: Optional[threading.Thread] = None
         # how many steps the thread is at, and how many are missing
         self._in_hand = self._missing = 0
         self._files: list[BinaryIO] = []
-        self.settings.write_bytes(settings)
+        self.settings.write_bytes(self._content)
         # unbuffered: what a forked child has of a buffer would be written twice
         self._files.append(path.open("wb", buffering=0))
         if replies is not None:
@@ -87,7 +91,7 @@ class Record:
         return self._missing + self._in_hand + len(self.pending)
 
     def start(self) -> None:
-        """Starts the thread that writes."""
+        """Starts the thread that writes. To start it twice is to start it once."""
         thread = threading.Thread(target=self._work, name="bulkhead-record", daemon=True)
         thread.start()
         self._thread = thread
@@ -108,6 +112,8 @@ class Record:
             self._missing += 1
 
     def _work(self) -> None:
+        if not self._claim.acquire(blocking=False):
+            return  # another thread is at it
         while not self._over.wait(self.INTERVAL):
             self._write()
         self._write()
@@ -151,8 +157,25 @@ class Record:
     def drop(self) -> None:
         """Of a forked process: what its parent writes it does not."""
         self.is_whole, self.pending, self._in_hand = False, [], 0
+        # the parent's thread may be at the event that was
+        self._over = threading.Event()
         self._over.set()
         self._close()
+
+    def renew(self, acts: list[Act]) -> None:
+        """Of a forked process: begins anew in files of its own, with what was registered and retired so far.
+
+        They are called as the parent's, with the number of the process behind a hyphen. Raises an OSError.
+        """
+        path, replies = self._given
+        try:
+            self._begin(_of_process(path), None if replies is None else _of_process(replies))
+        except OSError as error:
+            self.error, self.is_whole = error, False
+            self._over.set()
+            self._close()
+            raise
+        self.pending += acts
 
     def _group(self, number: int) -> Group:
         if number not in self._groups:
@@ -167,6 +190,11 @@ class Record:
         if entry.is_last:
             said["record"] = "whole"
         return _line(said), _line(dict(sorted(_reply_line(group, entry).items())))
+
+
+def _of_process(path: Path) -> Path:
+    """The path of a file of this process."""
+    return path.with_name(f"{path.stem}-{os.getpid()}{path.suffix}")
 
 
 def _line(said: dict[str, Any]) -> bytes:

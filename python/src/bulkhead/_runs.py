@@ -11,8 +11,10 @@ from math import inf
 from typing import TYPE_CHECKING, Any, Optional
 
 from . import _words as words
+from ._failures import PLAIN, End, Judge, passes_through
 from ._groups import Group, Place
-from .errors import BadRequest, CommandError, GroupFull, Interrupted, NoSuchGroup, Stopped, Worn, error_of
+from ._limits import full_error
+from .errors import CommandError, Interrupted, NoSuchGroup, Stopped, Worn, error_of
 
 if TYPE_CHECKING:
     from ._core import Core
@@ -33,21 +35,31 @@ UNTOLD, STOPPED, RETIRED = 0, -1, -2
 
 STILL_OPEN = frozenset((UNTOLD, words.PENDING, words.RUN_FALLBACK))
 
-# how a run ended: the operation that tells it, its value and its exception; and how a fallback did
-End = tuple[int, Any, Optional[BaseException]]
+# how a fallback ended: the operation that tells it, and its value or its exception
 FallbackEnd = tuple[int, Any]
 
 
 class Body:
     """A function with its fallback, as a command of a group has them. A coroutine function is awaited."""
 
-    __slots__ = ("fallback", "function", "group", "is_awaited", "place")
+    __slots__ = ("fallback", "function", "group", "is_awaited", "is_plain", "judge", "place")
 
     def __init__(
-        self, place: Place, function: Callable[..., Any], fallback: Optional[Callable[..., Any]], is_awaited: bool
+        self,
+        place: Place,
+        function: Callable[..., Any],
+        fallback: Optional[Callable[..., Any]],
+        is_awaited: bool,
+        judge: Judge = PLAIN,
     ) -> None:
         self.place, self.group = place, place.group
         self.function, self.fallback, self.is_awaited = function, fallback, is_awaited
+        # what is a failure, and whether any value is a good one
+        self.judge, self.is_plain = judge, judge is PLAIN
+
+    def moved(self, place: Place) -> Body:
+        """The same as a command of another group."""
+        return Body(place, self.function, self.fallback, self.is_awaited, self.judge)
 
 
 class Run:
@@ -58,8 +70,10 @@ class Run:
 
     # what stands in the class need not be set for each run; what a usual call reads is set, as that is read sooner
     ticket = started = cause = 0
+    # the moment of its submit, where a worker began it later
+    submitted: Optional[int] = None
     state, due = LIVE, inf
-    is_queued = has_begun = False
+    is_queued = has_begun = is_full = False
     waiting = NOBODY
     value: Any = None
     error: Optional[BaseException] = None
@@ -77,10 +91,12 @@ class Run:
 
     def perform(self) -> End:
         """Runs the function."""
+        body = self.body
         try:
-            return _FINISH, self.body.function(*self.arguments, **self.named), None
+            value = body.function(*self.arguments, **self.named)
+            return (_FINISH, value, None) if body.is_plain else body.judge.of_value(value)
         except BaseException as error:
-            return end_of(error), None, error
+            return body.judge.of_error(error)
 
     def fall_back(self) -> FallbackEnd:
         """Runs the fallback, if there is one. A BaseException that is no Exception passes through."""
@@ -89,8 +105,24 @@ class Run:
             return words.FALLBACK_MISSING, None
         try:
             return words.FALLBACK_SUCCESS, fallback(*self.arguments, **self.named, cause=self.error_due())
-        except Exception:
-            return words.FALLBACK_FAILURE, None
+        except Exception as error:
+            return words.FALLBACK_FAILURE, error
+
+    def enter_fallback(self) -> int:
+        """Takes one of the fallback's permits, where no slot was free: 0, or the number of why the fallback is not run.
+
+        These calls are counted apart from those that have a ticket. May be called again.
+        """
+        settings, among = self.place.settings, self.place.in_fallback
+        self.is_full = True
+        if not settings.falls_back:
+            return words.DISABLED
+        if self.body.fallback is None:
+            return words.MISSING
+        if self not in among and settings.fallback_permits is not None and len(among) >= settings.fallback_permits:
+            return words.REJECTED
+        among.add(self)
+        return 0
 
     def go_on(self, turns: Core) -> None:
         """Makes the next step that a holder's answer wants: a collect for a holder, if one is due."""
@@ -105,15 +137,18 @@ class Run:
         else:
             turns.work_done()
 
+    def stop_callers(self, why: int) -> None:
+        """In a forked process: its thread, where it waited for the run, goes on and is told why there is no answer."""
+        for holder in self.waiting:
+            if isinstance(holder, Caller):
+                holder.outcome = why
+                holder.tell(False)
+
     def error_due(self) -> CommandError:
         """Why the fallback is due, as a new exception."""
+        if self.is_full:
+            return full_error(self.place)
         return error_of(self.place.spelled, self.cause, None, self.error)
-
-
-def end_of(error: BaseException) -> int:
-    """How a run ended that raised: what says nothing of the dependency counts as a bad request."""
-    says_nothing = isinstance(error, BadRequest) or not isinstance(error, Exception)
-    return words.FAIL_BAD_REQUEST if says_nothing else words.FAIL
 
 
 def _first(waiting: list[Holder]) -> tuple[Holder, list[Holder]]:
@@ -138,6 +173,8 @@ class Holder:
     has_left = False
     value: Any = None
     error: Optional[BaseException] = None
+    # the call that got no ticket, where no slot was free
+    refused: Optional[Run] = None
 
     def is_open(self) -> bool:
         """Whether the ticket has still to be collected for it."""
@@ -149,6 +186,25 @@ class Holder:
 
     def wait_ready(self) -> None:
         """Called under the lock, before it may be told."""
+
+    def owes_fallback(self) -> bool:
+        """Whether it has to run the fallback of a call that got no ticket."""
+        return self.refused is not None and self.outcome == words.GROUP_FULL and not self.fallback
+
+    def fall_back(self) -> None:
+        """Runs that fallback, if it has to."""
+        if self.owes_fallback() and self.refused is not None:
+            self.take_fallback(self.refused.fall_back())
+
+    def take_fallback(self, ended: FallbackEnd) -> None:
+        """Takes over how that fallback ended."""
+        operation, self.value = ended
+        if self.refused is not None:
+            self.refused.place.in_fallback.discard(self.refused)
+        if operation == words.FALLBACK_SUCCESS:
+            self.outcome = words.FALLBACK_VALUE
+        else:
+            self.fallback = words.FAILED
 
     def give_back(self, turns: Core) -> None:
         """What it owes is done, where that was not possible before."""
@@ -164,18 +220,26 @@ class Holder:
         """The value, or a new exception that is raised."""
         if self.outcome in (words.VALUE, words.FALLBACK_VALUE):
             return self.value
-        raise self.exception()
+        error = self.exception()
+        raised = getattr(error, "fallback_error", None)
+        try:
+            raise error
+        finally:
+            if raised is not None:
+                error.__context__ = raised  # where the caller handles an exception, `raise` has put that one there
+            del error, raised
 
     def exception(self) -> BaseException:
         """A new exception for what it was told, which no other holder gets."""
         run, error = self.run, self.error
         spelled = run.place.spelled if run else self.spelled
+        raised = self.value if self.fallback == words.FAILED and isinstance(self.value, BaseException) else None
         if self.outcome == words.ERROR:
-            return error_of(spelled, self.cause, self.fallback, error)
+            return error_of(spelled, self.cause, self.fallback, error, raised)
         if self.outcome == words.BAD_REQUEST:
-            return _copied(error) if isinstance(error, BadRequest) else _interrupted(spelled, error)
-        if self.outcome == words.GROUP_FULL:
-            return GroupFull(f"{spelled}: no slot of the group is free; a key holds one until its context ends")
+            return copied(error) if error is not None and passes_through(error) else _interrupted(spelled, error)
+        if self.outcome == words.GROUP_FULL and self.refused is not None:
+            return full_error(self.refused.place, self.fallback, raised)
         if self.outcome == words.WORN:
             return Worn(f"{spelled}: the group has made all of its steps")
         if self.outcome in (RETIRED, words.NO_GROUP):
@@ -183,12 +247,14 @@ class Holder:
         return Stopped("the service is closed")
 
 
-def _copied(error: BadRequest) -> BaseException:
+def copied(error: BaseException) -> BaseException:
     """A copy of it, or where it cannot be copied the same one."""
     with suppress(Exception):
         made = copy.copy(error)
-        made.__cause__, made.__traceback__ = error.__cause__, error.__traceback__
-        return made
+        if type(made) is type(error):
+            made.__cause__, made.__traceback__ = error.__cause__, error.__traceback__
+            made.__context__, made.__suppress_context__ = error.__context__, error.__suppress_context__
+            return made
     return error
 
 

@@ -2,6 +2,7 @@
 
 from __future__ import annotations
 
+import socket
 from collections import deque
 from collections.abc import Iterable
 from contextlib import suppress
@@ -96,7 +97,7 @@ class SharedConnection(Connection):
         """The next answer. Raises `_Late`."""
         try:
             answer = self._answer()
-        except TimeoutError as error:
+        except socket.timeout as error:  # TimeoutError from Python 3.10 on
             raise _Late from error
         self._in_a_row = 0
         return answer

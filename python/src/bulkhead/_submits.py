@@ -5,6 +5,7 @@ from __future__ import annotations
 from typing import TYPE_CHECKING, Optional
 
 from . import _library, _words as words
+from ._events import NOTHING, OF_CAUSES, RESPONSE_FROM_CACHE
 from ._groups import Group
 from ._pools import Worker
 from ._runs import ANSWERED, FALLBACK_DUE, NOBODY, Holder, Run
@@ -86,7 +87,7 @@ class Submits(Turns):
     def _submitted(self, run: Run, holder: Holder, context: Optional[RequestContext]) -> None:
         """Takes over the reply to a submit, mostly a new ticket."""
         kind, ticket, group, place = self.reply[_KIND_AT], self.numbers[_NUMBER_WORD], run.group, run.place
-        cause, changes, worker, waiting = 0, None, None, NOBODY
+        cause, kind_of_cause, changes, worker, waiting, (events, tellers) = 0, 0, None, None, NOBODY, NOTHING
         if kind != _INLINE or run.body.is_awaited:
             if kind not in _PLACED:
                 self._not_placed(run, holder, kind, ticket)
@@ -94,7 +95,11 @@ class Submits(Turns):
             worker, waiting = self._waits(run, holder, kind)
         if place.circuit.state or kind == _FALLBACK_DUE:
             cause = self.reply[_CAUSE_AT]
-            changes = self.circuit_changes(place, place.circuit.submitted(kind, cause, ticket))
+            if place.settings.circuit_moves:
+                changes = self.circuit_changes(place, place.circuit.submitted(kind, cause, ticket, group.latest))
+        if kind == _FALLBACK_DUE:
+            kind_of_cause = OF_CAUSES[cause]
+            events, tellers = self.events.of(place, None, (kind_of_cause, None))
         # from here on nothing is called
         run.ticket, run.waiting, run.started = ticket, waiting, group.latest
         holder.run, holder.runs_it = run, kind == _INLINE
@@ -102,11 +107,15 @@ class Submits(Turns):
         if context is not None:
             context.runs += (run,)
         if changes:
-            place.circuit.state, place.circuit.test, self.changes, told_of = changes
+            place.circuit, self.changes, told_of = changes
             self.told += told_of
         if kind == _FALLBACK_DUE:
             run.state = FALLBACK_DUE
-            place.counters.rejections[words.CAUSES[cause - 1]] += 1
+            place.counters.events[kind_of_cause] += 1
+            self.events.kept += events
+            if tellers:
+                self.told += tellers
+                self.events.asleep = ()
             self.todo += (run,)
         else:
             run.due = due = group.latest + place.limit
@@ -134,18 +143,33 @@ class Submits(Turns):
         if kind == words.JOINED:
             self._joined(run.group.runs[ticket], holder)
             return
-        rejections, is_full = run.place.counters.rejections, kind == words.GROUP_FULL
-        if not is_full:
-            self.is_over(run.group, kind)
+        if kind == words.GROUP_FULL:
+            self._full(run, holder)
+            return
+        self.is_over(run.group, kind)
         # from here on nothing is called
-        rejections["group-full"] += is_full
         holder.outcome, holder.spelled = kind, run.place.spelled
+        self.unit = None
+
+    def _full(self, run: Run, holder: Holder) -> None:
+        """Takes over that no slot was free: there is no ticket, and the fallback is run without one."""
+        counters, fallback = run.place.counters, run.enter_fallback()
+        # from here on nothing is called
+        counters.full += 1
+        holder.outcome, holder.refused, holder.fallback = words.GROUP_FULL, run, fallback
         self.unit = None
 
     def _joined(self, run: Run, holder: Holder) -> None:
         """Takes over that a holder shares the answer of a ticket."""
         holder.wait_ready()
+        counts = run.place.counters.events
+        events, tellers = self.events.of(run.place, None, (RESPONSE_FROM_CACHE, None))
         # from here on nothing is called
+        counts[RESPONSE_FROM_CACHE] += 1
+        self.events.kept += events
+        if tellers:
+            self.told += tellers
+            self.events.asleep = ()
         holder.run = run
         run.holders += 1
         run.waiting = [*run.waiting, holder]

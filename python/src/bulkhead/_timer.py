@@ -23,11 +23,11 @@ class Timer:
 
     def __init__(self, turns: Core) -> None:
         self._turns = turns
-        self._wake = threading.Lock()
+        self._wake, self._claim = threading.Lock(), threading.Lock()
         self._wake.acquire()
 
     def start(self) -> None:
-        """Starts the thread."""
+        """Starts the thread. To start it twice is to start it once."""
         threading.Thread(target=self._work, name="bulkhead-timer", daemon=True).start()
 
     def tell(self, by_timer: bool) -> None:
@@ -36,6 +36,8 @@ class Timer:
             self._wake.release()
 
     def _work(self) -> None:
+        if not self._claim.acquire(blocking=False):
+            return  # another thread is at it
         while self._turns.is_open:
             try:
                 self._look()

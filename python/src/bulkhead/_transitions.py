@@ -2,13 +2,11 @@
 
 from __future__ import annotations
 
-import threading
 from collections.abc import Callable
-from contextlib import suppress
 from typing import TYPE_CHECKING, NamedTuple
 
 from . import _words as words
-from ._unraisable import tell_unraisable
+from ._tellers import Teller
 
 if TYPE_CHECKING:
     from ._core import Core
@@ -35,30 +33,15 @@ def with_change(changes: Changes, name: str, before: int, after: int) -> Changes
     return changes._replace(waiting=(*changes.waiting, (name, words.CIRCUITS[before], words.CIRCUITS[after])))
 
 
-class Teller:
-    """The daemon thread that calls `on_transition`: no call of a command waits for it, and nothing that it raises ends it."""
+class TransitionTeller(Teller):
+    """The thread that calls `on_transition`."""
 
     def __init__(self, turns: Core, call: Callable[[str, str, str], object]) -> None:
-        self._turns, self._call = turns, call
-        self._wake = threading.Lock()
-        self._wake.acquire()
+        super().__init__(turns, call, "bulkhead-transitions")
 
-    def start(self) -> None:
-        """Starts the thread."""
-        threading.Thread(target=self._work, name="bulkhead-transitions", daemon=True).start()
+    def take(self) -> tuple[Change, ...]:
+        return self._turns.take_changes()
 
-    def tell(self, by_timer: bool) -> None:
-        """Wakes the thread: there is something to tell, or the service is closed."""
-        with suppress(RuntimeError):  # awake already
-            self._wake.release()
-
-    def _work(self) -> None:
-        turns = self._turns
-        while (waiting := turns.take_changes()) or turns.is_open:
-            for change in waiting:
-                try:
-                    self._call(*change)
-                except BaseException as error:
-                    tell_unraisable(error, self._call)
-            if not waiting:
-                self._wake.acquire()
+    def anew(self) -> TransitionTeller:
+        """The same for a forked process."""
+        return TransitionTeller(self._turns, self._call)

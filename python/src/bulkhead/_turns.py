@@ -15,10 +15,12 @@ from time import monotonic_ns as _monotonic_ns
 from typing import TYPE_CHECKING, Any, Optional, Protocol, TypeVar
 
 from . import _library
-from ._groups import Group, Place
+from ._events import EventLog
+from ._groups import Circuit, Group, Place
 from ._recording import Act
 from ._runs import Caller, Run
-from ._transitions import Change, Changes, Teller, with_change
+from ._tellers import Teller
+from ._transitions import Change, Changes, with_change
 from ._unraisable import tell_unraisable
 from .errors import BadStep, Reentered, Stopped
 
@@ -90,14 +92,14 @@ class Turns:
 
     def __init__(self, opened: StepService, clock: Optional[Callable[[], int]]) -> None:
         self._lock = threading.RLock()
-        self._opened = opened
+        self.opened = opened
         # the clock of a test, if it has one of its own
         self._clock = clock
         # a step as the library reads it, its reply, the words of that, and the call that makes the one of the other
         self.given, self.reply, self.numbers = opened.given, opened.told, opened.numbers
-        self._ask_library: Callable[[], object] = partial(_library.make_step, *opened.places)
+        self.ask_library: Callable[[], object] = partial(_library.make_step, *opened.places)
         # the same, and with a record a note of it
-        self.ask: Callable[[], object] = self._ask_library
+        self.ask: Callable[[], object] = self.ask_library
         # the line of a registration or a retirement, and its answer
         self._line, self._answer, self._length = b"", _library.Answer(), _library.Length()
         # who is let go on after the turn that goes on, if one does
@@ -109,7 +111,7 @@ class Turns:
         self._untold: list[Told] = []
         self._is_noted = True
         self.kind_at = _KIND_AT
-        self.is_open, self._has_acted = True, False
+        self.is_open, self.has_acted = True, False
         # the moment of the turn, which its first step reads
         self._moment: Optional[int] = None
         self.record: Optional[Record] = None
@@ -119,13 +121,24 @@ class Turns:
         # the changes of circuit breakers, and who tells them, if somebody asked for it
         self.changes = Changes()
         self.teller: Optional[Teller] = None
+        self.events = EventLog()
         # those that are there, by their names, and those that ever were, by their numbers
         self.groups: dict[str, Group] = {}
         self.every_group: list[Group] = []
 
     def has_stepped(self) -> bool:
         """Whether a step was made, or a group came or went."""
-        return self._has_acted or any(group.latest >= 0 for group in self.every_group)
+        return self.has_acted or any(group.latest >= 0 for group in self.every_group)
+
+    @property
+    def is_turning(self) -> bool:
+        """Whether a turn goes on, where the lock is this thread's."""
+        return self.told is not _NOBODY
+
+    @property
+    def lock(self) -> Any:
+        """The lock, for what is taken out of a turn's results."""
+        return self._lock
 
     # -- a turn
 
@@ -275,12 +288,22 @@ class Turns:
         """Has a line answered that registers or retires a group, and hands over to `done`, which asks for the `answer`."""
         if not self.is_open:
             raise Stopped("the service is closed")
-        self._line, self._length.value, self._has_acted = line, 0, True
+        self._line, self._length.value, self.has_acted = line, 0, True
         self.reply[_KIND_AT] = _ACT
         self.unit, self._is_noted = (done, one, other, more), self.record is None
-        self._opened.line_into(line, self._answer, self._length)
+        self.opened.line_into(line, self._answer, self._length)
         self._note()
         done(one, other, more)
+
+    def moment_of(self, group: Group) -> int:
+        """The moment of the turn, for a line of a group. Raises `BadStep` where the clock gives none."""
+        moment = self._moment
+        if moment is None:
+            clock = self._clock
+            moment = self._moment = _monotonic_ns() // 1_000_000 if clock is None else clock()
+        if type(moment) is not int:
+            raise BadStep(f"the clock has to give whole milliseconds from 0 on, and gave {moment!r}")
+        return max(moment, group.latest)
 
     def answer(self) -> bytes:
         """The answer to the line of an act."""
@@ -288,11 +311,12 @@ class Turns:
 
     def begin_record(self, record: Record) -> None:
         """Notes each step from now on."""
-        self.record, self.ask = record, self._ask_and_note
+        self.record, self.ask = record, self.ask_and_note
 
-    def _ask_and_note(self) -> None:
+    def ask_and_note(self) -> None:
+        """Makes the step, and keeps a note of it."""
         self._is_noted = False
-        self._ask_library()
+        self.ask_library()
         self._note()
 
     def _note(self) -> None:
@@ -337,17 +361,16 @@ class Turns:
 
     def calls_back(self) -> bool:
         """Whether what follows this turn is more than to let callers go on."""
-        return not all([isinstance(one, Caller) for one in self.told])
+        return not all([isinstance(one, (Caller, Teller)) for one in self.told])
 
-    def circuit_changes(self, place: Place, after: tuple[int, int]) -> Any:
-        """What changes of a circuit breaker: its state and test call afterwards, the changes to be told, and by whom."""
+    def circuit_changes(self, place: Place, after: Circuit) -> Any:
+        """What changes of a circuit breaker: how it is afterwards, the changes to be told, and by whom."""
         circuit = place.circuit
-        if not place.settings.circuit_moves or (circuit.state, circuit.test) == after:
+        if circuit is after:
             return None
-        state, test = after
-        if circuit.state == state or self.teller is None:
-            return state, test, self.changes, ()
-        return state, test, with_change(self.changes, place.spelled, circuit.state, state), (self.teller,)
+        if circuit.state == after.state or self.teller is None:
+            return after, self.changes, ()
+        return after, with_change(self.changes, place.spelled, circuit.state, after.state), (self.teller,)
 
     def take_changes(self) -> tuple[Change, ...]:
         """The changes that are to be told, which are kept no longer."""

@@ -14,6 +14,8 @@ OPERATIONS = (
     "fallback-missing",
     "close",
     "read",
+    "tune",
+    "totals",
 )
 (
     SUBMIT,
@@ -29,7 +31,9 @@ OPERATIONS = (
     FALLBACK_MISSING,
     CLOSE_CONTEXT,
     READ,
-) = range(1, 14)
+    TUNE,
+    READ_TOTALS,
+) = range(1, 16)
 
 KINDS = (
     "queued",
@@ -56,6 +60,9 @@ KINDS = (
     "worn",
     "no-group",
     "no-command",
+    "tuned",
+    "out-of-range",
+    "totals",
 )
 (
     QUEUED,
@@ -82,12 +89,16 @@ KINDS = (
     WORN,
     NO_GROUP,
     NO_COMMAND,
-) = range(1, 25)
+    TUNED,
+    OUT_OF_RANGE,
+    TOTALS,
+) = range(1, 28)
 
 CAUSES = ("short-circuited", "thread-pool-rejected", "semaphore-rejected", "failure", "timeout")
 SHORT_CIRCUITED, POOL_REJECTED, SEMAPHORE_REJECTED, FAILURE, TIMEOUT = range(1, 6)
 
 FALLBACKS = ("failed", "rejected", "missing", "disabled")
+FAILED, REJECTED, MISSING, DISABLED = range(1, 5)
 CIRCUITS = ("closed", "open", "half-open")
 
 EVENTS = (

@@ -3,9 +3,9 @@
 from __future__ import annotations
 
 import os
-from collections.abc import Callable, Coroutine, Iterable
+from collections.abc import Callable, Coroutine, Iterable, Mapping
 from contextvars import ContextVar
-from typing import Any, Literal, Optional, ParamSpec, Protocol, TypeVar, Union, overload
+from typing import Any, Literal, Optional, Protocol, TypeVar, Union, overload
 
 from . import _lines, _words as words, prometheus, settings as of_settings
 from ._client_bodies import ClientBody, Texts, thread_refused
@@ -15,11 +15,17 @@ from ._client_contexts import ClientContext
 from ._closing import Closing
 from ._connection import Address, Answer, Lost, checked_address
 from ._declared import is_coroutine_command
+from ._failures import Which, judge_of
 from ._groups import Group, Place
 from ._links import Links
+from ._looks import HELD_OPEN
+from ._opening import by_name, opened_by
+from ._reloading import Tuning, tunings_by_looks
+from ._tuning import Value, changes_of, in_force, raise_unless_told, take_over
+from ._typing import ParamSpec
 from .contexts import RequestContext
 from .errors import Error, NoSuchCommand, NoSuchGroup, Refused, Unreachable, Worn
-from .metrics import Metrics
+from .metrics import Health, Metrics, Totals, totals_in
 from .settings import CommandSettings, GroupSettings
 from .steps import Service as StepService
 
@@ -111,6 +117,9 @@ class Client(Closing):
         encode: Optional[Callable[[Any], str]] = None,
         decode: Optional[Callable[[str], Any]] = None,
         when_unreachable: Optional[WhenUnreachable] = None,
+        failures: Optional[Which] = None,
+        ignored: Optional[Which] = None,
+        failed_result: Optional[Callable[[Any], object]] = None,
     ) -> _Declares:
         """Makes a command of the function below it: that of a group of the service, or a further one, under SEMAPHORE.
 
@@ -118,7 +127,8 @@ class Client(Closing):
         `key` is called with the arguments and gives a str or an int: within a request context, calls with equal keys share
         one answer, also those of other processes. So it wants `encode`, which tells the function's value (and the
         fallback's) by a text of at most 256 bytes, and `decode`, which reads it again. `when_unreachable` is the choice for
-        this command, where it is not that of the client.
+        this command, where it is not that of the client. `failures`, `ignored` and `failed_result` are those of a command of
+        `bulkhead.open`: which exceptions and values are failures.
 
         Raises `NoSuchGroup` where no group and no command has the name, `Refused` where the name was given already or the
         command runs under THREAD, and `Unreachable` where the service has to be asked for the name and cannot be.
@@ -129,6 +139,7 @@ class Client(Closing):
             raise thread_refused(name)
         if (encode is None) != (decode is None) or (key is None) != (encode is None):
             raise Refused(f"{name}: key=, encode= and decode= are given together, or none of them")
+        judge = judge_of(name, failures, ignored, failed_result)
         texts = None if encode is None or decode is None else Texts(encode, decode)
 
         def declare(function: Callable[..., Any]) -> Any:
@@ -136,7 +147,7 @@ class Client(Closing):
                 raise Refused(f"the command {name} was declared already")
             is_coroutine = is_coroutine_command(name, function, fallback)
             self._declared.add(name)
-            body = ClientBody(self._links, place, function, fallback, is_coroutine, texts, choice == "fallback")
+            body = ClientBody(self._links, place, function, fallback, is_coroutine, texts, choice == "fallback", judge)
             body.is_inline = self._is_known
             self._bodies.append(body)
             return (AsyncClientCommand if is_coroutine else ClientCommand)(self, body, key)
@@ -189,6 +200,72 @@ class Client(Closing):
         self._places[name] = place
         return place
 
+    # -- properties that change
+
+    def tune(
+        self,
+        group: str,
+        command: Optional[str] = None,
+        properties: Optional[Mapping[str, Value]] = None,
+        **named: Value,
+    ) -> None:
+        """Changes properties of a group's own command or of a further one, or of its pool, for all processes.
+
+        They are named as in the settings, either in `properties`, or by keywords with an underscore for each dot. Those of one
+        call are changed one after another. A service on a port lets its connections do so where it was started with
+        `--tunable`. Raises `Refused` at the first that may not change so, where those before it are in force; `NoSuchGroup`,
+        `NoSuchCommand`, `Worn`, `Unreachable` and `Stopped`.
+        """
+        place = self._of(group, command)
+        for change in changes_of(place, properties, named):
+            line = _lines.tune(place.group.name, self._name_of(place), change.name, change.value)
+            (answer,) = self._ask([line])
+            raise_unless_told(place, answer, "tuned", change)
+            if self._is_known:
+                take_over(change, in_force(change))
+
+    def reload(
+        self, settings: Union[str, os.PathLike[str], None] = None, *, text: Union[str, bytes, None] = None
+    ) -> list[Tuning]:
+        """Brings the service to new settings for all processes, given as to `connect`, and tells each property that it changed.
+
+        It asks what is in force, and tunes what differs. Raises `NotTunable`, which names each property that differs and cannot
+        change while the service is there, and `Refused` where the settings are refused or the service lets this connection
+        change nothing: nothing was changed then. Each change is a line of its own, so where an `Unreachable` ends it, those
+        before it are in force, and another `reload` makes the rest. Raises an `Error` where the service does not tell what is in
+        force, and `Stopped`.
+        """
+        with opened_by(of_settings.read(settings, text)) as opened:
+            wanted = by_name(opened)
+        changes = tunings_by_looks(wanted, [group.name for group in self._groups], self._ask)
+        for change in changes:
+            self.tune(change.group, change.command, {change.property: change.after})
+        return changes
+
+    def totals(self, group: str, command: Optional[str] = None) -> Totals:
+        """How many events of each kind a command has had since its group was there: what all processes did.
+
+        It is a step of the group. Raises `NoSuchGroup`, `NoSuchCommand`, `Worn`, `Unreachable` and `Stopped`.
+        """
+        place = self._of(group, command)
+        (answer,) = self._ask([_lines.totals(place.group.name, self._name_of(place))])
+        raise_unless_told(place, answer, "totals")
+        return totals_in(answer["events"])
+
+    def _of(self, group: str, command: Optional[str]) -> Place:
+        """A command of a group by its name, or its own one."""
+        of = next((one for one in self._groups if one.name == group), None)
+        if of is None:
+            raise NoSuchGroup(f"the service has no group {group!r}")
+        place = of.places[0] if command in (None, group) else self._found(str(command))
+        if place is None or place.group is not of:
+            raise NoSuchCommand(f"{group} has no command {command!r}")
+        return place
+
+    def _name_of(self, place: Place) -> Optional[str]:
+        """The name of a command in a line, where it is not the group's own."""
+        return place.settings.name if place.number else None
+
     # -- metrics
 
     @overload
@@ -218,7 +295,7 @@ class Client(Closing):
 
     def _looked_at(self, places: Iterable[Place]) -> list[Answer]:
         return self._ask(
-            [_lines.metrics(place.group.name, place.settings.name if place.number else None) for place in places]
+            [_lines.metrics(place.group.name, self._name_of(place)) for place in places]
         )
 
     def _ask(self, lines: list[bytes]) -> list[Answer]:
@@ -234,7 +311,21 @@ class Client(Closing):
         that found the service unreachable.
         """
         unreachable = prometheus.unreachable((body.place, body.unreachable) for body in self._bodies)
-        return prometheus.text(self.metrics(), self._groups) + unreachable
+        metrics = self.metrics()
+        return prometheus.text([_sample(group, metrics) for group in self._groups]) + unreachable
+
+
+def _sample(group: Group, metrics: dict[str, Metrics]) -> prometheus.GroupSample:
+    """A group as its metrics are told: by the service what is of this moment, and by this process what it counted."""
+    commands, free = [], None
+    for place, name in zip(group.places, group.command_names()):
+        at, told = metrics.get(place.spelled), None
+        if at is not None:
+            circuit, free = (HELD_OPEN if place.settings.is_held_open else at.circuit), at.free
+            told = prometheus.Told(circuit, at.busy, at.queued, Health(at.errors, at.total))
+        commands.append(prometheus.of_place(place, name, told))
+    full = sum(place.counters.full for place in group.places)
+    return prometheus.GroupSample(prometheus.labelled(group=group.name), group.settings, commands, full, free)
 
 
 def _checked_choice(choice: WhenUnreachable) -> WhenUnreachable:

@@ -8,15 +8,16 @@ from collections.abc import Callable, Coroutine
 from concurrent.futures import Future
 from contextvars import copy_context
 from threading import get_ident
-from typing import TYPE_CHECKING, Any, Generic, Optional, ParamSpec, TypeVar
+from typing import TYPE_CHECKING, Any, Generic, Optional, TypeVar
 
 from . import _coroutines, _words as words
 from ._declared import Declared, not_queued
+from ._failures import passes_through
 from ._futures import FutureHolder
-from ._groups import Place
 from ._runs import STILL_OPEN, UNTOLD, Body, Caller, Holder, Run, Waiter
+from ._typing import ParamSpec
 from .contexts import checked_key
-from .errors import BadRequest, Reentered, Refused
+from .errors import Reentered, Refused
 
 if TYPE_CHECKING:
     from ._core import Core
@@ -37,17 +38,15 @@ class _CoreDeclared(Declared):
     def __init__(
         self,
         service: CommandService,
-        place: Place,
-        function: Callable[..., Any],
-        fallback: Optional[Callable[..., Any]],
+        body: Body,
         key: Optional[Callable[..., Any]],
     ) -> None:
-        super().__init__(Body(place, function, fallback, isinstance(self, AsyncCommand)))
+        super().__init__(body)
         self._service, self._key = service, key
         self._turns: Core = service.turns
         # looked up once, which each call would do else
         self._turn, self._submit, self._end = self._turns.turn_of, self._turns.submit, self._turns.end
-        self._is_pooled = place.settings.is_pooled
+        self._is_pooled = body.place.settings.is_pooled
 
     def of(self: Self, group: str) -> Self:
         """The same command in a group that was registered like this one's.
@@ -59,7 +58,7 @@ class _CoreDeclared(Declared):
         if of.like != body.group.like:
             raise Refused(f"{group} was not registered like {body.group.like}, which has the command {self.name}")
         made = copy.copy(self)
-        made._body = Body(of.places[body.place.number], body.function, body.fallback, body.is_awaited)
+        made._body = body.moved(of.places[body.place.number])
         return made
 
     def _run(self, arguments: tuple[Any, ...], named: dict[str, Any]) -> Run:
@@ -123,6 +122,8 @@ class Command(_CoreDeclared, Generic[P, R]):
             if holder.outcome == words.RUN_FALLBACK and holder.run is not None:
                 run = holder.run
                 turn(self._turns.end_fallback, run, self._turns.run_fallback(run), holder)
+            elif holder.refused is not None:
+                holder.fall_back()
         except BaseException as error:
             if holder.outcome in STILL_OPEN:
                 self._turns.owed += (holder,)  # where the stack has no room for the call below
@@ -160,7 +161,9 @@ class Command(_CoreDeclared, Generic[P, R]):
         holder = FutureHolder(self._turns)
         try:
             self._turn(self._submit, run, holder, shared)
-            if holder.run is None:
+            if holder.owes_fallback():
+                run.group.helpers.help_out(holder.fall_back_apart)
+            elif holder.run is None:
                 holder.resolve()
             elif holder.outcome == UNTOLD and holder.run is not run:
                 self._refuse_own(holder)
@@ -199,7 +202,7 @@ def _raise_own(holder: Holder, operation: int) -> None:
     """Raises in its own thread what the function raised, where that says nothing of the dependency."""
     error = holder.error
     if error is not None and operation == words.FAIL_BAD_REQUEST:
-        if not isinstance(error, BadRequest) or holder.outcome == words.BAD_REQUEST:
+        if not passes_through(error) or holder.outcome == words.BAD_REQUEST:
             raise error
 
 

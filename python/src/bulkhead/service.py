@@ -4,29 +4,45 @@ from __future__ import annotations
 
 import json
 import os
-from collections.abc import Callable, Coroutine
+from collections.abc import Callable, Coroutine, Iterable, Mapping
 from contextlib import suppress
 from contextvars import ContextVar
 from itertools import count
 from pathlib import Path
-from typing import Any, Optional, ParamSpec, Protocol, TypeVar, Union, overload
+from typing import TYPE_CHECKING, Any, Literal, Optional, Protocol, TypeVar, Union, overload
 
-from . import _coroutines, _ends, prometheus, settings as of_settings
+from . import _coroutines, _ends, _words as words, prometheus, settings as of_settings
 from ._closing import Closing
 from ._core import Core
 from ._declared import is_coroutine_command
+from ._events import Event, Listener, numbers_of
+from ._failures import Which, judge_of
 from ._groups import Group, Place
+from ._looks import look_at
+from ._opening import by_name, opened_by
 from ._recording import Record
-from ._runs import RETIRED, Run
+from ._reloading import Retuning, Tuning, changes_to, raise_unless_tunable, tuning_of
+from ._runs import RETIRED, Body, Run
+from ._tuning import Change, Growth, Value, changes_of, in_force, line_of, place_of, raise_unless_told, take_over
+from ._typing import ParamSpec
+from ._warning import warn_of
 from .commands import AsyncCommand, Command
 from .contexts import RequestContext
 from .errors import BadLine, Error, NoSuchCommand, NoSuchGroup, Refused, Stopped, Worn
-from .metrics import Metrics
+from .metrics import Health, Metrics, Totals, totals_in
+from .settings import GroupSettings
 from .steps import Service as StepService, metrics_in
+
+if TYPE_CHECKING:
+    from .page import MetricsServer
 
 P = ParamSpec("P")
 R = TypeVar("R")
 T = TypeVar("T")
+
+# what becomes of a service in a forked process
+AfterFork = Literal["reopen", "stop"]
+_CHOICES = ("reopen", "stop")
 
 
 class _Declares(Protocol):
@@ -44,15 +60,31 @@ def open(  # noqa: A001: it is called as bulkhead.open
     text: Union[str, bytes, None] = None,
     clock: Optional[Callable[[], int]] = None,
     on_transition: Optional[Callable[[str, str, str], object]] = None,
+    after_fork: AfterFork = "reopen",
 ) -> CommandService:
     """Opens a service by a settings file, which is given by its path or as `text=`.
 
     `clock` gives the moments of a test, whole milliseconds from 0 on; then there is no timer, and `expire` times out what
     is due. `on_transition` is called with the name of a command and two of "closed", "open" and "half-open" where its
-    circuit breaker changes: in order, by a thread of its own, and what it raises is told to `sys.unraisablehook`. Raises `Refused`, with the program's text, where the settings are refused, and an OSError
-    where the file cannot be read.
+    circuit breaker changes: in order, by a thread of its own, and what it raises is told to `sys.unraisablehook`.
+
+    `after_fork` says what becomes of it in a forked process. "reopen" has the first call there open the same settings anew:
+    with fresh counts and threads of its own, with the groups that were registered, and with a record in files of that
+    process. "stop" has every call there raise `Stopped`.
+
+    Warns by `SettingsWarning` where a command's permits, or a group's workers and queue, are more than the group's slots, and
+    by `UnknownNameWarning` of a name that nothing looks up, as one that is misspelt. The program `bulkhead` finds these (see
+    `bulkhead.lint`); where there is none, or the warning is switched off, nothing is looked for.
+    Raises `Refused`, with the program's text, where the settings are refused, and an OSError where the file cannot be read.
     """
-    return CommandService(of_settings.read(settings, text), clock, on_transition)
+    content = of_settings.read(settings, text)
+    service = CommandService(content, clock, on_transition, after_fork)
+    try:
+        warn_of(content, service.in_force)
+    except BaseException:  # warnings may be made errors
+        service.close()
+        raise
+    return service
 
 
 class CommandService(Closing):
@@ -63,10 +95,16 @@ class CommandService(Closing):
         settings: bytes,
         clock: Optional[Callable[[], int]] = None,
         on_transition: Optional[Callable[[str, str, str], object]] = None,
+        after_fork: AfterFork = "reopen",
     ) -> None:
-        self._settings, self._opened = settings, StepService(settings)
-        self.turns = Core(self._opened, clock)
-        self._in_force = {group.name: group for group in of_settings.in_force(self._opened.check())}
+        if after_fork not in _CHOICES:
+            raise Refused(f'after_fork= is "reopen" or "stop", and not {after_fork!r}')
+        opened = opened_by(settings)
+        self._settings = settings
+        self.turns = Core(settings, opened, clock, after_fork == "reopen")
+        # what it was opened with, by which a group is registered, and what the latest `reload` made of it
+        self._in_force = self._reloaded = by_name(opened)
+        self.turns.listed = len(self._in_force)
         groups = [Group(number, group, name) for number, (name, group) in enumerate(self._in_force.items())]
         self.turns.every_group += groups
         self.turns.groups |= {group.name: group for group in groups}
@@ -81,6 +119,11 @@ class CommandService(Closing):
         if clock is None:
             self.turns.start_timer()
 
+    @property
+    def in_force(self) -> list[GroupSettings]:
+        """The settings that the service was opened with, group by group."""
+        return [*self._in_force.values()]
+
     # -- commands
 
     def command(
@@ -89,17 +132,28 @@ class CommandService(Closing):
         *,
         fallback: Optional[Callable[..., Any]] = None,
         key: Optional[Callable[..., Any]] = None,
+        failures: Optional[Which] = None,
+        ignored: Optional[Which] = None,
+        failed_result: Optional[Callable[[Any], object]] = None,
     ) -> _Declares:
         """Makes a command of the function below it: that of a group of the settings, or a further one.
 
         `fallback` is called with the arguments of the call and `cause`, a `CommandError`, where the run gives no value.
         `key` is called with the arguments and gives a str or an int: within a request context, calls with equal keys
-        share one answer. Raises `NoSuchGroup` where no group and no command has the name, and `Refused` where the name
-        was given already, or where the function cannot run under the strategy that the settings have for it.
+        share one answer.
+
+        Each exception of the function is a failure, unless `ignored` or `failures` says otherwise. Both are classes of
+        exceptions, or are called with an exception and tell whether it is meant. One that `ignored` means passes through to
+        the caller and counts against nobody, as `BadRequest` does. Where `failures` is given, so does one that it does not
+        mean. `failed_result` is called with a value and tells whether that is a failure: then the call goes to the
+        fallback, with a `FailedResult` as `cause`.
+
+        Raises `NoSuchGroup` where no group and no command has the name, and `Refused` where the name was given already, or
+        where the function cannot run under the strategy that the settings have for it.
         """
         if name not in self._places:
             raise NoSuchGroup(f"no group and no command of the settings is called {name!r}")
-        place = self._places[name]
+        place, judge = self._places[name], judge_of(name, failures, ignored, failed_result)
 
         def declare(function: Callable[..., Any]) -> Any:
             if name in self._declared:
@@ -109,7 +163,7 @@ class CommandService(Closing):
                 raise Refused(f"{name} runs under THREAD, and a coroutine function can run under SEMAPHORE alone")
             self._declared.add(name)
             kind = AsyncCommand if is_coroutine else Command
-            return kind(self, place, function, fallback, key)
+            return kind(self, Body(place, function, fallback, is_coroutine, judge), key)
 
         return declare
 
@@ -137,7 +191,7 @@ class CommandService(Closing):
         except BadLine:
             told = {"error": "name"}
         if told.get("reply") != "registered":
-            whys = {"name": "it is no name for a group, or is taken", "groups": "10,000 groups were registered"}
+            whys = {"name": "it is no name for a group, or is taken", "groups": "2^40 groups were registered"}
             raise Refused(f"the group {name!r} is not registered: {whys.get(str(told.get('error')), told)}")
 
     def _register(self, name: str, like: str) -> dict[str, Any]:
@@ -149,10 +203,12 @@ class CommandService(Closing):
     def _registered(self, told: dict[str, Any], name: str, like: str) -> None:
         turns, answer = self.turns, json.loads(self.turns.answer())
         if answer.get("reply") == "registered":
-            group = Group(self._opened.group(name), self._in_force[like], name)
+            group = Group(turns.opened.group(name), self._in_force[like], name)
+            work = Retuning(changes_to(group, self._reloaded[like]))
             # from here on nothing is called
             turns.groups[name] = group
             turns.every_group += (group,)
+            turns.todo += (work,)
         told |= answer
         turns.unit = None
 
@@ -176,6 +232,110 @@ class CommandService(Closing):
             turns.end_group(group, RETIRED)
             turns.groups.pop(group.name, None)
         turns.unit = None
+
+    # -- properties that change
+
+    def tune(
+        self,
+        group: str,
+        command: Optional[str] = None,
+        properties: Optional[Mapping[str, Value]] = None,
+        **named: Value,
+    ) -> None:
+        """Changes properties of a group's own command or of a further one, or of its pool, while it runs.
+
+        They are named as in the settings, either in `properties`, or by keywords with an underscore for each dot, as in
+        `tune("payment", coreSize=8, circuitBreaker_forceOpen=True)`. Each is in force from its step on: for what comes, and
+        for what is under way. Those of one call are changed in one turn, in their order. Slots, windows, the strategy and the
+        size of the queue never change, and `register` still copies the settings of the file.
+
+        Raises `Refused` at the first that may not change so, where those before it are in force; `NoSuchGroup`,
+        `NoSuchCommand`, `Worn` and `Stopped`.
+        """
+        place = place_of(self.group(group), command)
+        self.turns.turn(self._tune, place, changes_of(place, properties, named))
+
+    def _tune(self, place: Place, changes: list[Change]) -> None:
+        turns, group = self.turns, place.group
+        for change in changes:
+            told: dict[str, Any] = {}
+            moment = turns.moment_of(group)
+            turns.act(change.line(moment), self._tuned, told, change, moment)
+            raise_unless_told(place, told, "tuned", change)
+
+    def _tuned(self, told: dict[str, Any], change: Change, moment: int) -> None:
+        turns, answer, group = self.turns, json.loads(self.turns.answer()), change.place.group
+        if answer.get("reply") == "tuned":
+            take_over(change, in_force(change))
+            # from here on nothing is called
+            turns.todo += (Growth(group),)
+        self._answered(group, answer, moment)
+        told |= answer
+        turns.unit = None
+
+    def _answered(self, group: Group, answer: dict[str, Any], moment: int) -> None:
+        """A line of a group was answered: a step was made, unless it was at fault."""
+        if answer.get("reply") == "worn":
+            self.turns.is_over(group, words.WORN)
+        elif "reply" in answer:
+            group.latest = moment
+
+    def reload(
+        self, settings: Union[str, os.PathLike[str], None] = None, *, text: Union[str, bytes, None] = None
+    ) -> list[Tuning]:
+        """Brings all groups to new settings, given as to `open`, and tells each property that it changed.
+
+        What differs from what is in force is tuned, in one turn: also what `tune` changed before, and for each group that was
+        registered `like` one of the settings, or will be. Equal settings change nothing. A group that is `Worn` is passed over.
+
+        Raises `NotTunable`, which names each property that differs from those that the service was opened with and cannot
+        change, `Refused` where the settings are refused, an OSError where the file cannot be read, and `Stopped`. Nothing was
+        changed then. Warns as `open` does, before anything is changed.
+        """
+        content = of_settings.read(settings, text)
+        with opened_by(content) as opened:
+            wanted = by_name(opened)
+        raise_unless_tunable(self._in_force, wanted)
+        warn_of(content, wanted.values())
+        made: list[Tuning] = []
+        self.turns.turn(self._reload, wanted, made).raise_failed()
+        return made
+
+    def _reload(self, wanted: dict[str, GroupSettings], made: list[Tuning]) -> Retuning:
+        turns = self.turns
+        if not turns.is_open:
+            raise Stopped("the service is closed")
+        groups = [group for group in turns.groups.values() if not group.over]
+        changes = [change for group in groups for change in changes_to(group, wanted[group.like])]
+        for change in changes[:1]:
+            turns.moment_of(change.place.group)  # a clock that gives none is told of before anything is changed
+        made += map(tuning_of, changes)
+        work = Retuning(changes)
+        # from here on nothing is called
+        self._reloaded = wanted
+        turns.todo += (work,)
+        return work
+
+    def totals(self, group: str, command: Optional[str] = None) -> Totals:
+        """How many events of each kind a group's own command, or a further one, has had since the group was there.
+
+        It is a step of the group. Raises `NoSuchGroup`, `NoSuchCommand`, `Worn` and `Stopped`.
+        """
+        told: dict[str, Any] = {}
+        place = place_of(self.group(group), command)
+        self.turns.turn(self._total, place, told)
+        raise_unless_told(place, told, "totals")
+        return totals_in(told["events"])
+
+    def _total(self, place: Place, told: dict[str, Any]) -> None:
+        moment = self.turns.moment_of(place.group)
+        self.turns.act(line_of("totals", place, moment), self._totalled, told, place.group, moment)
+
+    def _totalled(self, told: dict[str, Any], group: Group, moment: int) -> None:
+        answer = json.loads(self.turns.answer())
+        self._answered(group, answer, moment)
+        told |= answer
+        self.turns.unit = None
 
     # -- metrics and time
 
@@ -215,7 +375,22 @@ class CommandService(Closing):
     def prometheus(self) -> str:
         """The metrics of all commands in Prometheus's text format."""
         dropped = prometheus.dropped_transitions(self.dropped_transitions) if self._tells_transitions else ""
-        return prometheus.text(self.metrics(), [*self.turns.groups.values()]) + dropped
+        if self.turns.events.listeners:
+            dropped += prometheus.dropped_events(self.dropped_events)
+        healths = {self._place(name): Health(told.errors, told.total) for name, told in self.metrics().items()}
+        return prometheus.text([prometheus.of_look(group, healths) for group in look_at(self.turns)]) + dropped
+
+    def serve_metrics(self, port: int, address: str = "127.0.0.1", hosts: Iterable[str] = ()) -> MetricsServer:
+        """Serves the page, and what tools read, at a port until it is closed. It is a context manager. Port 0 is a free one.
+
+        docs/PAGE.md tells what there is to read. It is answered by threads of their own, and no reader makes a step or holds
+        one up. A request has to name an address, "localhost" or one of `hosts` as its Host. Whoever reaches the address may
+        read. In a forked process the port is closed. Raises an OSError where the port cannot be taken, `Refused` where it is
+        none, and `Stopped` after the end.
+        """
+        from .page import serve  # a program that serves none does not load the server
+
+        return serve(self, port, address, hosts)
 
     @property
     def dropped_transitions(self) -> int:
@@ -227,6 +402,26 @@ class CommandService(Closing):
         _coroutines.sweep(self.turns)
         number: int = self.turns.turn(self.turns.expire_all)
         return number
+
+    # -- events
+
+    def on_event(self, call: Callable[[Event], object], *, kinds: Optional[Iterable[str]] = None) -> None:
+        """Has `call` called with each `Event` that the core counts from now on, or with those of some `kinds`.
+
+        It is called in the order of the steps, by a thread of its own, for which no command waits; what it raises is told to
+        `sys.unraisablehook`. Where 10,000 events wait, the oldest thousand make room, which `dropped_events` counts. May be
+        called again, for further listeners. Raises `Refused` where no event has such a kind, and `Stopped` after the end.
+        """
+        if not callable(call):
+            raise Refused(f"on_event is given what is called with each event, and no {type(call).__name__}")
+        listener = Listener(self.turns, call, numbers_of(kinds), self.turns.events)
+        self.turns.turn(self.turns.listen, listener)
+        listener.start()
+
+    @property
+    def dropped_events(self) -> int:
+        """How many events were not told, as their listener was slow: those of all listeners."""
+        return sum(listener.dropped for listener in self.turns.events.listeners)
 
     # -- records and the end
 
@@ -241,7 +436,8 @@ class CommandService(Closing):
 
         `replies` is a path to which the replies are written, as `bulkhead run` would write them. It is called before the
         first step; raises an `Error` after it. The record's `is_whole` tells whether all could be written. At the end of
-        the service it is waited for, `timeout` seconds at most.
+        the service it is waited for, `timeout` seconds at most. In a forked process it goes on in files of that process, whose
+        number stands behind their names, as its `path` says then.
         """
         self.turns.turn(self._begin_record, None)
         record = Record(Path(path), Path(replies) if replies else None, self._settings, self.turns, timeout)
@@ -270,6 +466,7 @@ class CommandService(Closing):
         """Closes the service: whoever waits is told `Stopped`, and so is every later call. Waits for no function."""
         turns, record = self.turns, self.turns.record
         interrupt: Optional[BaseException] = None
+        turns.is_closing = True  # where it was not opened yet in a forked process, it is not opened for its end
         while turns.is_open:
             try:
                 turns.turn(self._close)

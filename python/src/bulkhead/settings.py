@@ -3,8 +3,8 @@
 from __future__ import annotations
 
 import os
-from collections.abc import Iterable
-from dataclasses import dataclass
+from collections.abc import Iterable, Mapping
+from dataclasses import dataclass, field
 from pathlib import Path
 from typing import Optional, Union
 
@@ -24,15 +24,28 @@ class CommandSettings:
     timeout_ms: Optional[int]
     is_cached: bool
     circuit_moves: bool
+    # None where they are not known
+    permits: Optional[int] = None
+    fallback_permits: Optional[int] = None
+    falls_back: bool = True
+    # each property in force, as it is told
+    said: Mapping[str, str] = field(default_factory=dict, repr=False, compare=False)
+
+    @property
+    def is_held_open(self) -> bool:
+        """Whether its circuit breaker is held open by a property, whatever state it has."""
+        return self.said.get("circuitBreaker.enabled") == "true" and self.said.get("circuitBreaker.forceOpen") == "true"
 
 
 @dataclass(frozen=True)
 class GroupSettings:
-    """What is in force for a group: the size of its pool, and its commands by their numbers."""
+    """What is in force for a group: the size of its pool, its commands by their numbers, its queue, and its slots if known."""
 
     name: str
     core_size: int
     commands: tuple[CommandSettings, ...]
+    queue_size: int = 0
+    slots: Optional[int] = None
 
 
 def read(settings: Union[str, os.PathLike[str], None], text: Union[str, bytes, None]) -> bytes:
@@ -63,9 +76,25 @@ def in_force(check: bytes) -> list[GroupSettings]:
     return [_group(commands) for commands in groups]
 
 
+def changed(settings: GroupSettings, number: int, name: str, value: Union[int, bool]) -> GroupSettings:
+    """The settings of a group once a property of a command, by its number, has another value."""
+    commands = {command.name: dict(command.said) for command in settings.commands}
+    if not all(commands.values()):  # a client that was not given the settings
+        return settings
+    commands[settings.commands[number].name][name] = str(value).lower()
+    return _group(commands)
+
+
 def _group(commands: dict[str, dict[str, str]]) -> GroupSettings:
     name, own = next(iter(commands.items()))
-    return GroupSettings(name, int(own["coreSize"]), tuple(_commands(commands.items())))
+    most, threshold = int(own["maxQueueSize"]), int(own["queueSizeRejectionThreshold"])
+    return GroupSettings(
+        name,
+        int(own["coreSize"]),
+        tuple(_commands(commands.items())),
+        queue_size=min(max(most, 0), threshold),
+        slots=int(own["service.slots"]),
+    )
 
 
 def _commands(named: Iterable[tuple[str, dict[str, str]]]) -> Iterable[CommandSettings]:
@@ -78,4 +107,8 @@ def _commands(named: Iterable[tuple[str, dict[str, str]]]) -> Iterable[CommandSe
             timeout_ms=int(said["execution.isolation.thread.timeoutInMilliseconds"]) if is_timed else None,
             is_cached=said["requestCache.enabled"] == "true",
             circuit_moves=said["circuitBreaker.enabled"] == "true" and not forced,
+            permits=int(said["execution.isolation.semaphore.maxConcurrentRequests"]),
+            fallback_permits=int(said["fallback.isolation.semaphore.maxConcurrentRequests"]),
+            falls_back=said["fallback.enabled"] == "true",
+            said=said,
         )

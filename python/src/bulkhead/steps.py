@@ -26,7 +26,9 @@ _CAUSED_KINDS = frozenset(("fallback-due", "run-fallback", "fallback-value", "er
 _TEXT_KINDS = frozenset(("assigned", "value", "fallback-value"))
 _ARGUMENT_ROOM = 64
 _KEYED = words.SUBMIT_SHARED
-_IN_CONTEXT = (words.SUBMIT_SHARED, words.CLOSE_CONTEXT)
+_IN_CONTEXT = (words.SUBMIT_SHARED, words.CLOSE_CONTEXT, words.TUNE)
+# the operations whose text has less room than a body
+_SHORT_TEXTS = (words.SUBMIT, words.SUBMIT_SHARED, words.TUNE)
 
 
 @dataclass(frozen=True)
@@ -40,6 +42,7 @@ class Reply:
     fallback: Optional[str] = None
     text: Optional[str] = None
     metrics: Optional[dict[str, Union[int, str]]] = None
+    totals: Optional[dict[str, int]] = None
 
 
 def metrics_in(reply: bytearray) -> dict[str, Union[int, str]]:
@@ -47,6 +50,12 @@ def metrics_in(reply: bytearray) -> dict[str, Union[int, str]]:
     told: dict[str, Union[int, str]] = dict(zip(words.METRICS, _library.METRICS.unpack_from(reply, _library.METRICS_AT)))
     told["circuit"] = words.CIRCUITS[int(told["circuit"]) - 1]
     return told
+
+
+def _totals_in(reply: bytearray) -> dict[str, int]:
+    """The counts of events that stand in the bytes of a reply."""
+    told = dict(zip(words.METRICS, _library.METRICS.unpack_from(reply, _library.METRICS_AT)))
+    return {name: told[name] for name in words.EVENTS}
 
 
 def _reply_in(reply: bytearray) -> Reply:
@@ -61,6 +70,7 @@ def _reply_in(reply: bytearray) -> Reply:
         fallback=words.FALLBACKS[fallback - 1] if word == "error" else None,
         text=reply[at : at + length].decode() if word in _TEXT_KINDS else None,
         metrics=metrics_in(reply) if word == "metrics" else None,
+        totals=_totals_in(reply) if word == "totals" else None,
     )
 
 
@@ -168,21 +178,23 @@ class Service(Closing):
         key: str = "",
         command: Union[str, int] = 0,
     ) -> Reply:
-        """Makes a step of a group and, where it is a submit or a read, of a command, each named or given by its number.
+        """Makes a step of a group and, where it is a submit, a read, a tune or totals, of a command, each named or given by its number.
 
-        Raises `BadStep` where an argument is of a wrong type, out of its range or too long, and where one is given that
+        A `tune` has the name of the property as `text`, and as `context` its value, where a truth value is 0 or 1.
+
+        Raises `Refused` where a property of the name may not change, or not to the value. Raises `BadStep` where an argument is of a wrong type, out of its range or too long, and where one is given that
         counts for another operation alone, as a context for a `submit`.
         """
         code = _NUMBERED.get(operation) if isinstance(operation, str) else None
         if code is None:
             raise BadStep(f"no operation is called {operation!r}")
         if context and code not in _IN_CONTEXT or key and code != _KEYED:
-            meant = "submit-shared" if code == words.SUBMIT else " or ".join(words.OPERATIONS[n - 1] for n in _IN_CONTEXT)
+            meant = "submit-shared" if code == words.SUBMIT else " or ".join(words.OPERATIONS[n - 1] for n in _IN_CONTEXT[:2])
             raise BadStep(f"a {operation} has no context and no key: {meant} is meant")
         of = self.group(group) if isinstance(group, str) else _number(group, "a group")
         which = self.command(of, command) if isinstance(command, str) else _number(command, "a command", 8)
         moment, of_ticket, of_context = _number(now, "now"), _number(ticket, "a ticket"), _number(context, "a context")
-        room = _ARGUMENT_ROOM if code in (words.SUBMIT, words.SUBMIT_SHARED) else _library.TEXT_ROOM
+        room = _ARGUMENT_ROOM if code in _SHORT_TEXTS else _library.TEXT_ROOM
         of_key, of_text = _bytes(key, "a key", _library.KEY_ROOM), _bytes(text, "a text", room)
         with self._lock:
             if self._is_in_call:

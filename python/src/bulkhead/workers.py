@@ -10,8 +10,8 @@ from typing import Optional
 
 from . import _lines, _words as words
 from ._connection import Address, Answer, Connection, Lost, checked_address
+from ._failures import PLAIN
 from ._links import Opener
-from ._runs import end_of
 from .errors import Error, NoSuchGroup, Worn
 
 _log = logging.getLogger("bulkhead")
@@ -118,7 +118,7 @@ class Worker:
             text = _lines.checked_text(function(assigned["arg"]), f"the function of {name}")
             return _lines.finish(self._group, ticket, text)
         except Exception as error:
-            is_bad = end_of(error) == words.FAIL_BAD_REQUEST
+            is_bad = PLAIN.of_error(error)[0] == words.FAIL_BAD_REQUEST
             if not is_bad:
                 _log.warning("a run of %s failed: %r", name, error, exc_info=error)
             return _lines.fail(self._group, ticket, is_bad)

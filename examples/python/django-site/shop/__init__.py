@@ -1,0 +1,1 @@
+"""A shop under Django, whose catalog is a dependency."""

@@ -1,0 +1,1 @@
+"""What `manage.py` has of the shop."""
