@@ -1,24 +1,24 @@
-# Installs what is built, or packs it. What is there is taken as it stands; what is not is proved and built first, which from
-# nothing takes half an hour and more.
+# Installs what is built, or makes a release of it. What is there is taken as it stands; what is not is proved and built first,
+# which from nothing takes half an hour and more.
 #
 #   make                                  the program, the library for C and the wheel
 #   make install [PREFIX=..] [DESTDIR=..]
-#   make dist                             out/bulkhead-VERSION-linux-MACHINE.tar.gz, which may be unpacked anywhere
+#   make release [OPTIONS=..]             release/: archive, packages of Debian, wheel, sdist, image; packaging/release tells more
+#   make release-check [OPTIONS=..]       does with them what a newcomer does, in fresh systems; as root
 #   make uninstall [PREFIX=..] [DESTDIR=..]
+#   make java                             java/out/bulkhead-hystrix-VERSION.jar, with the jars of sources and javadoc, and a pom
 
 PREFIX ?= /usr/local
 to = $(DESTDIR)$(PREFIX)
 VERSION := $(shell sed -n 's/^const VERSION: &str = "\([0-9.]*\)\\n.*/\1/p' crates/bh_arguments/src/commands.rt)
 INTERFACE := $(shell sed -n 's/^\#define BULKHEAD_VERSION \([0-9]*\)u$$/\1/p' include/bulkhead.h)
-MACHINE := $(shell uname -m)
 
 program = crates/bulkhead/out/bulkhead
 library = crates/bh_c/out/libbh_c.a
 archive = bindings/out/libbulkhead.a
 wheel = python/out/made
-pack = bulkhead-$(VERSION)-linux-$(MACHINE)
 
-.PHONY: all tools install uninstall dist
+.PHONY: all tools install uninstall release release-check java
 all: tools $(program) $(archive) $(wheel)
 
 # What is wanted of Python is looked for before anything is proved.
@@ -38,6 +38,9 @@ $(wheel): $(archive) $(shell find python/src -name '*.py') python/build-wheel py
 	python/build-wheel
 	touch $@
 
+java: $(library)
+	java/build $(library)
+
 install: all
 	install -d $(to)/bin $(to)/include $(to)/lib/pkgconfig $(to)/share/man/man1 $(to)/share/bulkhead
 	install -m 755 $(program) $(to)/bin
@@ -52,7 +55,7 @@ install: all
 	install -m 644 python/out/*.whl LICENSE $(to)/share/bulkhead
 	rm -rf $(to)/share/bulkhead/examples
 	cp -r examples $(to)/share/bulkhead/examples
-	rm -r $(to)/share/bulkhead/examples/own
+	rm -r $(to)/share/bulkhead/examples/own $(to)/share/bulkhead/examples/java
 	cp bindings/c/example.c bindings/c/slow.c python/examples/*.py $(to)/share/bulkhead/examples
 
 uninstall:
@@ -60,9 +63,8 @@ uninstall:
 	rm -f $(to)/lib/pkgconfig/bulkhead.pc $(to)/share/man/man1/bulkhead.1
 	rm -rf $(to)/share/bulkhead $(to)/lib/bulkhead
 
-dist: all
-	rm -rf out/$(pack)
-	$(MAKE) install PREFIX=/$(pack) DESTDIR=out
-	tar -C out --owner=0 --group=0 --sort=name -czf out/$(pack).tar.gz $(pack)
-	rm -rf out/$(pack)
-	@echo out/$(pack).tar.gz
+release:
+	packaging/release $(OPTIONS)
+
+release-check:
+	packaging/release-check $(OPTIONS)
