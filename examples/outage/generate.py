@@ -72,18 +72,21 @@ class Group:
 class Outage:
     """The minute, moment by moment. Whoever does something next stands in the agenda."""
 
+    settings = SETTINGS
+    commands = COMMANDS
+
     def __init__(self, program: str, seed: int) -> None:
         self.random = random.Random(seed)
         self.order = itertools.count()
         self.agenda: list[tuple[int, int, Callable[..., None], tuple[Any, ...]]] = []
-        self.groups = {command.group: Group() for command in COMMANDS}
+        self.groups = {command.group: Group() for command in self.commands}
         self.program = subprocess.Popen(
-            [program, "run", str(SETTINGS)], text=True, bufsize=1, stdin=subprocess.PIPE, stdout=subprocess.PIPE
+            [program, "run", str(self.settings)], text=True, bufsize=1, stdin=subprocess.PIPE, stdout=subprocess.PIPE
         )
 
     def play(self) -> None:
         """Does all that is on the agenda, and ends the program."""
-        for command in COMMANDS:
+        for command in self.commands:
             self.plan(self.random.randrange(200), self.submit, command)
         while self.agenda:
             moment, _, act, about = heapq.heappop(self.agenda)
@@ -101,6 +104,10 @@ class Outage:
         self.program.stdin.write(line + "\n")
         reply: dict[str, Any] = json.loads(self.program.stdout.readline())
         return reply
+
+    def timeout(self, command: Command) -> int:
+        """The timeout of a command that is in force, in milliseconds."""
+        return TIMEOUT
 
     def run_time(self, command: Command, now: int) -> int:
         """How long a run takes: the provider of payments gets slow at 14 s, stands from 16 s to 33.5 s, and recovers."""
@@ -131,7 +138,7 @@ class Outage:
         if reply["reply"] == "fallback-due":
             self.plan(now, self.collect, ticket)
             return
-        self.plan(now + TIMEOUT + self.random.randrange(10), self.expire, ticket)
+        self.plan(now + self.timeout(command) + self.random.randrange(10), self.expire, ticket)
         if reply["reply"] == "inline":
             self.plan(now + self.run_time(command, now), self.end, ticket)
         else:
@@ -179,7 +186,7 @@ class Outage:
         group = self.groups[name]
         self.say("expire", name, now)
         for due in group.tickets.values():
-            if not due.collected and due.submitted + TIMEOUT <= now:
+            if not due.collected and due.submitted + self.timeout(due.command) <= now:
                 group.waiting.discard(due.number)
                 self.plan(now, self.collect, due)
 
