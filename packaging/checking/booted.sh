@@ -1,7 +1,7 @@
-# What an administrator does in a system that is booted, with the packages in /root/packages, those of the version before in
-# /root/before, the wheel in /root/wheel and the settings of the examples in /root/examples. It prints a line
+# What an administrator does in a system that is booted, with the packages in /srv/check/packages, those of the version before in
+# /srv/check/before, the wheel in /srv/check/wheel and the settings of the examples in /srv/check/examples. It prints a line
 # `row SECONDS LIMIT ok|failed WHAT` for each thing, behind what went wrong.
-cd /root || exit
+cd /srv/check || exit
 export DEBIAN_FRONTEND=noninteractive
 socket=/run/bulkhead/share.sock
 
@@ -10,21 +10,21 @@ row() {
     local limit=$1 what=$2 began ended outcome=ok
     shift 2
     began=$(date +%s%N)
-    "$@" >/root/log 2>&1 || outcome=failed
+    "$@" >/srv/check/log 2>&1 || outcome=failed
     ended=$(date +%s%N)
-    [ $outcome = ok ] || cat /root/log
+    [ $outcome = ok ] || cat /srv/check/log
     printf 'row %d.%02d %s %s %s\n' $(((ended - began) / 1000000000)) $(((ended - began) / 10000000 % 100)) "$limit" $outcome "$what"
 }
 
 # The paths of the system that a package may leave something at.
 paths() {
-    find / -xdev \( -path /proc -o -path /sys -o -path /dev -o -path /tmp -o -path /root -o -path /var/lib/dpkg -o -path /var/log \
+    find / -xdev \( -path /proc -o -path /sys -o -path /dev -o -path /tmp -o -path /root -o -path /srv/check -o -path /var/lib/dpkg -o -path /var/log \
         -o -path /var/cache \) -prune -o -print | grep -v '\.pyc$\|__pycache__$' | sort
 }
 
 # Asks for a decision as a user, over the socket.
 decides() {
-    su "$1" -s /bin/sh -c "/root/trial/bin/python - $socket" <<'PYTHON'
+    su "$1" -s /bin/sh -c "/srv/check/trial/bin/python - $socket" <<'PYTHON'
 import sys
 import bulkhead
 
@@ -107,7 +107,7 @@ purges() {
 }
 
 useradd worker && useradd stranger
-chmod 755 /root
+chmod 755 /srv/check
 library=$(cd packages && dpkg-deb -f libbulkhead[0-9]*.deb Package)
 row 20 "the wheel: from the file to the first decision" trial
 paths >earlier

@@ -41,13 +41,13 @@ class Root:
 
     def run(self, script: str) -> str:
         """Runs a script of the shell there, with no network, and returns its output; raises FailedError."""
-        inner = f"mount -t proc proc /proc; cd /root; {script}"
+        inner = f"mount -t proc proc /proc; cd /srv/check; {script}"
         outer = 'ip link set lo up; exec chroot "$0" /bin/sh -ec "$1"'
         return ran(["unshare", "--net", "--mount", "--pid", "--fork", "sh", "-c", outer, self.path, inner])
 
     def boot(self, script: str, seconds: int = 300) -> str:
         """Starts the whole system with no network, runs a script of bash as a unit of it, and returns its output."""
-        self.put("/root/check.sh", script.encode(), 0o755)
+        self.put("/srv/check/check.sh", script.encode(), 0o755)
         self.put("/etc/systemd/system/check.service", UNIT.encode())
         wants = self.path / "etc/systemd/system/multi-user.target.wants"
         wants.mkdir(parents=True, exist_ok=True)
@@ -56,7 +56,7 @@ class Root:
         try:
             ran(words, seconds, may_fail=True)
         finally:
-            found = self.path / "root/said"
+            found = self.path / "srv/check/said"
             said = found.read_text(errors="replace") if found.is_file() else ""
         if not said.endswith("checked\n"):
             raise FailedError(f"the system came to its end before the check did:\n{said}")
@@ -67,7 +67,7 @@ UNIT = """[Unit]
 After=basic.target dbus.service
 [Service]
 Type=oneshot
-ExecStart=/bin/sh -c '/bin/bash /root/check.sh >/root/said 2>&1; echo checked >>/root/said; systemctl poweroff --no-block'
+ExecStart=/bin/sh -c '/bin/bash /srv/check/check.sh >/srv/check/said 2>&1; echo checked >>/srv/check/said; systemctl poweroff --no-block'
 """
 
 

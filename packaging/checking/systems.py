@@ -58,8 +58,8 @@ def archive(table: Table, release: Release, root: Root, name: str) -> None:
     """What is done with the archive: it is unpacked, and the example of the README answered."""
     at = f"/opt/{release.unpacked}"
     examples = f"{at}/share/bulkhead/examples/full-pool"
-    root.put("/root/archive.tar.gz", release.archive.read_bytes())
-    root.put("/root/compiled", release.compiled.read_bytes(), 0o755)
+    root.put("/srv/check/archive.tar.gz", release.archive.read_bytes())
+    root.put("/srv/check/compiled", release.compiled.read_bytes(), 0o755)
     script = f"tar -C /opt -xf archive.tar.gz; {at}/bin/bulkhead run {examples}/settings.toml <{examples}/script.jsonl"
     wanted = (release.top / "examples/full-pool/replies.jsonl").read_text()
     what = "the archive: from the file to the README's answers"
@@ -71,9 +71,9 @@ def archive(table: Table, release: Release, root: Root, name: str) -> None:
 def wheel(table: Table, release: Release, root: Root, name: str) -> None:
     """The tutorial of the Python package, in a venv that knows no network, beside the program of the archive."""
     made = release.one("bulkhead-*.whl")
-    root.put(f"/root/{made.name}", made.read_bytes())
+    root.put(f"/srv/check/{made.name}", made.read_bytes())
     ran(["cp", "-r", release.top / "python/tests", root.path / "root/tests"])
-    root.put("/root/README.md", (release.top / "python/README.md").read_bytes())
+    root.put("/srv/check/README.md", (release.top / "python/README.md").read_bytes())
     install = f"python3 -m venv trial; trial/bin/pip install -q --no-index {made.name}; trial/bin/python -m bulkhead"
     table.look(name, "the wheel is installed in a venv with no network", lambda: root.run(install), 20.0)
     program = f"BULKHEAD_PROGRAM=/opt/{release.unpacked}/bin/bulkhead"
@@ -97,10 +97,10 @@ def before(release: Release, to: Path) -> None:
 def booted(table: Table, release: Release, root: Root, name: str) -> None:
     """What an administrator does in a system that is booted: install, start, reload, upgrade, remove."""
     for path in release.folder.glob("*.deb"):
-        root.put(f"/root/packages/{path.name}", path.read_bytes())
+        root.put(f"/srv/check/packages/{path.name}", path.read_bytes())
     made = release.one("bulkhead-*.whl")
-    root.put(f"/root/wheel/{made.name}", made.read_bytes())
-    root.put("/root/compiled", release.compiled.read_bytes(), 0o755)
+    root.put(f"/srv/check/wheel/{made.name}", made.read_bytes())
+    root.put("/srv/check/compiled", release.compiled.read_bytes(), 0o755)
     (root.path / "root/before").mkdir()
     before(release, root.path / "root/before/bulkhead.deb")
     script = (Path(__file__).parent / "booted.sh").read_text()
