@@ -7,11 +7,13 @@ import java.util.List;
 final class ShortMemory {
     private static final int THREADS = 4;
     private static final int BLOCK = 1 << 10;
+    private static final int HELD = 1 << 15; // so that few calls fill the memory, however slow the machine is
+    private static final int LEAST = 100;
     private static int refused;
 
     private ShortMemory() {}
 
-    /** Makes calls in a memory that is full most of the time, for the milliseconds that the word says. */
+    /** Makes calls in a memory that is full most of the time: for the milliseconds that the word says, and until some were refused. */
     public static void main(String[] words) throws InterruptedException {
         HystrixCommand.Setter inline = Calls.setter("Short", "Short", Calls.inline());
         HystrixCommand.Setter pooled = Calls.setter("ShortPool", "ShortPool", Calls.pooled().withExecutionTimeoutInMilliseconds(50));
@@ -33,9 +35,9 @@ final class ShortMemory {
 
     private static void fill(HystrixCommand.Setter inline, HystrixCommand.Setter pooled, long until) {
         Object[] held = null;
-        while (System.nanoTime() < until) {
+        while (System.nanoTime() < until || refused() < LEAST) {
             try {
-                held = new Object[] {held, new byte[BLOCK]};
+                held = new Object[] {held, new byte[HELD]};
                 attempt(inline);
                 attempt(pooled);
             } catch (OutOfMemoryError e) {
